@@ -1,5 +1,5 @@
 -- The lines of what was reported other than acts, and the fields after their words.
-use Rattle.told_files.proofs.Names.{[], ◌++◌, ◌/◌, ◌∙◌, ◌∷◌, ◌≡◌, ◌≤◌, Act, act_line, and_from, ap, append-nil, ArePlain, arith, Bool, bytes_eq}
+use Rattle.told_files.proofs.Names.{[], ◌++◌, ◌/◌, ◌∙◌, ◌∷◌, ◌≡◌, ◌≤◌, Act, act_fields, act_line, and_from, ap, append-nil, ArePlain, arith, Bool, bytes_eq}
 use Rattle.told_files.proofs.Names.{bytes_eq-Decides, Client, codes, decimal, decimal_plain, Direction, direction_fields, direction_plain}
 use Rattle.told_files.proofs.Names.{direction_tail, eqb, false, fields_behind, four_digits, Frame, frame_plain, frame_tail, is_plain, IsEntry}
 use Rattle.told_files.proofs.Names.{IsInDoubt, IsLineText, IsNamed, IsOnWire, IsOtherTold, IsPlaced, IsPlain, IsReadTold, IsToldEntry, IsToolName}
@@ -13,6 +13,7 @@ use Rattle.fixed_um.specs.declared.frames.Frame.TheVariants.{Part}
 use Rattle.dme_line.specs.declared.tags.Tag.TheVariants.{Event, Std}
 use Rattle.contact_ledger.specs.Lines.{fields_of}
 use Rattle.contact_ledger.specs.Ledgers.{IsConnection}
+use Rattle.contact_ledger.proofs.EntryLines.{entry_back}
 use Rattle.contact_ledger.proofs.LineFields.{line_fields, made_of, part_behind}
 
 -- ---- parts of a line
@@ -257,45 +258,32 @@ other_back n Reported.Left c h = plain_back n (told_fields Reported.Left) c (rec
 
 -- ---- the line of an act
 
-act_of_contact : (n : ℕ) (target point : Point) (dir : Option Direction) (tool : List ℕ) (frame : Frame) (line : List ℕ)
-    → IsEntry (n, Act.Contact target dir tool frame point) → line ≡ act_line (n, Act.Contact target dir tool frame point)
-    → IsToldEntry (n, read_act (Act.Contact target dir tool frame point))
-    × (line ≡ told_line (n, read_act (Act.Contact target dir tool frame point)))
-act_of_contact n target point dir tool frame line h e = go (bytes_eq tool unknown_field) refl
+-- an act that is not read as what else was reported names its tool
+abbrev NoOther : List ℕ → Type 0
+NoOther rest = (x : Reported) → IsOtherTold x × (fields_behind rest ≡ told_parts x) → ⊥
+
+pub act_found : (line word rest : List ℕ) (n : ℕ) (a : Act) → fields_of line ≡ word ∷ fields_behind rest → NoOther rest → IsEntry (n, a)
+    → line ≡ act_line (n, a) → IsToldEntry (n, Reported.Did a) × (line ≡ told_line (n, Reported.Did a))
+act_found line word rest n (Act.HomedIs homed) p none h e = (((h.0, h.1), tt), e)
+act_found line word rest n Act.Homed p none h e = (((h.0, h.1), tt), e)
+act_found line word rest n (Act.Moved target frame) p none h e = (((h.0, h.1), tt), e)
+act_found line word rest n (Act.Changed tool) p none h e = (((h.0, h.1), tt), e)
+act_found line word rest n (Act.Framed frame) p none h e = (((h.0, h.1), tt), e)
+act_found line word rest n (Act.Contact target dir tool frame point) p none h e = (((h.0, h.1), λ unnamed. none t (other, parts unnamed)), e)
   where
-    entry : Bool → Reported
-    entry true = Reported.Touched target dir None (Some frame) point
-    entry false = Reported.Did (Act.Contact target dir tool frame point)
+    t : Reported
+    t = Reported.Touched target dir None (Some frame) point
 
-    read_as : (b : Bool) → bytes_eq tool unknown_field ≡ b → read_act (Act.Contact target dir tool frame point) ≡ entry b
-    read_as true t = rw t refl
-    read_as false t = rw t refl
+    other : IsOtherTold (Reported.Touched target dir None (Some frame) point)
+    other = (h.1.0, h.1.1, tt, h.1.3, h.1.4, tt)
 
-    goal : Reported → Type 0
-    goal t = IsToldEntry (n, t) × (line ≡ told_line (n, t))
-
-    of : (b : Bool) → bytes_eq tool unknown_field ≡ b → IsToldEntry (n, entry b) × (line ≡ told_line (n, entry b))
-    of true t = (
-      ((h.0, (h.1.0, h.1.1, tt, h.1.3, h.1.4)), tt),
-      e ∙ ap (λ (name : List ℕ). act_line (n, Act.Contact target dir name frame point)) ((bytes_eq-Decides tool unknown_field).0 t),
-    )
-    of false t = (
-      ((h.0, h.1), λ same. let yes = (bytes_eq-Decides tool unknown_field).1 same in absurd cc),
-      e,
-    )
-
-    go : (b : Bool) → bytes_eq tool unknown_field ≡ b → IsToldEntry (n, read_act (Act.Contact target dir tool frame point))
-        × (line ≡ told_line (n, read_act (Act.Contact target dir tool frame point)))
-    go b t = subst goal (sym (read_as b t)) (of b t)
-
-pub act_read : (n : ℕ) (a : Act) (line : List ℕ) → IsEntry (n, a) → line ≡ act_line (n, a)
-    → IsToldEntry (n, read_act a) × (line ≡ told_line (n, read_act a))
-act_read n (Act.HomedIs homed) line h e = (((h.0, h.1), tt), e)
-act_read n Act.Homed line h e = (((h.0, h.1), tt), e)
-act_read n (Act.Moved target frame) line h e = (((h.0, h.1), tt), e)
-act_read n (Act.Changed tool) line h e = (((h.0, h.1), tt), e)
-act_read n (Act.Framed frame) line h e = (((h.0, h.1), tt), e)
-act_read n (Act.Contact target dir tool frame point) line h e = act_of_contact n target point dir tool frame line h e
+    parts : tool ≡ unknown_field → fields_behind rest ≡ told_parts (Reported.Touched target dir None (Some frame) point)
+    parts unnamed =
+        let is : line ≡ told_line (n, Reported.Touched target dir None (Some frame) point) =
+        e ∙ ap (λ (name : List ℕ). act_line (n, Act.Contact target dir name frame point)) unnamed in
+        let all : word ∷ fields_behind rest ≡ decimal n ∷ told_parts (Reported.Touched target dir None (Some frame) point) =
+        sym p ∙ ap (λ (l : List ℕ). fields_of l) is ∙ other_back n (Reported.Touched target dir None (Some frame) point) h.0 other in
+        cc
 
 -- ---- lines without an entry
 
@@ -322,17 +310,21 @@ no_act_line line n t a none h e same =
     let written = subst (λ (x : Reported). IsWrittenTold x) same h.0.1 in
     none (n, a) ((h.0.0, written), e ∙ ap (λ (x : Reported). told_line (n, x)) same)
 
-pub no_number : (line word rest : List ℕ) (n : ℕ) (t : Reported) → NoEntry line → fields_of line ≡ word ∷ fields_behind rest
+pub no_number : (line word rest : List ℕ) (n : ℕ) (t : Reported) → fields_of line ≡ word ∷ fields_behind rest
     → ((m : ℕ) → (1 ≤ m) × (m ≤ 4000000000) × (word ≡ decimal m) → ⊥) → IsToldEntry (n, t) → line ≡ told_line (n, t) → ⊥
-no_number line word rest n t acts p none h e = go (view t h.0.1 h.1)
+no_number line word rest n t p none h e = go (view t h.0.1 h.1)
   where
-    go : View t → ⊥
-    go (acted a same) = no_act_line line n t a acts h e same
-    go (reported other) =
-        let all : word ∷ fields_behind rest ≡ decimal n ∷ told_parts t =
-        sym p ∙ ap (λ (l : List ℕ). fields_of l) e ∙ other_back n t h.0.0 other in
+    is_number : (parts : List (List ℕ)) → fields_of line ≡ decimal n ∷ parts → ⊥
+    is_number parts fields =
+        let all : word ∷ fields_behind rest ≡ decimal n ∷ parts = sym p ∙ fields in
         let same : word ≡ decimal n = cc in
         none n (h.0.0.0, h.0.0.1, same)
+
+    go : View t → ⊥
+    go (acted a same) =
+        let written = subst (λ (x : Reported). IsWrittenTold x) same h.0.1 in
+        is_number (act_fields a) (entry_back line n a (h.0.0, written) (e ∙ ap (λ (x : Reported). told_line (n, x)) same))
+    go (reported other) = is_number (told_parts t) (ap (λ (l : List ℕ). fields_of l) e ∙ other_back n t h.0.0 other)
 
 pub no_told : (line word rest : List ℕ) (n : ℕ) (t : Reported) → NoEntry line → fields_of line ≡ word ∷ fields_behind rest
     → ((x : Reported) → IsOtherTold x × (fields_behind rest ≡ told_parts x) → ⊥) → IsToldEntry (n, t) → line ≡ told_line (n, t) → ⊥

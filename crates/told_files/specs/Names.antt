@@ -6,7 +6,7 @@ pub use Rattle.contact_ledger.specs.Lines.{fields_behind, fields_of}
 pub use Rattle.contact_ledger.specs.declared.acts.Act.{Act}
 pub use Rattle.contact_ledger.specs.declared.faults.TextFault.TheVariants.{Damaged}
 pub use Rattle.contact_ledger.specs.declared.features.Feature.{Feature}
-pub use Rattle.dme_line.specs.Tags.{IsTag, five_digits, four_digits, written_tag}
+pub use Rattle.dme_line.specs.Tags.{IsTag, four_digits, written_tag}
 pub use Rattle.dmis_program.specs.declared.features.Wanted.{Wanted}
 pub use Rattle.fixed_um.specs.Calls.{Finds, Leads}
 pub use Rattle.fixed_um.specs.Written.{last_digit}
@@ -14,11 +14,11 @@ pub use Rattle.fixed_um.specs.declared.frames.Frame.{Frame}
 pub use Rattle.ledger_audit.specs.Verdicts.{IfNoRun, IfStarts, TellsNoRun, TellsStarts}
 pub use Rattle.line_framing.specs.Content.{is_content}
 pub use Rattle.protocol_model.specs.Claims.{IsRun, Sound, contacts}
-pub use Rattle.witness.specs.Texts.{known_frame, rule_name, side_field, told_line, told_text, tool_field}
+pub use Rattle.witness.specs.Texts.{known_frame, rule_name, told_line, told_text, tool_field}
 pub use Rattle.witness.specs.declared.lines.Reported.{Reported}
 pub use Rattle.witness.specs.declared.lines.Reported.TheVariants.{Left, Opened}
 pub use Rattle.told_files.specs.Either.{AreAudited, IsDamagedAudited, IsToldFile}
-pub use Rattle.told_files.specs.Numbering.{is_joined, number_of, open_after, pushed, second_after}
+pub use Rattle.told_files.specs.Numbering.{is_joined, open_after, pushed, second_after}
 pub use Rattle.told_files.specs.Parts.{IsOtherTold, IsToolName, told_parts}
-pub use Rattle.told_files.specs.Runs.{AreFewestUnsoundTold, AreLeastTold, AreRunContacts, AreToldRuns, IsToldRun, SoundByTold, is_doubtful, is_end, is_made, is_touch, known_contacts, part_of, parts_of}
-pub use Rattle.told_files.specs.ToldTexts.{AreToldEntries, AreWrittenEntries, IsDamagedTold, IsLineText, IsNamed, IsPlaced, IsToldEntry, IsToldText, NeverFall, entry_back, last_number, read_act}
+pub use Rattle.told_files.specs.Runs.{AreFewestUnsoundTold, AreLeastTold, AreRunContacts, AreToldRuns, IsToldRun, SoundByTold, is_doubtful, is_end, is_touch, known_contacts, part_of, parts_of}
+pub use Rattle.told_files.specs.ToldTexts.{AreToldEntries, AreWrittenEntries, IsDamagedTold, IsLineText, IsNamed, IsPlaced, IsToldEntry, IsToldText, NeverFall, entry_back, last_number}

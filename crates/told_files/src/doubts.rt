@@ -1,7 +1,7 @@
 // What was reported that no feature can have: contacts whose tool or frame is not known, and lines that end runs.
 
 ghost use Rattle.std.specs.Prelude.{◌≡◌, count_by, map, IfOk};
-ghost use Rattle.told_files.specs.Names.{position, part_of, parts_of, known_contacts, is_made, is_touch, is_doubtful, is_end};
+ghost use Rattle.told_files.specs.Names.{position, part_of, parts_of, known_contacts, is_touch, is_doubtful, is_end};
 
 use crate::ledger::ToldLedger;
 use contact_ledger::Act;
@@ -48,12 +48,6 @@ pub fn ends_runs(told: &Reported) -> bool
     )
 }
 
-fn is_made(told: &Reported) -> bool
-    ensures { result ≡ is_made (part_of told.now) }
-{
-    is_touch(told) && !is_doubtful(told)
-}
-
 /// The connections of the contacts whose tool and frame are known, in order. Fails only if out of memory.
 #[tactic(auto, using(crate::proofs::Connections::connections))]
 pub fn contact_connections(alloc: Global, told: &ToldLedger) -> Result<Vec<u64>, AllocError>
@@ -63,7 +57,7 @@ pub fn contact_connections(alloc: Global, told: &ToldLedger) -> Result<Vec<u64>,
     let mut all = Vec::new(alloc);
     let entries = told.entries();
     for (connection, one) in entries {
-        if is_made(one) {
+        if let Reported::Did(Act::Contact { .. }) = one {
             all.push(*connection)?;
         }
     }

@@ -1,14 +1,14 @@
 // Fields that only a text of what was reported has.
 
 ghost use Rattle.std.specs.Prelude.{◌≡◌, ◌≤◌, ◌+◌, ◌++◌, ◌∷◌, ◌<◌, ◌==◌, [], ℕ, List, Option, length, IfOk, IfSome, MatchOption};
-ghost use Rattle.told_files.specs.Names.{list_all, position, Finds, last_digit, Frame, IsTag, four_digits, five_digits, written_tag, is_content, fields_of, fields_behind, tool_field, known_frame, rule_name, side_field, IsToolName, IsNamed, IsPlaced, IsLineText};
+ghost use Rattle.told_files.specs.Names.{list_all, is_content, position, Finds, last_digit, Frame, IsTag, four_digits, written_tag, fields_of, fields_behind, tool_field, known_frame, rule_name, IsToolName, IsNamed, IsPlaced, IsLineText};
 
 use contact_ledger::forms::{Forms, read_name};
 use contact_ledger::lines::next_field;
 use dme_line::{Tag, Text};
 use fixed_um::{Frame, Name};
 use std::alloc::{AllocError, Global};
-use witness::{Rule, Side};
+use witness::Rule;
 
 /// A field that is a tool: `?` is one that is not known, and never a name. Fails only if out of memory.
 pub(crate) fn read_tool(alloc: Global, field: &[u8]) -> Result<Option<Option<Name>>, AllocError>
@@ -18,10 +18,7 @@ pub(crate) fn read_tool(alloc: Global, field: &[u8]) -> Result<Option<Option<Nam
     if field == b"?".as_slice() {
         return Ok(Some(None));
     }
-    let Some(name) = read_name(alloc, field)? else {
-        return Ok(None);
-    };
-    Ok(Some(Some(name)))
+    Ok(read_name(alloc, field)?.map(|name| Some(name)))
 }
 
 /// The frame of the next fields, or that it is not known, and what follows them.
@@ -66,16 +63,6 @@ pub(crate) fn read_rule(field: &[u8]) -> Option<Rule>
     }
 }
 
-pub(crate) fn read_side(field: &[u8]) -> Option<Side>
-    ensures { Finds result (λ side. field.now ≡ side_field side) }
-{
-    match field {
-        [b'>'] => Some(Side::Client),
-        [b'<'] => Some(Side::Server),
-        _ => None,
-    }
-}
-
 fn digit(byte: u8) -> Option<u32>
     ensures { MatchOption result ((n : ℕ) → byte ≡ last_digit n → ⊥) (λ n. (n ≤ 9)
         × (byte ≡ 48 + n)) }
@@ -95,21 +82,14 @@ fn four_digits_value(a: u8, b: u8, c: u8, d: u8) -> Option<u32>
     Some(digit(a)? * 1000 + digit(b)? * 100 + digit(c)? * 10 + digit(d)?)
 }
 
-/// The number that five digits write; `None` if they are not all digits.
-fn five_digits_value(a: u8, b: u8, c: u8, d: u8, e: u8) -> Option<u32>
-    ensures { MatchOption result
-        ((n : ℕ) → five_digits n ≡ a ∷ b ∷ c ∷ d ∷ e ∷ [] → ⊥)
-        (λ n. (n ≤ 99999) × (five_digits n ≡ a ∷ b ∷ c ∷ d ∷ e ∷ [])) }
-{
-    Some(digit(a)? * 10_000 + four_digits_value(b, c, d, e)?)
-}
-
 pub(crate) fn read_tag(field: &[u8]) -> Option<Tag>
     ensures { Finds result (λ tag. IsTag tag × (field.now ≡ written_tag tag)) }
 {
     match field {
         [b'E', a, b, c, d] => Some(Tag::Event(four_digits_value(*a, *b, *c, *d)? as u16)),
-        [a, b, c, d, e] => Some(Tag::Std(five_digits_value(*a, *b, *c, *d, *e)?)),
+        [a, b, c, d, e] => {
+            Some(Tag::Std(digit(*a)? * 10_000 + four_digits_value(*b, *c, *d, *e)?))
+        }
         _ => None,
     }
 }

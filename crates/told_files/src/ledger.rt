@@ -41,10 +41,7 @@ impl ToldLedger {
     pub(crate) fn last_number(&self) -> u64
         ensures { result ≡ last_number self.now }
     {
-        match self.entries.last() {
-            Some((connection, _)) => *connection,
-            None => 0,
-        }
+        self.entries.last().map_or(0, |entry| entry.0)
     }
 
     /// What was reported in order, each next to the number of its connection.

@@ -1,14 +1,14 @@
 // What a line of a text says that was reported.
 
 ghost use Rattle.std.specs.Prelude.{◌≡◌, ◌∷◌, [], codes, IfOk};
-ghost use Rattle.told_files.specs.Names.{Finds, fields_behind, told_line, IsOtherTold, told_parts, IsToldEntry, read_act};
+ghost use Rattle.told_files.specs.Names.{Finds, fields_behind, told_line, IsOtherTold, told_parts, IsToldEntry};
 
-use crate::fields::{read_frame, read_line_text, read_rule, read_side, read_tag, read_tool};
+use crate::fields::{read_frame, read_line_text, read_rule, read_tag, read_tool};
 use contact_ledger::forms::{Forms, read_number};
 use contact_ledger::lines::{first_field, next_field};
-use contact_ledger::{Act, CONNECTION_MAX, read_entry};
+use contact_ledger::{CONNECTION_MAX, read_entry};
 use std::alloc::{AllocError, Global};
-use witness::Reported;
+use witness::{Reported, Side};
 
 fn read_moved(forms: &mut Forms, rest: &[u8]) -> Option<Reported>
     ensures { Finds result (λ t. IsOtherTold t
@@ -84,23 +84,15 @@ fn read_other(alloc: Global, rest: &[u8]) -> Result<Option<Reported>, AllocError
     let Some((side, rest)) = next_field(rest) else {
         return Ok(None);
     };
-    let Some(side) = read_side(side) else {
-        return Ok(None);
+    let side = match side {
+        [b'>'] => Side::Client,
+        [b'<'] => Side::Server,
+        _ => return Ok(None),
     };
     let Some(line) = read_line_text(alloc, rest)? else {
         return Ok(None);
     };
     Ok(Some(Reported::Other(side, line)))
-}
-
-fn read_unasked(alloc: Global, rest: &[u8]) -> Result<Option<Reported>, AllocError>
-    ensures { IfOk result (λ found. Finds found (λ t. IsOtherTold t
-        × (codes "UNASKED" ∷ fields_behind rest.now ≡ told_parts t))) }
-{
-    let Some(line) = read_line_text(alloc, rest)? else {
-        return Ok(None);
-    };
-    Ok(Some(Reported::Unasked(line)))
 }
 
 fn read_broken(rest: &[u8]) -> Option<Reported>
@@ -115,26 +107,6 @@ fn read_broken(rest: &[u8]) -> Option<Reported>
     let rule = read_rule(rule)?;
     let tag = read_tag(tag)?;
     Some(Reported::Broken(rule, tag))
-}
-
-fn read_opened(rest: &[u8]) -> Option<Reported>
-    ensures { Finds result (λ t. IsOtherTold t
-        × (codes "OPENED" ∷ fields_behind rest.now ≡ told_parts t)) }
-{
-    match next_field(rest) {
-        None => Some(Reported::Opened),
-        Some(_) => None,
-    }
-}
-
-fn read_left(rest: &[u8]) -> Option<Reported>
-    ensures { Finds result (λ t. IsOtherTold t
-        × (codes "LEFT" ∷ fields_behind rest.now ≡ told_parts t)) }
-{
-    match next_field(rest) {
-        None => Some(Reported::Left),
-        Some(_) => None,
-    }
 }
 
 /// What the fields after a connection's number are, if they are not those of an act. Fails only if out of memory.
@@ -154,49 +126,15 @@ fn read_told(alloc: Global, forms: &mut Forms, rest: &[u8]) -> Result<Option<Rep
     } else if word == b"OTHER".as_slice() {
         read_other(alloc, rest)
     } else if word == b"UNASKED".as_slice() {
-        read_unasked(alloc, rest)
+        Ok(read_line_text(alloc, rest)?.map(|line| Reported::Unasked(line)))
     } else if word == b"BROKEN".as_slice() {
         Ok(read_broken(rest))
     } else if word == b"OPENED".as_slice() {
-        Ok(read_opened(rest))
+        Ok(next_field(rest).is_none().then_some(Reported::Opened))
     } else if word == b"LEFT".as_slice() {
-        Ok(read_left(rest))
+        Ok(next_field(rest).is_none().then_some(Reported::Left))
     } else {
         Ok(None)
-    }
-}
-
-/// What was reported by the line of an act: a contact with the tool `?` is a touch with a tool that is not known.
-fn told_of(act: Act) -> Reported
-    ensures { result ≡ read_act act }
-{
-    match act {
-        Act::Contact {
-            target,
-            dir,
-            tool,
-            frame,
-            point,
-        } => {
-            if tool.as_bytes() == b"?".as_slice() {
-                Reported::Touched {
-                    target,
-                    dir,
-                    tool: None,
-                    frame: Some(frame),
-                    point,
-                }
-            } else {
-                Reported::Did(Act::Contact {
-                    target,
-                    dir,
-                    tool,
-                    frame,
-                    point,
-                })
-            }
-        }
-        act => Reported::Did(act),
     }
 }
 
@@ -209,15 +147,15 @@ pub(crate) fn read_line(
     ensures { IfOk result (λ found. Finds found (λ e. IsToldEntry e
         × (line.now ≡ told_line e))) }
 {
-    if let Some((connection, act)) = read_entry(alloc, forms, line)? {
-        return Ok(Some((connection, told_of(act))));
-    }
     let (connection, rest) = first_field(line);
     let Some(connection) = read_number(connection, CONNECTION_MAX) else {
         return Ok(None);
     };
-    let Some(told) = read_told(alloc, forms, rest)? else {
+    if let Some(told) = read_told(alloc, forms, rest)? {
+        return Ok(Some((connection, told)));
+    }
+    let Some((connection, act)) = read_entry(alloc, forms, line)? else {
         return Ok(None);
     };
-    Ok(Some((connection, told)))
+    Ok(Some((connection, Reported::Did(act))))
 }

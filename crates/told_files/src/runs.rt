@@ -1,8 +1,9 @@
 // The contacts that runs of features may be made of.
 
 ghost use Rattle.std.specs.Prelude.{◌≡◌, ◌++◌, true, None, OnOk, IfOk};
-ghost use Rattle.told_files.specs.Names.{is_joined, number_of, second_after, open_after, pushed, part_of, AreRunContacts};
+ghost use Rattle.told_files.specs.Names.{is_joined, second_after, open_after, pushed, part_of, AreRunContacts};
 
+use crate::doubts::ends_runs;
 use crate::ledger::ToldLedger;
 use contact_ledger::{Act, ServerLedger};
 use std::alloc::{AllocError, Global};
@@ -12,17 +13,7 @@ use witness::Reported;
 fn is_joined(open_on: Option<u64>, connection: u64) -> bool
     ensures { result ≡ is_joined open_on connection }
 {
-    match open_on {
-        None => false,
-        Some(open) => connection == open,
-    }
-}
-
-/// The number of a contact: only that of its neighbours matters.
-fn number_of(second: bool) -> u64
-    ensures { result ≡ number_of second }
-{
-    if second { 2 } else { 1 }
+    matches!(open_on, Some(open) if connection == open)
 }
 
 /// The contacts so far, whether the number of the last one is the second of the two, and the connection on which the next one is next to it.
@@ -61,21 +52,16 @@ impl Numbering {
                     frame: *frame,
                     point: *point,
                 };
-                self.ledger.push(number_of(second), act)?;
+                self.ledger.push(if second { 2 } else { 1 }, act)?;
                 self.second = second;
                 self.open_on = Some(connection);
             }
             Reported::Touched { .. } => self.open_on = None,
-            Reported::Other(_, _)
-            | Reported::Unasked(_)
-            | Reported::Broken(_, _)
-            | Reported::Opened
-            | Reported::Left => {
-                if is_joined(self.open_on, connection) {
+            told => {
+                if ends_runs(told) && is_joined(self.open_on, connection) {
                     self.open_on = None;
                 }
             }
-            _ => {}
         }
         Ok(())
     }

@@ -1,5 +1,5 @@
 use Rattle.told_files.proofs.EitherText.{first_line, line_first}
-use Rattle.told_files.proofs.either.is_told_file.Goals as goal
+use Rattle.told_files.proofs.auditing.is_told_file.Goals as goal
 
 pub returns-in-Some : goal.returns-in-Some
 returns-in-Some c = (

@@ -1,5 +1,5 @@
 use Rattle.told_files.proofs.EitherText.{report_audited}
-use Rattle.told_files.proofs.either.read_audited.Goals as goal
+use Rattle.told_files.proofs.auditing.read_audited.Goals as goal
 
 pub returns : goal.returns
 returns c =
