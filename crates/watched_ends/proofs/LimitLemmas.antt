@@ -1,6 +1,6 @@
 -- A relay reads as far as it may.
-use Rattle.watched_ends.proofs.Names.{[], ◌++◌, ◌≡◌, all, are_too_many, down_of, down_sent, drop, due_of, Event, false, inl, inr, IsFirstPast, IsRead}
-use Rattle.watched_ends.proofs.Names.{IsStop, KeepsFew, last_tag, Limited, limited, List, None, none, Option, refl, Some, some, subst, sym, too_many}
+use Rattle.watched_ends.proofs.Names.{[], ◌++◌, ◌≡◌, all, are_too_many, down_of, down_sent, drop, due_of, false, inl, inr, IsFirstPast, IsRead}
+use Rattle.watched_ends.proofs.Names.{IsStop, KeepsFew, Limited, limited, List, None, none, Option, refl, reports, Some, some, subst, sym}
 use Rattle.watched_ends.proofs.Names.{true, up_of, up_sent, Watching, without_due, ℕ}
 use Rattle.witness.specs.Relaying.{IsClientRead, IsServerRead, Reads, untold}
 use Rattle.witness.specs.Texts.{told_lines}
@@ -56,16 +56,10 @@ all_read n o up down due due_now w read taken is reads client server few within 
     (limited n (Some x) up down (due ++ told_lines n read.dialogue.reported))) (sym taken_is)
     (all (record { connection = n; watching = w; up = up; down = down; due = due }) read reads client server few within)))
 
-pub over_read : (n : ℕ) (o : Option Watching) (up down due due_now past : List ℕ) (w read taken : Watching) → o ≡ Some w
-    → Reads w read → IsStop w read → are_too_many read.dialogue.uses ≡ true
-    → due_now ≡ due ++ told_lines n read.dialogue.reported → taken ≡ untold read
-    → past ≡ due_now ++ too_many n (last_tag (Event 0) taken.dialogue.uses)
+pub over_read : (n : ℕ) (o : Option Watching) (up down due past : List ℕ) (w read : Watching) → o ≡ Some w
+    → Reads w read → IsStop w read → are_too_many read.dialogue.uses ≡ true → past ≡ due ++ reports true n read.dialogue
     → IsRead (limited n o up down due) (limited n None up down past)
-over_read n o up down due due_now past w read taken is reads stop over due_is taken_is past_is =
+over_read n o up down due past w read is reads stop over past_is =
     subst (λ (x : Option Watching). IsRead (limited n x up down due) (limited n None up down past)) (sym is)
     (subst (λ (t : List ℕ). IsRead (limited n (Some w) up down due) (limited n None up down t)) (sym past_is)
-    (subst (λ (x : Watching). IsRead (limited n (Some w) up down due)
-    (limited n None up down (due_now ++ too_many n (last_tag (Event 0) x.dialogue.uses)))) (sym taken_is)
-    (subst (λ (t : List ℕ). IsRead (limited n (Some w) up down due)
-    (limited n None up down (t ++ too_many n (last_tag (Event 0) read.dialogue.uses)))) (sym due_is)
-    (some (record { connection = n; watching = w; up = up; down = down; due = due }) read reads stop over))))
+    (some (record { connection = n; watching = w; up = up; down = down; due = due }) read reads stop over))

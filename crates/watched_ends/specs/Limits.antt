@@ -1,12 +1,14 @@
 -- A relay that keeps no more than it may (this profile).
-use Rattle.std.specs.Prelude.{◌≡◌, ◌⊎◌, ℕ, ◌-◌, Bool, true, false, ◌||◌, nat_lt, if◌then◌else◌, List, [], ◌∷◌, ◌++◌, length, drop, Option, Some, None}
+use Rattle.std.specs.Prelude.{◌≡◌, ◌⊎◌, ℕ, ◌-◌, Bool, true, false, ◌||◌, nat_lt, if◌then◌else◌, List, [], ◌∷◌, ◌++◌, length, slice_get, drop, Option, Some, None}
 use Rattle.dme_line.specs.declared.tags.Tag.{Tag}
 use Rattle.dme_line.specs.declared.tags.Tag.TheVariants.{Event}
 use Rattle.witness.specs.Relaying as relays
 use Rattle.witness.specs.Relaying.{Relaying, Reads, IsClientRead, IsServerRead, IsAllTold, made_due}
+use Rattle.std.specs.Option.{option_map_or}
+use Rattle.witness.specs.Dialogues.{Dialogue}
 use Rattle.witness.specs.Texts.{told_lines}
 use Rattle.witness.specs.Watching.{Watching, IsFirstPast, KeepsFew}
-use Rattle.witness.specs.declared.lines.Reported.TheVariants as reports
+use Rattle.witness.specs.declared.lines.Reported.TheVariants as report
 use Rattle.witness.specs.declared.lines.Rule.TheVariants.{TooMany}
 use Rattle.witness.specs.declared.lines.SentCommand.{SentCommand}
 use Rattle.witness.specs.declared.lines.SentCommand.TheVariants.{Known, Asking, Foreign}
@@ -35,13 +37,12 @@ server_came (Within r) bytes = Within (relays.server_came r bytes)
 server_came (Past up down due) bytes = Past up (down ++ bytes) due
 
 -- the tag of the last of these lines
-abbrev pub last_tag : Tag → List Use → Tag
-last_tag tag [] = tag
-last_tag tag (u ∷ uses) = last_tag u.tag uses
+abbrev pub last_tag : List Use → Tag
+last_tag uses = option_map_or (λ u. u.tag) (slice_get uses (length uses - 1)) (Event 0)
 
 -- the line that ends what is reported of a connection
 abbrev pub too_many : ℕ → Tag → List ℕ
-too_many connection tag = told_lines connection (reports.Broken TooMany tag ∷ [])
+too_many connection tag = told_lines connection (report.Broken TooMany tag ∷ [])
 
 -- the bytes that are kept of a line: those of one that this profile does not know
 abbrev pub kept : SentCommand → ℕ
@@ -58,10 +59,14 @@ keeps_more most (u ∷ uses) = if nat_lt most (kept u.command) then true else ke
 abbrev pub are_too_many : List Use → Bool
 are_too_many uses = nat_lt 10000 (length uses) || keeps_more 16777216 uses
 
+-- the lines of what was read, and that there are too many, if so
+abbrev pub reports : Bool → ℕ → Dialogue → List ℕ
+reports false connection d = told_lines connection d.reported
+reports true connection d = told_lines connection d.reported ++ too_many connection (last_tag d.uses)
+
 -- what was read is due, and that there are too many; nothing more is reported
 abbrev pub ended : Limited → Limited
-ended (Within r) = Past r.up r.down ((r.due ++ told_lines r.connection r.watching.dialogue.reported)
-    ++ too_many r.connection (last_tag (Event 0) r.watching.dialogue.uses))
+ended (Within r) = Past r.up r.down (r.due ++ reports true r.connection r.watching.dialogue)
 ended (Past up down due) = Past up down due
 
 -- reading ends with too many: at the first line of the client after which more than 10,000 are open, or with all read, if more than 16 MiB are kept

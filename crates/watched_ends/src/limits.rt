@@ -1,7 +1,7 @@
 // A relay that keeps no more than it may.
 
 ghost use Rattle.std.specs.Prelude.{◌≡◌, ◌++◌, ◌≤◌, ◌↔◌, length, true, false, OnOk, OnErr, IfOk, IsTrue};
-ghost use Rattle.watched_ends.specs.Names.{Reads, IsClientRead, IsServerRead, KeepsFew, untold, told_lines};
+ghost use Rattle.watched_ends.specs.Names.{Reads, IsClientRead, IsServerRead, KeepsFew};
 ghost use Rattle.watched_ends.specs.Limits as spec;
 
 use dme_line::Tag;
@@ -40,31 +40,15 @@ impl Model for LimitedRelay {
     ghost view = { λ l. limited l.connection l.witness l.up.waiting l.down.waiting l.due.items };
 }
 
-fn last_tag(uses: &[Use]) -> Tag
-    ensures { result ≡ spec.last_tag (Tag.Event 0) uses.now }
-{
-    let mut tag = Tag::Event(0);
-    for used in uses {
-        tag = used.tag;
-    }
-    tag
-}
-
-fn kept(command: &SentCommand) -> usize
-    ensures { result ≡ spec.kept command.now }
-{
-    match command {
-        SentCommand::Known(_) | SentCommand::Asking => 0,
-        SentCommand::Foreign(line) => line.as_slice().len(),
-    }
-}
-
 fn keep_more(uses: &[Use]) -> bool
     ensures { result ≡ spec.keeps_more 16777216 uses.now }
 {
     let mut left = MOST_KEPT;
     for used in uses {
-        let count = kept(&used.command);
+        let count = match &used.command {
+            SentCommand::Foreign(line) => line.as_slice().len(),
+            SentCommand::Known(_) | SentCommand::Asking => 0,
+        };
         if left < count {
             return true;
         }
@@ -96,39 +80,24 @@ fn read_most(witness: &mut Witness) -> Result<bool, AllocError>
     Ok(are_too_many(witness.uses()))
 }
 
-/// What was reported is due. Fails only if out of memory, and then nothing has changed.
+/// What was reported is due; and last, if so, that too many lines are open, with the tag of the last of them. Fails only if out of memory, and then
+/// nothing has changed.
 fn make_due(
     alloc: Global,
     due: &mut Vec<u8>,
     connection: u64,
-    witness: &mut Witness,
+    witness: &Witness,
+    is_over: bool,
 ) -> Result<(), AllocError>
-    ensures due { OnOk result (due.new.items ≡ due.old.items
-        ++ told_lines connection witness.old.dialogue.reported) }
-    ensures taken { OnOk result (witness.new ≡ untold witness.old) }
-    ensures same_due { OnErr result (due.new.items ≡ due.old.items) }
-    ensures same { OnErr result (witness.new ≡ witness.old) }
+    ensures { OnOk result (due.new.items ≡ due.old.items
+        ++ spec.reports is_over connection witness.now.dialogue) }
 {
     let mut text = Vec::new(alloc);
     add_all(&mut text, connection, witness.reported())?;
-    due.extend_from_slice(text.as_slice())?;
-    witness.clear_reported();
-    Ok(())
-}
-
-/// That too many lines are open is due, with the tag of the last of them. Fails only if out of memory.
-fn add_too_many(
-    alloc: Global,
-    due: &mut Vec<u8>,
-    connection: u64,
-    uses: &[Use],
-) -> Result<(), AllocError>
-    ensures { OnOk result (due.new.items ≡ due.old.items
-        ++ spec.too_many connection (spec.last_tag (Tag.Event 0) uses.now)) }
-{
-    let mut text = Vec::new(alloc);
-    let report = Reported::Broken(Rule::TooMany, last_tag(uses));
-    add_told(&mut text, connection, &report)?;
+    if is_over {
+        let tag = witness.uses().last().map_or(Tag::Event(0), |used| used.tag);
+        add_told(&mut text, connection, &Reported::Broken(Rule::TooMany, tag))?;
+    }
     due.extend_from_slice(text.as_slice())
 }
 
@@ -182,12 +151,12 @@ impl LimitedRelay {
             return Ok(());
         };
         let is_over = read_most(witness)?;
-        make_due(self.alloc, &mut self.due, self.connection, witness)?;
+        make_due(self.alloc, &mut self.due, self.connection, witness, is_over)?;
         if is_over {
-            add_too_many(self.alloc, &mut self.due, self.connection, witness.uses())?;
             self.witness = None;
             return Ok(());
         }
+        witness.clear_reported();
         Ok(())
     }
 

@@ -55,26 +55,6 @@ fn come(
 }
 
 #[tactic(auto, using(crate::proofs::PieceLemmas::none_came))]
-fn come_all(
-    relay: &mut LimitedRelay,
-    up: &[u8],
-    down: &[u8],
-    pieces: &[(Side, u64)],
-) -> Result<(), AllocError>
-    requires up { bytes_of Side.Client pieces.now ≡ length up.now }
-    requires down { bytes_of Side.Server pieces.now ≡ length down.now }
-    ensures { OnOk result (spec.Relayed relay.old pieces.now up.now down.now relay.new) }
-{
-    let mut came_up = 0;
-    let mut came_down = 0;
-    for piece in pieces {
-        let (next_up, next_down) = come(relay, up, down, came_up, came_down, *piece)?;
-        came_up = next_up;
-        came_down = next_down;
-    }
-    Ok(())
-}
-
 fn came_text(
     alloc: Global,
     relay: &mut LimitedRelay,
@@ -87,7 +67,13 @@ fn came_text(
     ensures { IfOk result (λ text. spec.AreReported relay.old up.now down.now pieces.now
         text.items) }
 {
-    come_all(relay, up, down, pieces)?;
+    let mut came_up = 0;
+    let mut came_down = 0;
+    for piece in pieces {
+        let (next_up, next_down) = come(relay, up, down, came_up, came_down, *piece)?;
+        came_up = next_up;
+        came_down = next_down;
+    }
     let mut text = Vec::from_slice(alloc, HEADER)?;
     text.extend_from_slice(relay.due())?;
     Ok(text)

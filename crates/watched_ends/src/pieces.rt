@@ -13,9 +13,6 @@ use witness::Side;
 /// The first line of the text, with its LF.
 pub const ORDER_HEADER: &[u8] = b"DME-ORDER 1\n";
 
-/// The most bytes that come at once.
-const MOST: u64 = u64::MAX;
-
 fn mark_of(side: Side) -> &'static [u8]
     ensures { result.now ≡ side_field side }
 {
@@ -45,7 +42,7 @@ fn read_piece(line: &[u8]) -> Option<(Side, u64)>
         [b'<', b' ', count @ ..] => (Side::Server, count),
         _ => return None,
     };
-    Some((side, read_number(count, MOST)?))
+    Some((side, read_number(count, u64::MAX)?))
 }
 
 /// The pieces of a text, in order; nothing if it is no such text. What follows the last LF is not examined. Fails only if out of memory.

@@ -10,33 +10,29 @@ use std::alloc::{AllocError, Global};
 use witness::{foreign_event, sent};
 use witness_judge::tables::{look, put};
 
-/// Notes the tag of a line of the client, at a place: whether the line may be carried out at once. Fails only if out of memory.
+/// Notes the tag of a line of the client, at a place: the place after the last line that may be carried out at once, which was `quiet` above this
+/// one. Fails only if out of memory.
 #[tactic(auto, using(crate::proofs::PlaceLemmas::untagged))]
 fn note(
     alloc: Global,
     places: &mut Vec<Option<usize>>,
     at: usize,
     line: &[u8],
-) -> Result<bool, AllocError>
+    quiet: usize,
+) -> Result<usize, AllocError>
     requires { at < 2 ^ 63 }
-    ensures at_once { IfOk result (λ once. once ≡ at_once_line line.now) }
+    ensures quiet { IfOk result (λ n. n ≡ (if at_once_line line.now then at + 1 else quiet)) }
     ensures noted { OnOk result ((up : List (List ℕ)) → get_or up at [] ≡ line.now
         → spec.AreLast up at places.old.items → spec.AreLast up (at + 1) places.new.items) }
 {
-    match sent(alloc, line)? {
-        Some((tag, command)) => {
-            put(places, tag, Some(at + 1))?;
-            Ok(foreign_event(tag, &command))
-        }
-        None => Ok(true),
+    let Some((tag, command)) = sent(alloc, line)? else {
+        return Ok(at + 1);
+    };
+    put(places, tag, Some(at + 1))?;
+    if foreign_event(tag, &command) {
+        return Ok(at + 1);
     }
-}
-
-fn quiet_after(quiet: usize, at: usize, once: bool) -> usize
-    requires { at < 2 ^ 63 }
-    ensures { result ≡ (if once then at + 1 else quiet) }
-{
-    if once { at + 1 } else { quiet }
+    Ok(quiet)
 }
 
 /// What comes later in the lines of a client.
@@ -56,8 +52,7 @@ pub(crate) fn later_of(alloc: Global, up: &[Line]) -> Result<Later, AllocError>
     let mut places = Vec::new(alloc);
     let mut quiet = 0;
     for at in 0..up.len() {
-        let once = note(alloc, &mut places, at, up[at].as_slice())?;
-        quiet = quiet_after(quiet, at, once);
+        quiet = note(alloc, &mut places, at, up[at].as_slice(), quiet)?;
     }
     Ok(Later { places, quiet })
 }

@@ -1,7 +1,7 @@
 // Lines of the client are read when a response needs them.
 
 ghost use Rattle.std.specs.Prelude.{◌≡◌, ◌<◌, ◌≤◌, ◌+◌, ◌++◌, ◌∷◌, [], ℕ, List, true, false, length, drop, IfOk, OnOk, IfSome};
-ghost use Rattle.watched_ends.specs.Names.{the_mark, signal_of, client_lines, server_lines, ledger};
+ghost use Rattle.watched_ends.specs.Names.{the_mark, signal_of, ledger};
 ghost use Rattle.witness.specs.Marks as marks;
 ghost use Rattle.witness_laws.specs.Orders as orders;
 ghost use Rattle.watched_ends.specs.Turns as spec;
@@ -50,30 +50,6 @@ fn read_to(dialogue: &mut Dialogue, up: &[Line], next: usize, end: usize) -> Res
     Ok(())
 }
 
-/// Reads lines of the client until one is open under a tag, or none is left: the place of the next. Fails only if out of memory.
-fn read_until(
-    dialogue: &mut Dialogue,
-    up: &[Line],
-    next: usize,
-    tag: Tag,
-) -> Result<usize, AllocError>
-    requires { next ≤ length up.now }
-    ensures taken { (down : List (List ℕ)) → spec.AreTaken up.now next down dialogue.old
-        → IfOk result (λ n. spec.AreTaken up.now n down dialogue.new) }
-    ensures later { IfOk result (λ n. next ≤ n) }
-    ensures within { IfOk result (λ n. n ≤ length up.now) }
-    ensures open { IfOk result (λ n. orders.is_open tag dialogue.new.uses ≡ false
-        → n ≡ length up.now) }
-{
-    for at in next..up.len() {
-        if is_open(tag, dialogue.uses()) {
-            return Ok(at);
-        }
-        read_next(dialogue, up, at)?;
-    }
-    Ok(up.len())
-}
-
 /// Reads the lines of the client that a response under a tag may be for: the place of the next. Fails only if out of memory.
 #[tactic(auto, using(crate::proofs::TurnLemmas::none_left))]
 fn read_for(
@@ -92,10 +68,16 @@ fn read_for(
     ensures behind { IfOk result (λ n. orders.is_open tag dialogue.new.uses ≡ false
         → orders.some_sends tag (drop n up.now) ≡ false) }
 {
-    if is_open(tag, dialogue.uses()) || !may_come(places, tag, next) {
+    if !may_come(places, tag, next) {
         return Ok(next);
     }
-    read_until(dialogue, up, next, tag)
+    for at in next..up.len() {
+        if is_open(tag, dialogue.uses()) {
+            return Ok(at);
+        }
+        read_next(dialogue, up, at)?;
+    }
+    Ok(up.len())
 }
 
 /// Whether a response ends a command that has failed, and the client sends more under its tag: then it is not clear which has failed.
@@ -114,38 +96,8 @@ fn is_unclear(
     is_end(mark) && has_failed(tag, dialogue.uses()) && may_come(places, tag, next)
 }
 
-/// Reads a response, after the lines of the client that it may be for: the place of the client's next line, or nothing if the order is not clear.
-/// Fails only if out of memory.
-fn read_answer(
-    dialogue: &mut Dialogue,
-    up: &[Line],
-    later: &Later,
-    next: usize,
-    line: &[u8],
-    tag: Tag,
-    mark: MarkSlice<'_>,
-) -> Result<Option<usize>, AllocError>
-    requires answer { spec.IsAnswer line.now tag (the_mark mark) }
-    requires within { next ≤ length up.now }
-    requires last { spec.AreLast up.now (length up.now) later.now.places.items }
-    requires quiet { spec.AreQuiet up.now (length up.now) later.now.quiet }
-    requires read { later.now.quiet ≤ next }
-    ensures taken { (down : List (List ℕ)) → spec.AreTaken up.now next down dialogue.old
-        → IfOk result (λ found. IfSome found
-        (λ n. spec.AreTaken up.now n (down ++ line.now ∷ []) dialogue.new)) }
-    ensures later { IfOk result (λ found. IfSome found (λ n. next ≤ n)) }
-    ensures within { IfOk result (λ found. IfSome found (λ n. n ≤ length up.now)) }
-{
-    let places = later.places.as_slice();
-    let read = read_for(dialogue, up, places, next, tag)?;
-    if is_unclear(dialogue, places, read, tag, mark) {
-        return Ok(None);
-    }
-    dialogue.server_line(line)?;
-    Ok(Some(read))
-}
-
-/// Likewise a line of the server that may be no response.
+/// Reads a line of the server, a response after the lines of the client that it may be for: the place of the client's next line, or nothing if the
+/// order is not clear. Fails only if out of memory.
 #[tactic(auto, using(crate::proofs::TurnLemmas::answer_is))]
 fn read_one(
     dialogue: &mut Dialogue,
@@ -166,7 +118,13 @@ fn read_one(
 {
     match cut_response(line) {
         Ok(response) => {
-            read_answer(dialogue, up, later, next, line, response.tag, response.mark)
+            let places = later.places.as_slice();
+            let read = read_for(dialogue, up, places, next, response.tag)?;
+            if is_unclear(dialogue, places, read, response.tag, response.mark) {
+                return Ok(None);
+            }
+            dialogue.server_line(line)?;
+            Ok(Some(read))
         }
         Err(_) => {
             dialogue.server_line(line)?;
@@ -200,24 +158,6 @@ pub(crate) fn heard_in_turn(
     Ok(Some(dialogue))
 }
 
-fn read_client(dialogue: &mut Dialogue, up: &[Line]) -> Result<(), AllocError>
-    ensures { OnOk result (dialogue.new ≡ client_lines dialogue.old up.now) }
-{
-    for line in up {
-        dialogue.client_line(line.as_slice())?;
-    }
-    Ok(())
-}
-
-fn read_server(dialogue: &mut Dialogue, down: &[Line]) -> Result<(), AllocError>
-    ensures { OnOk result (dialogue.new ≡ server_lines dialogue.old down.now) }
-{
-    for line in down {
-        dialogue.server_line(line.as_slice())?;
-    }
-    Ok(())
-}
-
 /// What lines of both ends report, with all of the client's read first. Fails only if out of memory.
 pub(crate) fn heard(alloc: Global, up: &[Line], down: &[Line]) -> Result<Dialogue, AllocError>
     ensures { IfOk result (λ d. d.reported ≡ (ledger up.now down.now).reported) }
@@ -226,7 +166,11 @@ pub(crate) fn heard(alloc: Global, up: &[Line], down: &[Line]) -> Result<Dialogu
         return Ok(dialogue);
     }
     let mut dialogue = Dialogue::new(alloc, false);
-    read_client(&mut dialogue, up)?;
-    read_server(&mut dialogue, down)?;
+    for line in up {
+        dialogue.client_line(line.as_slice())?;
+    }
+    for line in down {
+        dialogue.server_line(line.as_slice())?;
+    }
     Ok(dialogue)
 }

@@ -1,5 +1,5 @@
 use Rattle.watched_ends.proofs.Names.{AreTaken, List, ℕ}
-use Rattle.watched_ends.proofs.turns.read_until.Given as goal
+use Rattle.watched_ends.proofs.turns.read_for.Given as goal
 
 -- the lines up to a place were read
 abbrev pub invariant-loop-at : goal.invariant-loop-at

@@ -1,6 +1,6 @@
 use Rattle.watched_ends.proofs.Names.{◌+◌, ◌≡◌, bytes_of, drop, length, Relayed, take}
 use Rattle.witness.specs.declared.lines.Side.TheVariants.{Client, Server}
-use Rattle.watched_ends.proofs.ordered.come_all.Given as goal
+use Rattle.watched_ends.proofs.ordered.came_text.Given as goal
 
 -- the pieces up to a place have come, and the others have the bytes that are left
 abbrev pub invariant-loop-piece : goal.invariant-loop-piece
