@@ -1,26 +1,40 @@
 -- What may be known for a line after a mark for it, and below a line that this profile does not know.
-use Rattle.witness.proofs.Names.{◌&&◌, ◌==◌, ◌∙◌, ◌≡◌, after_mark, all_renewed, answered_known, ap, below, Bool, Dialogue, eq-eqb, false, Fault}
+use Rattle.witness.proofs.Names.{◌&&◌, ◌==◌, ◌||◌, ◌∙◌, ◌≡◌, after_mark, all_renewed, answered_known, ap, below, Bool, Dialogue, eq-eqb, false, Fault}
 use Rattle.witness.proofs.Names.{faulting, Heard, heard_at, hearing, if◌then◌else◌, is_error, is_foreign, is_out_of_turn, is_rival, Known, Mark}
-use Rattle.witness.proofs.Names.{nothing, NotInTurn, Option, refl, SentCommand, Standing, true, unknowing, Use, use_heard, use_renewed, without_rival}
+use Rattle.witness.proofs.Names.{nothing, NotInTurn, Option, refl, SentCommand, Standing, stage_with, true, unknowing, unless_crossed, Use, use_heard, use_renewed, without_rival}
 use Rattle.witness.proofs.Names.{ℕ}
 use Rattle.std.proofs.lemmas.Bool.{false≢true}
 use Rattle.witness.specs.declared.lines.Reported.TheVariants.{Broken}
 
-known_if : (refused : Bool) (u : Use) → (if refused then unknowing u else u).known ≡ (if refused then nothing else u.known)
-known_if true u = refl
-known_if false u = refl
+-- a line after a mark, by its parts, if the mark is its own, and if it may have been refused
+abbrev pub by_parts : ℕ → Heard → Use → Bool → Bool → Use
+by_parts line h u own refused = record {
+  tag = u.tag;
+  command = u.command;
+  line = u.line;
+  stage = if own then stage_with u.command u.stage h else u.stage;
+  has_failed = if own then u.has_failed || is_error h else u.has_failed;
+  rival = u.rival;
+  known = all_renewed (Mark line h) (if own then answered_known h (unless_crossed refused u.known) else unless_crossed refused u.known);
+}
 
-own : (line : ℕ) (h : Heard) (u w : Use) (is_own : Bool) → is_own ≡ true
-    → (use_renewed (all_renewed (Mark line h)) (if is_own then after_mark (use_renewed (answered_known h) w) h else w)).known
-    ≡ all_renewed (Mark line h) (answered_known h w.known)
-own line h u w true e = refl
-own line h u w false e = absurd (false≢true e)
+pub heard_parts : (line : ℕ) (h : Heard) (u : Use)
+    → use_heard line h u ≡ by_parts line h u (u.line == line) (is_rival line u.rival && is_error h)
+heard_parts line h u = go (u.line == line) (is_rival line u.rival && is_error h)
+  where
+    go : (own refused : Bool) → use_renewed (all_renewed (Mark line h))
+        (if own then after_mark (use_renewed (answered_known h) (if refused then unknowing u else u)) h else (if refused then unknowing u else u))
+        ≡ by_parts line h u own refused
+    go true true = refl
+    go true false = refl
+    go false true = refl
+    go false false = refl
 
 pub known_heard : (h : Heard) (u : Use) → (use_heard u.line h u).known
     ≡ all_renewed (Mark u.line h) (answered_known h (if is_rival u.line u.rival && is_error h then nothing else u.known))
 known_heard h u =
-    own u.line h u (without_rival u.line h u) (u.line == u.line) (eq-eqb u.line u.line refl)
-    ∙ ap (λ k. all_renewed (Mark u.line h) (answered_known h k)) (known_if (is_rival u.line u.rival && is_error h) u)
+    ap (λ (w : Use). w.known) (heard_parts u.line h u)
+    ∙ ap (λ own. (by_parts u.line h u own (is_rival u.line u.rival && is_error h)).known) (eq-eqb u.line u.line refl)
 
 pub fault_heard : (h : Heard) (u : Use) → (use_heard u.line h (use_renewed (all_renewed Fault) u)).known
     ≡ all_renewed (Mark u.line h) (answered_known h (if is_rival u.line u.rival && is_error h then nothing else all_renewed Fault u.known))

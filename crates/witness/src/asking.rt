@@ -42,7 +42,6 @@ fn asks_value(name: &[u8]) -> bool
         || name.eq_ignore_ascii_case(b"OnMoveReportE")
 }
 
-/// Whether it is that of one that asks what a server is, and what went wrong.
 fn asks_state(name: &[u8]) -> bool
     ensures { result ≡ spec.asks_state name.now }
 {
@@ -54,7 +53,6 @@ fn asks_state(name: &[u8]) -> bool
         || name.eq_ignore_ascii_case(b"IsUserEnabled")
 }
 
-/// Whether it is that of one that asks for tools and coordinate systems.
 fn asks_setting(name: &[u8]) -> bool
     ensures { result ≡ spec.asks_setting name.now }
 {
@@ -76,15 +74,6 @@ pub fn only_asks(line: &[u8]) -> bool
     (asks_value(name) || asks_state(name) || asks_setting(name)) && opens(rest)
 }
 
-fn unknown(alloc: Global, line: &[u8]) -> Result<SentCommand, AllocError>
-    ensures { IfOk result (λ command. command ≡ spec.unknown line.now) }
-{
-    if only_asks(line) {
-        return Ok(SentCommand::Asking);
-    }
-    Ok(SentCommand::Foreign(Text::new(alloc, line)?))
-}
-
 /// What a line asks for, with its tag; nothing if it has no valid tag. Fails only if out of memory.
 #[tactic(auto, using(crate::proofs::Readings::one_command))]
 pub fn sent(alloc: Global, line: &[u8]) -> Result<Option<(Tag, SentCommand)>, AllocError>
@@ -93,8 +82,10 @@ pub fn sent(alloc: Global, line: &[u8]) -> Result<Option<(Tag, SentCommand)>, Al
     match read_command(alloc, line)? {
         Ok((tag, command)) => Ok(Some((tag, SentCommand::Known(command)))),
         Err(LineFault::NoTag) => Ok(None),
-        Err(LineFault::UnknownCommand(tag)) => Ok(Some((tag, unknown(alloc, line)?))),
-        Err(LineFault::BadArguments(tag, _)) => {
+        Err(LineFault::UnknownCommand(tag)) if only_asks(line) => {
+            Ok(Some((tag, SentCommand::Asking)))
+        }
+        Err(LineFault::UnknownCommand(tag) | LineFault::BadArguments(tag, _)) => {
             Ok(Some((tag, SentCommand::Foreign(Text::new(alloc, line)?))))
         }
     }

@@ -1,18 +1,18 @@
 // The lines of both ends of a connection, one at a time.
 
-ghost use Rattle.std.specs.Prelude.{◌≡◌, ◌<◌, ◌++◌, ◌==◌, ◌^◌, ◌+◌, [], true, length, map, slice_get, OnOk, OnErr, IfOk, IfSome, Some, if◌then◌else◌, vec_len, vec_capacity};
-ghost use Rattle.witness.specs.Names.{list_any, Leads, the_mark, client_line, server_line, signal_of, all_renewed, nothing, is_foreign};
+ghost use Rattle.std.specs.Prelude.{◌≡◌, ◌<◌, ◌++◌, ◌^◌, ◌+◌, [], length, map, slice_get, IfOk, IfSome, OnOk, OnErr, Some, true, vec_len, vec_capacity};
 ghost use Rattle.witness.specs.Dialogues as spec;
+ghost use Rattle.witness.specs.Names.{Leads, the_mark, client_line, server_line, signal_of, all_renewed, is_foreign};
 
 use crate::asking::sent;
-use crate::effects::reported_by;
-use crate::known::{copied, fresh, go_below, nothing, renew};
+use crate::known::{below, fresh, nothing, renew};
 use crate::lines::{Heard, Known, Renewal, Reported, Rule, SentCommand, Side, Stage, Use};
-use crate::marks::{heard_as, is_end, is_foreign};
+use crate::marks::{heard_as, is_end, is_foreign, reported_by};
 use crate::uses::{forget, is_out_of_turn, known_after, last_under, mark_all, renew_all};
 use dme_line::{MarkSlice, Tag, Text, cut_response};
 use std::alloc::{AllocError, Global};
 use std::marker::Model;
+use std::mem::replace;
 
 /// The lines of both ends of a connection, and what is reported of them. Contracts see the lines of the client that are open, what may be known
 /// for the next, and what was reported and not taken.
@@ -36,18 +36,12 @@ impl Model for Dialogue {
     ghost view = { λ d. record { ordered = d.ordered; lines = d.lines; uses = d.uses.items; events = d.events.items; crossed = d.crossed; known = d.known; reported = d.reported.items } };
 }
 
-fn is_used(events: &[u16], number: u16) -> bool
-    ensures { result ≡ list_any (λ m. m == number) events.now }
-{
-    events.iter().any(|used| *used == number)
-}
-
 fn note_event(events: &mut Vec<u16>, tag: Tag)
     requires { vec_len events.old < vec_capacity events.old }
     ensures { events.new.items ≡ spec.with_event tag events.old.items }
 {
     if let Tag::Event(number) = tag
-        && !is_used(events.as_slice(), number)
+        && !events.as_slice().contains(&number)
     {
         events.push_reserved(number);
     }
@@ -58,28 +52,20 @@ pub fn foreign_event(tag: Tag, command: &SentCommand) -> bool
     ensures event { result ≡ spec.foreign_event tag command.now }
     ensures foreign { result ≡ true → is_foreign command.now ≡ true }
 {
-    match tag {
-        Tag::Std(_) => false,
-        Tag::Event(_) => is_foreign(command),
-    }
+    matches!(tag, Tag::Event(_)) && is_foreign(command)
 }
 
-/// The line of the command that was sent last under a tag, and whether it has failed.
-fn rival_of(before: Option<(u64, bool)>) -> (Option<u64>, bool)
-    ensures line { result.0 ≡ spec.line_of before }
-    ensures lost { result.1 ≡ spec.is_lost before }
+fn unless(is_lost: bool, known: Known) -> Known
+    ensures { result ≡ spec.unless_crossed is_lost known }
 {
-    match before {
-        Some((line, has_failed)) => (Some(line), has_failed),
-        None => (None, false),
-    }
+    if is_lost { nothing() } else { known }
 }
 
 fn is_report(events: &[u16], tag: Tag, mark: MarkSlice<'_>) -> bool
     ensures { result ≡ spec.is_report tag (signal_of (the_mark mark.entry)) events.now }
 {
     match (tag, mark) {
-        (Tag::Event(number), MarkSlice::Given(_)) => is_used(events, number),
+        (Tag::Event(number), MarkSlice::Given(_)) => events.contains(&number),
         _ => false,
     }
 }
@@ -142,25 +128,16 @@ impl Dialogue {
 
     // ---- a line of the client
 
-    fn known_now(&self, is_lost: bool) -> Result<Known, AllocError>
-        ensures { IfOk result (λ known. known ≡ (if is_lost then nothing else self.now.known)) }
-    {
-        if is_lost {
-            return Ok(nothing());
-        }
-        copied(self.alloc, &self.known)
-    }
-
     fn send(&mut self, tag: Tag, command: SentCommand) -> Result<(), AllocError>
         requires { self.old.lines + 1 < 2 ^ 64 }
         ensures { Leads result self.old self.new (spec.sending self.old tag command) }
     {
-        let (rival, is_lost) = rival_of(last_under(self.uses.as_slice(), tag));
-        let known = self.known_now(is_lost)?;
+        let (rival, is_lost) = last_under(self.uses.as_slice(), tag);
+        let standing = fresh(self.lines, rival, is_lost);
+        let below = below(self.alloc, &self.known, standing, &command)?;
         self.uses.reserve(1)?;
         self.events.reserve(1)?;
-        let standing = fresh(self.lines, rival, is_lost);
-        go_below(self.alloc, &mut self.known, standing, &command)?;
+        let known = replace(&mut self.known, below);
         self.uses.push_reserved(Use {
             tag,
             command,
@@ -168,7 +145,7 @@ impl Dialogue {
             stage: Stage::Sent,
             has_failed: false,
             rival,
-            known,
+            known: unless(is_lost, known),
         });
         note_event(&mut self.events, tag);
         self.crossed = self.crossed || (self.ordered && rival.is_some());
@@ -176,7 +153,6 @@ impl Dialogue {
         Ok(())
     }
 
-    /// A line that this profile does not know, and that may be carried out at once, is sent under a tag. Fails only if out of memory.
     #[tactic(auto, using(crate::proofs::AfterMarks::foreign_below, crate::proofs::AfterMarks::either_nothing))]
     fn send_at_once(
         &mut self,
@@ -194,7 +170,7 @@ impl Dialogue {
         self.events.reserve(1)?;
         self.reported.push(Reported::Other(Side::Client, other))?;
         forget(self.uses.as_mut_slice());
-        let (rival, _) = rival_of(last_under(self.uses.as_slice(), tag));
+        let (rival, _) = last_under(self.uses.as_slice(), tag);
         self.uses.push_reserved(Use {
             tag,
             command,
@@ -271,29 +247,16 @@ impl Dialogue {
         self.fault(Reported::Unasked(line))
     }
 
-    /// What a mark reports of its line; `early`: the mark is a fault. Fails only if out of memory.
     fn report(&self, used: &Use, heard: &Heard, early: bool) -> Result<Option<Reported>, AllocError>
         ensures { IfOk result (λ report. spec.listed report
             ≡ spec.reported_by (spec.unless_crossed self.now.crossed
             (spec.use_heard used.now.line heard.now (spec.if_early early used.now)).known)
             used.now.tag used.now.command used.now.stage heard.now) }
     {
-        let known = if self.crossed {
-            nothing()
-        } else {
-            known_after(self.alloc, used, heard, early)?
-        };
-        reported_by(
-            self.alloc,
-            &known,
-            used.tag,
-            &used.command,
-            used.stage,
-            *heard,
-        )
+        let known = known_after(self.alloc, used, heard, early)?;
+        reported_by(self.alloc, unless(self.crossed, known), used, *heard)
     }
 
-    /// All lines after a mark for the one at a place, on this line of the connection. Does not allocate.
     fn settle(&mut self, at: usize, line: u64, heard: &Heard, is_end: bool)
         requires { at < length self.old.uses }
         ensures { self.new ≡ record self.old {
@@ -319,7 +282,6 @@ impl Dialogue {
         Ok(())
     }
 
-    /// What rests on changes that have begun is known no more. Does not allocate.
     fn lose(&mut self)
         ensures { self.new ≡ record self.old {
           uses = map (spec.use_renewed (all_renewed Renewal.Fault)) self.old.uses;

@@ -27,14 +27,11 @@ pub enum Heard {
     Failed,
 }
 
-/// How far a command is, by the marks that were read for it.
+/// How far a command is, by the marks that were read for it: none, `&`, or `&` and its data.
 #[derive(Clone, Copy, Debug, PartialEq, Eq)]
 pub enum Stage {
-    /// None was read.
     Sent,
-    /// `&` was read.
     Received,
-    /// `&` and its data were read.
     Given(Datum),
     /// It failed, or broke a rule of marks.
     Lost,
@@ -66,9 +63,7 @@ pub enum Rule {
 pub enum Step {
     /// Nothing: an error of it was read before, or a rule was broken.
     Stays,
-    /// It is at this stage.
     Comes(Stage),
-    /// It failed.
     Fails,
     /// The mark breaks a rule. What the command does is not reported.
     Breaks(Rule),
@@ -76,14 +71,11 @@ pub enum Step {
     Counts(Option<Datum>),
 }
 
-/// How far a change of tool or frame is.
+/// How far a change of tool or frame is: no mark, `&`, or `&` and then `%` were read of it.
 #[derive(Clone, Copy, Debug, PartialEq, Eq)]
 pub enum Progress {
-    /// Nothing was read of it.
     Sent,
-    /// `&` was read.
     Begun,
-    /// `&` and then `%` were read.
     Done,
 }
 
@@ -133,7 +125,6 @@ pub struct Use {
     pub has_failed: bool,
     /// The line that was open last under its tag when it was sent.
     pub rival: Option<u64>,
-    /// What may be known for it.
     pub known: Known,
 }
 

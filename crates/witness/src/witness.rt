@@ -1,14 +1,120 @@
-// The bytes of both ends of a connection.
+// Bytes as lines, and the bytes of both ends of a connection.
 
-ghost use Rattle.std.specs.Prelude.{◌≡◌, ◌<◌, ◌↔◌, IsTrue, [], length, true, false, OnOk, OnErr, IfOk};
-ghost use Rattle.witness.specs.Names.{fed, IsLineDue, next_of, Reads, IsClientRead, IsServerRead};
+ghost use Rattle.std.specs.Prelude.{◌≡◌, ◌<◌, ◌≤◌, ◌+◌, ◌↔◌, ℕ, List, IsTrue, [], length, take, drop, true, false, Ok, Err, Some, None, OnOk, OnErr, IfOk, IfErr, IfSome, MatchOption};
+ghost use Rattle.witness.specs.Names.{fed, no_bytes, IsLineDue, IsStream, next_of, Reads, IsClientRead, IsServerRead};
 ghost use Rattle.witness.specs.Watching as spec;
 
 use crate::dialogue::Dialogue;
-use crate::ends::End;
 use crate::lines::{Reported, Use};
+use line_framing::{FramingFault, Line, Lines, LinesFault};
 use std::alloc::{AllocError, Global};
 use std::marker::Model;
+
+/// The whole lines of bytes, and what is wrong after them. Fails only if out of memory.
+pub fn cut_lines(
+    alloc: Global,
+    bytes: &[u8],
+) -> Result<(Vec<Line>, Option<FramingFault>), AllocError>
+    ensures { IfOk result (λ cut. (rest : List ℕ) × IsStream bytes.now cut.0.items rest cut.1) }
+{
+    let mut lines = Lines::new(alloc);
+    match lines.feed(bytes) {
+        Ok(()) | Err(LinesFault::Framing(_)) => {}
+        Err(LinesFault::Memory) => return Err(AllocError),
+    }
+    let mut all = Vec::new(alloc);
+    loop {
+        match lines.next_line() {
+            Ok(Some(line)) => all.push(line)?,
+            Ok(None) => return Ok((all, None)),
+            Err(LinesFault::Framing(fault)) => return Ok((all, Some(fault))),
+            Err(LinesFault::Memory) => return Err(AllocError),
+        }
+    }
+}
+
+/// The bytes of one end that came and were not read. From a byte on that no line can hold, or a line that is too long, nothing is kept.
+#[derive(Drop)]
+struct End {
+    lines: Lines,
+    fault: Option<FramingFault>,
+}
+
+impl Model for End {
+    ghost use Rattle.std.specs.Prelude.{◌≡◌, [], None, IfSome};
+    ghost use Rattle.line_framing.specs.Framing.{Framing};
+
+    ghost Value = { Framing };
+
+    ghost view = { λ e. record { rest = e.lines.rest; fault = e.fault } };
+
+    ghost invariant = { λ e. (e.lines.fault ≡ None) × IfSome e.fault (λ _. e.lines.rest ≡ []) };
+}
+
+impl End {
+    fn new(alloc: Global) -> End
+        ensures { result ≡ no_bytes }
+    {
+        End {
+            lines: Lines::new(alloc),
+            fault: None,
+        }
+    }
+
+    fn rest(&self) -> &[u8]
+        ensures { result.now ≡ self.now.rest }
+    {
+        self.lines.rest()
+    }
+
+    fn has_line(&self) -> bool
+        ensures { IsTrue result ↔ IsLineDue (next_of self.now.rest) }
+    {
+        self.lines.has_line()
+    }
+
+    fn feed(&mut self, bytes: &[u8]) -> Result<(), AllocError>
+        ensures ok { OnOk result (self.new ≡ fed self.old bytes.now) }
+        ensures err { OnErr result (self.new ≡ self.old) }
+    {
+        if self.fault.is_some() {
+            return Ok(());
+        }
+        match self.lines.feed(bytes) {
+            Ok(()) => Ok(()),
+            Err(_) => Err(AllocError),
+        }
+    }
+
+    /// How many bytes the first line has, if a whole one waits. Bytes that are no line are dropped.
+    fn first_line(&mut self) -> Result<Option<usize>, FramingFault>
+        ensures found { IfOk result (λ found. MatchOption found (next_of self.old.rest ≡ Ok None)
+            (λ n. next_of self.old.rest
+            ≡ Ok (Some (take n self.old.rest, drop (n + 2) self.old.rest)))) }
+        ensures within { IfOk result (λ found. IfSome found (λ n. n + 2 ≤ length self.old.rest)) }
+        ensures fault { IfErr result (λ fault. next_of self.old.rest ≡ Err fault) }
+        ensures ok { OnOk result (self.new ≡ self.old) }
+        ensures err { OnErr result (self.new ≡ spec.after_first self.old) }
+    {
+        match self.lines.first_line() {
+            Ok(found) => Ok(found),
+            Err(fault) => {
+                self.lines.clear();
+                self.fault = Some(fault);
+                Err(fault)
+            }
+        }
+    }
+
+    fn drop_line(&mut self, length: usize)
+        requires { next_of self.old.rest
+            ≡ Ok (Some (take length self.old.rest, drop (length + 2) self.old.rest)) }
+        ensures dropped { self.new ≡ record self.old { rest = drop (length + 2) self.old.rest } }
+        ensures taken { self.new ≡ spec.after_first self.old }
+    {
+        self.lines.drop_line(length);
+    }
+}
 
 /// The bytes of both ends of a connection, cut into lines. Contracts see the bytes of each end that were fed and not read, and what the lines
 /// before them report.
@@ -78,12 +184,11 @@ impl Witness {
             → length self.new.up.rest < length self.old.up.rest) }
         ensures err { OnErr result (self.new ≡ self.old) }
     {
-        let Ok(Some(length)) = self.up.first_line() else {
-            return Ok(());
-        };
-        let (line, _) = self.up.rest().split_at(length);
-        self.dialogue.client_line(line)?;
-        self.up.drop_line(length);
+        if let Ok(Some(length)) = self.up.first_line() {
+            let (line, _) = self.up.rest().split_at(length);
+            self.dialogue.client_line(line)?;
+            self.up.drop_line(length);
+        }
         Ok(())
     }
 
@@ -94,17 +199,14 @@ impl Witness {
             → length self.new.down.rest < length self.old.down.rest) }
         ensures err { OnErr result (self.new ≡ self.old) }
     {
-        let Ok(Some(length)) = self.down.first_line() else {
-            return Ok(());
-        };
-        let (line, _) = self.down.rest().split_at(length);
-        self.dialogue.server_line(line)?;
-        self.down.drop_line(length);
+        if let Ok(Some(length)) = self.down.first_line() {
+            let (line, _) = self.down.rest().split_at(length);
+            self.dialogue.server_line(line)?;
+            self.down.drop_line(length);
+        }
         Ok(())
     }
 
-    /// Reads the lines of the server that wait, and drops bytes that are no line and follow them: what is kept is of a line without its end. Fails only
-    /// if out of memory, and then has read some of them.
     #[tactic(auto, using(crate::proofs::Kept::few_left, crate::proofs::Kept::none_left))]
     fn read_server_lines(&mut self) -> Result<(), AllocError>
         ensures reads { spec.ReadsServer self.old self.new }
@@ -117,7 +219,6 @@ impl Witness {
         self.read_server()
     }
 
-    /// Likewise those of the client, up to the first after which more than `most` of those that it has sent are open: whether one is.
     #[tactic(auto, using(crate::proofs::Kept::few_left, crate::proofs::Kept::none_left))]
     fn read_client_within(&mut self, most: usize) -> Result<bool, AllocError>
         ensures reads { spec.ReadsClient self.old self.new }

@@ -1,5 +1,5 @@
 use Rattle.witness.proofs.Cuts.{shorter, cut_more, cut_end, cut_fault}
-use Rattle.witness.proofs.cutting.cut_lines.Goals as goal
+use Rattle.witness.proofs.witness.cut_lines.Goals as goal
 
 pub loop-line-smaller : goal.loop-line-smaller
 loop-line-smaller c = shorter c.loop-line.lines.rest _ _ (rw c.in-Ok-Some.field-0-is at c.in-Ok-Some.ensures.line)

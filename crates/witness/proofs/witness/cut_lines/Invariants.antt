@@ -1,5 +1,5 @@
 use Rattle.witness.proofs.Names.{◌++◌, FramingFault, IsStream, length, List, Option, ℕ}
-use Rattle.witness.proofs.cutting.cut_lines.Given as goal
+use Rattle.witness.proofs.witness.cut_lines.Given as goal
 
 -- the lines that were cut off, and those of what is left, are those of the bytes
 abbrev pub invariant-loop-line : goal.invariant-loop-line
