@@ -147,6 +147,7 @@ fn lower<R: Files + Input + Print + Eprint + AllocGlobal>(
     let choices = Choices {
         no_clearing: order.no_clearing,
         compensated: order.compensated,
+        skip_manual: order.skip_manual,
     };
     let name = String::from_str(rt.alloc(), order.program.as_str())?;
     let setup_name = name_of(rt.alloc(), &order.setup)?;

@@ -159,6 +159,8 @@ const NO_CLEARING_HELP: &str =
 
 const COMPENSATED_HELP: &str = "Says that the machine corrects for temperature";
 
+const SKIP_MANUAL_HELP: &str = "Leaves out what the operator would measure, from MODE/MAN on";
+
 const PROGRAM_HELP: &str = "The DMIS program; - is standard input";
 
 const SETUP: Argument = Text("setup", "FILE", SETUP_HELP);
@@ -331,6 +333,7 @@ const LINES: [Line; 13] = [
             SETUP,
             Flag("no-clearing", NO_CLEARING_HELP),
             Flag("compensated", COMPENSATED_HELP),
+            Flag("skip-manual", SKIP_MANUAL_HELP),
             EXPLAIN,
             PROGRAM,
         ],

@@ -287,6 +287,8 @@ pub struct Lower {
     pub no_clearing: bool,
     /// Whether the machine corrects for temperature.
     pub compensated: bool,
+    /// Whether what the operator would measure is left out.
+    pub skip_manual: bool,
     /// Whether a line that is refused is shown, with what is wrong with it.
     pub explain: bool,
     /// The file of the program; `-` is standard input.

@@ -634,6 +634,7 @@ fn lower_order(alloc: Global, values: &ArgMatches) -> Result<Lower, AllocError>
         setup: copied_maybe(alloc, values, "setup")?,
         no_clearing: flag_of(values, "no-clearing"),
         compensated: flag_of(values, "compensated"),
+        skip_manual: flag_of(values, "skip-manual"),
         explain: flag_of(values, "explain"),
         program: copied_program(alloc, values)?,
     })

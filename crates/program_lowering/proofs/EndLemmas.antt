@@ -39,7 +39,7 @@ unfolding meaning_of
 written_of frames choices text w h =
     let statements = (text_reading text).statements in
     let t = has_texts (steps_up_to frames (text_reading text).fault (length (lines text)) [] (all_stated [] (kept choices statements)))
-    (ended_lines (flat_lines (all_stated [] (kept choices statements)))) (notes_from choices statements) w
+    (ended_lines (flat_lines (all_stated [] (kept choices statements)))) (notes_from choices [] statements) w
     (sym (run_from_start frames choices (text_reading text).fault (length (lines text)) statements) ∙ h) in
     record { meaning = meaning_with t.steps; accepted = ap meant t.is; flat = t.text_is; notes_are = t.notes_are }
 
@@ -49,7 +49,7 @@ unfolding meaning_of
 refused_of frames choices text e h =
     let statements = (text_reading text).statements in
     has_refusal (steps_up_to frames (text_reading text).fault (length (lines text)) [] (all_stated [] (kept choices statements)))
-    (ended_lines (flat_lines (all_stated [] (kept choices statements)))) (notes_from choices statements) e
+    (ended_lines (flat_lines (all_stated [] (kept choices statements)))) (notes_from choices [] statements) e
     (sym (run_from_start frames choices (text_reading text).fault (length (lines text)) statements) ∙ h)
 
 -- one statement more, by what the code gives at it

@@ -4,7 +4,9 @@ use Rattle.program_lowering.proofs.Names.{flat_text, is_operator_text, left_out,
 use Rattle.program_lowering.proofs.Names.{Ok, passed_over, Passes, refl, Some, text_refusal, true}
 use Rattle.std.specs.Option.{option_map}
 use Rattle.dmis_program.specs.Keywords.{keyword_of}
-use Rattle.program_lowering.specs.Examples.{all_choices, bare, plain_choices, to_operator}
+use Rattle.program_lowering.specs.Examples.{all_choices, bare, first_by_hand, manual_front, measured, mode_man, mode_prog, plain_choices, start, to_operator}
+use Rattle.program_lowering.specs.Lowering.{kept}
+use Rattle.program_lowering.specs.Manual.{in_manual, is_skipped}
 use Rattle.program_lowering.specs.declared.words.Reason.TheVariants as reason
 use Rattle.program_lowering.specs.Inches.{in_inches, stated}
 
@@ -109,3 +111,35 @@ unit_off = refl
 pub unit_polar : (stated true (bare (codes "GOTO") (codes "POL" ∷ codes "1" ∷ []))).params ≡ codes "POL" ∷ codes "1" ∷ []
 unfolding keyword_of
 unit_polar = refl
+
+pub manual_skipped : kept all_choices first_by_hand ≡ start ∷ (manual_front ++ (mode_prog ∷ measured))
+unfolding keyword_of
+manual_skipped = refl
+
+pub manual_unasked : kept plain_choices first_by_hand ≡ first_by_hand
+unfolding keyword_of
+manual_unasked = refl
+
+pub manual_again : in_manual (bare (codes "ENDMES") [] ∷ mode_man ∷ mode_prog ∷ []) ≡ true
+unfolding keyword_of
+manual_again = refl
+
+pub manual_ended : in_manual (bare (codes "GOTO") [] ∷ mode_prog ∷ mode_man ∷ []) ≡ false
+unfolding keyword_of
+manual_ended = refl
+
+pub manual_automatic : in_manual (bare (codes "MODE") (codes "AUTO" ∷ codes "MAN" ∷ []) ∷ []) ≡ false
+unfolding keyword_of
+manual_automatic = refl
+
+pub manual_scanned : is_skipped true (bare (codes "SCAN") []) ≡ true
+unfolding keyword_of
+manual_scanned = refl
+
+pub manual_looped : is_skipped true (bare (codes "DO") []) ≡ false
+unfolding keyword_of
+manual_looped = refl
+
+pub manual_open : is_skipped true (bare (codes "GOTO") (codes "'A" ∷ [])) ≡ false
+unfolding keyword_of
+manual_open = refl

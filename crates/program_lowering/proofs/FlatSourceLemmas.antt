@@ -1,8 +1,10 @@
 -- Nothing is left out of a program that is flat.
-use Rattle.program_lowering.proofs.Names.{[], ◌∷◌, ◌≡◌, AllByRecursion, ap, Bool, Choices, closes, cond, context_at, continued, Err, false, filter}
-use Rattle.program_lowering.proofs.Names.{is_kept, judged, kept, List, Meaning, meant, None, Ok, Option, Point, refl, Refusal, Result, Statement}
+use Rattle.program_lowering.proofs.Names.{[], ◌∷◌, ◌≡◌, AllByRecursion, ap, Bool, Choices, closes, cond, context_at, continued, Err, false}
+use Rattle.program_lowering.proofs.Names.{in_manual, is_unknown, judged, kept, kept_below, left_out_at, List, Meaning, meant, None, Ok, Option, Point, refl, Refusal, Result, Statement}
 use Rattle.program_lowering.proofs.Names.{StatementMeaning, Step, steps_from, steps_of, sym, text_refusal, TextFault, true, up_to_refused, with_front}
-use Rattle.program_lowering.proofs.Names.{ℕ}
+use Rattle.program_lowering.proofs.Names.{◌&&◌, ◌++◌, ◌||◌, manual_after, mode, Reason, Some, unless_left_out, ℕ}
+use Rattle.program_lowering.specs.Manual.{is_manual, is_mode}
+use Rattle.program_lowering.specs.declared.words.Reason.TheVariants.{Manual}
 use Rattle.program_lowering.proofs.AboveLemmas.{accepted_if}
 use Rattle.program_lowering.proofs.RunLemmas.{accepted_known}
 use Rattle.program_lowering.proofs.ReadBackLemmas.{meant_steps}
@@ -14,7 +16,7 @@ use Rattle.dmis_text.specs.Statements.{has_open_text}
 use Rattle.dmis_program.specs.Keywords.{keyword_of}
 use Rattle.dmis_program.specs.LookBack.{saying}
 use Rattle.dmis_program.specs.Sayings.{is_badly_formed, said_by, said_of, units}
-use Rattle.dmis_program.specs.declared.faults.Refusal.TheVariants.{BadArguments, NotMillimetres}
+use Rattle.dmis_program.specs.declared.faults.Refusal.TheVariants.{BadArguments, NoProgMode, NotMillimetres}
 use Rattle.dmis_program.specs.declared.keywords.Keyword.{Keyword}
 use Rattle.dmis_program.specs.declared.keywords.Keyword.TheVariants as word
 use Rattle.dmis_program.specs.declared.sayings.StatementMeaning.TheVariants.{Passes}
@@ -30,45 +32,79 @@ same_front true front r q steps h e = e
 same_front false front (Ok more) q steps h e = rw (h more refl) e
 same_front false front (Err refusal) q steps h e = absurd cc
 
+-- a mode that is accepted is not manual
+same_mode : (params : List (List ℕ)) (m : StatementMeaning) → mode params ≡ Ok m → is_manual params ≡ false
+same_mode [] m h = refl
+same_mode (only ∷ []) m h = go (bytes_eq only (codes "PROG")) refl h
+  where
+    go : (b : Bool) → bytes_eq only (codes "PROG") ≡ b → cond (b || false) (Ok Passes) (Err NoProgMode) ≡ Ok m → bytes_eq only (codes "MAN") ≡ false
+    go false e g = absurd cc
+    go true e g = let is = (bytes_eq-Decides only (codes "PROG")).0 e in rw is refl
+same_mode (first ∷ second ∷ rest) m h = refl
+
+said_mode : (s : Statement) (m : StatementMeaning) → said_of word.Mode s ≡ Ok m → mode s.params ≡ Ok m
+unfolding said_of said_by
+said_mode s m h = go (is_badly_formed word.Mode s) h
+  where
+    go : (b : Bool) → cond b (Err BadArguments) (mode s.params) ≡ Ok m → mode s.params ≡ Ok m
+    go true h = absurd cc
+    go false h = h
+
+by_mode : (s : Statement) (k : Keyword) (m : StatementMeaning) → said_of k s ≡ Ok m → cond (is_mode k) (is_manual s.params) false ≡ false
+by_mode s word.Mode m h = same_mode s.params m (said_mode s m h)
+by_mode s word.Units m h = refl
+by_mode s word.Goto m h = refl
+by_mode s word.Ptmeas m h = refl
+by_mode s word.Dmismn m h = refl
+by_mode s word.Meas m h = refl
+by_mode s word.Endmes m h = refl
+by_mode s word.Snslct m h = refl
+by_mode s word.Recall m h = refl
+by_mode s word.Endfil m h = refl
+by_mode s word.Definition m h = refl
+by_mode s word.Passed m h = refl
+by_mode s word.Unknown m h = refl
+
+-- so nothing that is accepted is left out
+record IsCounted (choices : Choices) (aboves : List Statement) (s : Statement) : Type 0 where
+  mode : in_manual (s ∷ aboves) ≡ false
+  stays : left_out_at choices aboves s ≡ None
+
+no_manual : (a : Bool) (o : Option Reason) → cond (a && false) (Some Manual) o ≡ o
+no_manual true o = refl
+no_manual false o = refl
+
+counted : (frames : List (List ℕ × Point)) (choices : Choices) (aboves : List Statement) (s : Statement) (m : StatementMeaning)
+    → in_manual aboves ≡ false → judged frames (context_at frames aboves) s ≡ Ok m → IsCounted choices aboves s
+counted frames choices aboves s m above e =
+    let a = accepted_if frames (context_at frames aboves) s m e in
+    let here : in_manual (s ∷ aboves) ≡ false = ap (λ (b : Bool). manual_after b s) above ∙ by_mode s (keyword_of s.word) m a.says in
+    record { mode = here; stays = go aboves here (accepted_known frames (context_at frames aboves) s m a) }
+  where
+    go : (aboves : List Statement) → in_manual (s ∷ aboves) ≡ false → is_unknown (keyword_of s.word) ≡ false → left_out_at choices aboves s ≡ None
+    go [] here known = refl
+    go (t ∷ more) here known = rw (here, known) (no_manual choices.skip_manual None)
+
 by_judged : (frames : List (List ℕ × Point)) (choices : Choices) (fault : Option TextFault) (lines : ℕ) (aboves : List Statement) (s : Statement)
     (below : List Statement) (steps : List Step) (r : Result StatementMeaning Refusal) → judged frames (context_at frames aboves) s ≡ r
-    → ((more : List Step) → steps_from frames fault lines (s ∷ aboves) below ≡ Ok more
-    → steps_from frames fault lines (s ∷ aboves) (filter (is_kept choices) below) ≡ Ok more)
+    → in_manual aboves ≡ false
+    → ((more : List Step) → in_manual (s ∷ aboves) ≡ false → steps_from frames fault lines (s ∷ aboves) below ≡ Ok more
+    → steps_from frames fault lines (s ∷ aboves) (kept_below choices (s ∷ aboves) below) ≡ Ok more)
     → continued s.line r (steps_of frames (context_at frames aboves)) (steps_from frames fault lines (s ∷ aboves) below) ≡ Ok steps
-    → steps_from frames fault lines aboves (s ∷ filter (is_kept choices) below) ≡ Ok steps
-by_judged frames choices fault lines aboves s below steps (Err refusal) e behind h = absurd cc
-by_judged frames choices fault lines aboves s below steps (Ok m) e behind h =
-    rw e (same_front (closes m) (steps_of frames (context_at frames aboves) m) (steps_from frames fault lines (s ∷ aboves) below)
-    (steps_from frames fault lines (s ∷ aboves) (filter (is_kept choices) below)) steps behind h)
-
-keeps_known : (frames : List (List ℕ × Point)) (choices : Choices) (aboves : List Statement) (s : Statement) (m : StatementMeaning)
-    → judged frames (context_at frames aboves) s ≡ Ok m → is_kept choices s ≡ true
-keeps_known frames choices aboves s m e =
-    rw (accepted_known frames (context_at frames aboves) s m (accepted_if frames (context_at frames aboves) s m e)) refl
-
-kept_here : (frames : List (List ℕ × Point)) (choices : Choices) (fault : Option TextFault) (lines : ℕ) (aboves : List Statement) (s : Statement)
-    (below : List Statement) (steps : List Step) (r : Result StatementMeaning Refusal) → judged frames (context_at frames aboves) s ≡ r
-    → continued s.line r (steps_of frames (context_at frames aboves)) (steps_from frames fault lines (s ∷ aboves) below) ≡ Ok steps
-    → is_kept choices s ≡ true
-kept_here frames choices fault lines aboves s below steps (Err refusal) e h = absurd cc
-kept_here frames choices fault lines aboves s below steps (Ok m) e h = keeps_known frames choices aboves s m e
+    → steps_from frames fault lines aboves (kept_below choices aboves (s ∷ below)) ≡ Ok steps
+by_judged frames choices fault lines aboves s below steps (Err refusal) e above behind h = absurd cc
+by_judged frames choices fault lines aboves s below steps (Ok m) e above behind h =
+    let c = counted frames choices aboves s m above e in
+    rw (c.stays, e) (same_front (closes m) (steps_of frames (context_at frames aboves) m) (steps_from frames fault lines (s ∷ aboves) below)
+    (steps_from frames fault lines (s ∷ aboves) (kept_below choices (s ∷ aboves) below)) steps (λ more g. behind more c.mode g) h)
 
 all_kept : (frames : List (List ℕ × Point)) (choices : Choices) (fault : Option TextFault) (lines : ℕ) (aboves below : List Statement)
-    (steps : List Step) → steps_from frames fault lines aboves below ≡ Ok steps
-    → steps_from frames fault lines aboves (filter (is_kept choices) below) ≡ Ok steps
-all_kept frames choices fault lines aboves [] steps h = h
-all_kept frames choices fault lines aboves (s ∷ below) steps h =
-    rw (kept_here frames choices fault lines aboves s below steps (judged frames (context_at frames aboves) s) refl h)
-    (by_judged frames choices fault lines aboves s below steps (judged frames (context_at frames aboves) s) refl
-    (λ more g. all_kept frames choices fault lines (s ∷ aboves) below more g) h)
-
-flat_kept : (frames : List (List ℕ × Point)) (choices : Choices) (fault : Option TextFault) (lines : ℕ) (statements : List Statement)
-    (steps : List Step) → steps_from frames fault lines [] statements ≡ Ok steps
-    → steps_from frames fault lines [] (kept choices statements) ≡ Ok steps
-flat_kept frames choices fault lines [] steps h = h
-flat_kept frames choices fault lines (s ∷ below) steps h =
-    by_judged frames choices fault lines [] s below steps (judged frames (context_at frames []) s) refl
-    (λ more g. all_kept frames choices fault lines (s ∷ []) below more g) h
+    (steps : List Step) → in_manual aboves ≡ false → steps_from frames fault lines aboves below ≡ Ok steps
+    → steps_from frames fault lines aboves (kept_below choices aboves below) ≡ Ok steps
+all_kept frames choices fault lines aboves [] steps above h = h
+all_kept frames choices fault lines aboves (s ∷ below) steps above h =
+    by_judged frames choices fault lines aboves s below steps (judged frames (context_at frames aboves) s) refl above
+    (λ more here g. all_kept frames choices fault lines (s ∷ aboves) below more here g) h
 
 -- one line can hold each text for the operator
 abbrev Fit : List Statement → Type 0
@@ -79,18 +115,13 @@ all_fit : (fault : Option TextFault) (statements : List Statement) → Fit state
 all_fit fault [] h = refl
 all_fit fault (s ∷ statements) h = rw (h.0, all_fit fault statements h.1) refl
 
-filter_fits : (choices : Choices) (statements : List Statement) → Fit statements → Fit (filter (is_kept choices) statements)
-filter_fits choices [] h = tt
-filter_fits choices (s ∷ statements) h = go (is_kept choices s) (filter_fits choices statements h.1)
+kept_fits : (choices : Choices) (above statements : List Statement) → Fit statements → Fit (kept_below choices above statements)
+kept_fits choices above [] h = tt
+kept_fits choices above (s ∷ statements) h = go (left_out_at choices above s) (kept_fits choices (s ∷ above) statements h.1)
   where
-    go : (b : Bool) → Fit (filter (is_kept choices) statements)
-        → Fit (cond b (s ∷ filter (is_kept choices) statements) (filter (is_kept choices) statements))
-    go true rest = (h.0, rest)
-    go false rest = rest
-
-kept_fits : (choices : Choices) (statements : List Statement) → Fit statements → Fit (kept choices statements)
-kept_fits choices [] h = tt
-kept_fits choices (s ∷ statements) h = (h.0, filter_fits choices statements h.1)
+    go : (o : Option Reason) → Fit (kept_below choices (s ∷ above) statements) → Fit (unless_left_out o s ++ kept_below choices (s ∷ above) statements)
+    go None rest = (h.0, rest)
+    go (Some reason) rest = rest
 
 -- a unit that is accepted is the millimetre
 same_units : (params : List (List ℕ)) (m : StatementMeaning) → units params ≡ Ok m → (begins_with (codes "INCH") params ≡ false) × (unit_params params ≡ params)
@@ -176,7 +207,7 @@ pub flat_source : (frames : List (List ℕ × Point)) (choices : Choices) (fault
 flat_source frames choices fault lines statements m fit h =
     let found = meant_steps m (steps_from frames fault lines [] statements) h in
     rw (
-      all_fit fault (all_stated [] (kept choices statements)) (stated_fits [] (kept choices statements) (kept_fits choices statements fit)),
-      stated_alike frames fault lines [] [] (kept choices statements) found.0 refl (flat_kept frames choices fault lines statements found.0 found.1),
+      all_fit fault (all_stated [] (kept choices statements)) (stated_fits [] (kept choices statements) (kept_fits choices [] statements fit)),
+      stated_alike frames fault lines [] [] (kept choices statements) found.0 refl (all_kept frames choices fault lines [] statements found.0 refl found.1),
     )
     (ap (λ (all : Meaning). Ok all) (sym found.2))

@@ -3,6 +3,7 @@ use Rattle.program_lowering.proofs.Names.{[], ◌%◌, ◌++◌, ◌/◌, ◌<�
 use Rattle.program_lowering.proofs.Names.{codes, cond, encode_lower, false, head_lines, IsComment, length, length-append, List, list_all}
 use Rattle.program_lowering.proofs.Names.{list_all-append, list_all_at, lower_digits, ltb-true, map, may_stand, Names, nat_lt, nat_tests}
 use Rattle.program_lowering.proofs.Names.{options_text, refl, setup_name, shown_byte, shown_name, slice_index, suc, sym, take, true, zero, ℕ}
+use Rattle.program_lowering.specs.Heads.{option_text, or_none}
 use Rattle.std.specs.Int.{byte_at, bytes_high_first, to_be_bytes, w32}
 use Rattle.sha2.specs.Sha256.{digest_bytes, sha256}
 use Rattle.sha2.proofs.Facts256.{length-sha256}
@@ -73,16 +74,18 @@ digest_clean : (text : List ℕ) → clean (encode_lower (sha256 text)) ≡ true
 digest_clean text = digits_clean (sha256 text) (digest_is_low text)
 
 options_clean : (choices : Choices) → (clean (options_text choices) ≡ true) × (length (options_text choices) ≤ 100)
-options_clean choices = go choices.no_clearing choices.compensated
+options_clean choices = go choices.no_clearing choices.compensated choices.skip_manual
   where
-    go : (a b : Bool) → (clean (cond a (cond b (codes "--no-clearing --compensated") (codes "--no-clearing"))
-        (cond b (codes "--compensated") (codes "none"))) ≡ true)
-        × (length (cond a (cond b (codes "--no-clearing --compensated") (codes "--no-clearing"))
-        (cond b (codes "--compensated") (codes "none"))) ≤ 100)
-    go true true = (refl, omega arith)
-    go true false = (refl, omega arith)
-    go false true = (refl, omega arith)
-    go false false = (refl, omega arith)
+    go : (a b c : Bool) → let text = or_none (option_text a (codes " --no-clearing") ++ (option_text b (codes " --compensated")
+        ++ option_text c (codes " --skip-manual"))) in (clean text ≡ true) × (length text ≤ 100)
+    go true true true = (refl, omega arith)
+    go true true false = (refl, omega arith)
+    go true false true = (refl, omega arith)
+    go true false false = (refl, omega arith)
+    go false true true = (refl, omega arith)
+    go false true false = (refl, omega arith)
+    go false false true = (refl, omega arith)
+    go false false false = (refl, omega arith)
 
 -- a comment of a front and what follows it
 comment : (front rest : List ℕ) → clean front ≡ true → length front ≤ 100 → clean rest ≡ true → length rest ≤ 1000
@@ -106,7 +109,7 @@ are_comments names choices text = (
         comment (codes " setup: ") (shown_name (setup_name names.setup)) refl (omega arith) (name_clean 1000 (setup_name names.setup))
             (name_short 1000 (setup_name names.setup)),
         (
-          comment (codes " options: ") (options_text choices) refl (omega arith) (options_clean choices).0
+          comment (codes " options:") (options_text choices) refl (omega arith) (options_clean choices).0
               (omega (arith, (options_clean choices).1)),
           tt,
         ),

@@ -1,7 +1,8 @@
 -- The laws of whole texts.
-use Rattle.program_lowering.proofs.Names.{[], ◌++◌, ◌+◌, ◌<◌, ◌^◌, ◌∙◌, ◌∷◌, ◌≡◌, ◌≤◌, acts_of, AllByRecursion, ap, arith, Bool, Choices, cond}
-use Rattle.program_lowering.proofs.Names.{ended_lines, false, filter, flat_lines, flat_program, is_kept, IsComment, kept, length, lines, List}
-use Rattle.program_lowering.proofs.Names.{lowered_meaning, Meaning, Ok, Point, program_of, Statement, sym, text_reading, TextsFit, true, ℕ}
+use Rattle.program_lowering.proofs.Names.{[], ◌++◌, ◌+◌, ◌<◌, ◌^◌, ◌∙◌, ◌∷◌, ◌≡◌, ◌≤◌, acts_of, AllByRecursion, ap, arith, Choices}
+use Rattle.program_lowering.proofs.Names.{ended_lines, flat_lines, flat_program, IsComment, kept, kept_below, left_out_at, length, lines, List}
+use Rattle.program_lowering.proofs.Names.{lowered_meaning, Meaning, None, Ok, Option, Point, program_of, Reason, Some, Statement, sym, text_reading, TextsFit, unless_left_out}
+use Rattle.program_lowering.proofs.Names.{ℕ}
 use Rattle.dmis_text.specs.Numbers.{AreNumbered}
 use Rattle.dmis_text.proofs.NumberLaws.{numbered_is}
 use Rattle.dmis_program.specs.Meaning.{meaning_of}
@@ -10,26 +11,24 @@ use Rattle.program_lowering.proofs.LineCounts.{lines_few}
 use Rattle.program_lowering.proofs.ReadBackLemmas.{HasShortLine, acts_back, reads_back}
 use Rattle.program_lowering.proofs.RunLemmas.{ended_append}
 use Rattle.program_lowering.specs.Inches.{all_stated}
+use Rattle.program_lowering.proofs.Names.{◌&&◌, Bool, cond, false, has_open_text, in_manual, is_skipped, keyword_of, left_out, refl, true}
+use Rattle.program_lowering.specs.declared.words.Reason.TheVariants.{Manual}
+use Rattle.dmis_program.specs.declared.keywords.Keyword.TheVariants as word
 
 -- the numbers of lines are small where the text has few lines
 numbers_short : (from to : ℕ) (statements : List Statement) → to ≤ 2 ^ 64 → AreNumbered from to statements → AllByRecursion HasShortLine statements
 numbers_short from to [] few h = tt
 numbers_short from to (s ∷ statements) few h = (omega (arith, few, h.1), numbers_short (s.line + 1) to statements few h.2)
 
-filter_short : (choices : Choices) (statements : List Statement) → AllByRecursion HasShortLine statements
-    → AllByRecursion HasShortLine (filter (is_kept choices) statements)
-filter_short choices [] h = tt
-filter_short choices (s ∷ statements) h = go (is_kept choices s) (filter_short choices statements h.1)
+kept_short : (choices : Choices) (above statements : List Statement) → AllByRecursion HasShortLine statements
+    → AllByRecursion HasShortLine (kept_below choices above statements)
+kept_short choices above [] h = tt
+kept_short choices above (s ∷ statements) h = go (left_out_at choices above s) (kept_short choices (s ∷ above) statements h.1)
   where
-    go : (b : Bool) → AllByRecursion HasShortLine (filter (is_kept choices) statements)
-        → AllByRecursion HasShortLine (cond b (s ∷ filter (is_kept choices) statements) (filter (is_kept choices) statements))
-    go true rest = (h.0, rest)
-    go false rest = rest
-
-kept_short : (choices : Choices) (statements : List Statement) → AllByRecursion HasShortLine statements
-    → AllByRecursion HasShortLine (kept choices statements)
-kept_short choices [] h = tt
-kept_short choices (s ∷ statements) h = (h.0, filter_short choices statements h.1)
+    go : (o : Option Reason) → AllByRecursion HasShortLine (kept_below choices (s ∷ above) statements)
+        → AllByRecursion HasShortLine (unless_left_out o s ++ kept_below choices (s ∷ above) statements)
+    go None rest = (h.0, rest)
+    go (Some reason) rest = rest
 
 stated_short : (sources statements : List Statement) → AllByRecursion HasShortLine statements → AllByRecursion HasShortLine (all_stated sources statements)
 stated_short sources [] h = tt
@@ -43,7 +42,7 @@ programs_read_back frames choices text heads m few comments h =
     let short = numbers_short 1 (1 + length (lines text)) (text_reading text).statements (omega (arith, few, lines_few text)) (numbered_is 1 (lines text)).0 in
     ap (λ (t : List ℕ). program_of frames t) (sym (ended_append heads (flat_lines (all_stated [] (kept choices (text_reading text).statements)))))
     ∙ reads_back frames (text_reading text).fault (length (lines text)) (all_stated [] (kept choices (text_reading text).statements)) heads m
-    (stated_short [] (kept choices (text_reading text).statements) (kept_short choices (text_reading text).statements short)) comments h
+    (stated_short [] (kept choices (text_reading text).statements) (kept_short choices [] (text_reading text).statements short)) comments h
 
 pub texts_stay : (frames : List (List ℕ × Point)) (choices : Choices) (text : List ℕ) (heads : List (List ℕ)) (m : Meaning)
     → length text < 2 ^ 64 → AllByRecursion IsComment heads → lowered_meaning frames choices text ≡ Ok m
@@ -54,10 +53,24 @@ texts_stay frames choices text heads m few comments h =
     let short = numbers_short 1 (1 + length (lines text)) (text_reading text).statements (omega (arith, few, lines_few text)) (numbered_is 1 (lines text)).0 in
     ap (λ (t : List ℕ). acts_of frames (text_reading t).statements) (sym (ended_append heads (flat_lines (all_stated [] (kept choices (text_reading text).statements)))))
     ∙ acts_back frames (text_reading text).fault (length (lines text)) (all_stated [] (kept choices (text_reading text).statements)) heads m
-    (stated_short [] (kept choices (text_reading text).statements) (kept_short choices (text_reading text).statements short)) comments h
+    (stated_short [] (kept choices (text_reading text).statements) (kept_short choices [] (text_reading text).statements short)) comments h
 
 pub sources_keep : (frames : List (List ℕ × Point)) (choices : Choices) (text : List ℕ) (m : Meaning) → TextsFit text → program_of frames text ≡ Ok m
     → lowered_meaning frames choices text ≡ Ok m
 unfolding meaning_of
 sources_keep frames choices text m fit h =
     flat_source frames choices (text_reading text).fault (length (lines text)) (text_reading text).statements m fit h
+
+-- manual blocks
+pub touches_skipped : (choices : Choices) (t s : Statement) (above : List Statement) → choices.skip_manual ≡ true
+    → in_manual (s ∷ t ∷ above) ≡ true → keyword_of s.word ≡ word.Ptmeas → s.label ≡ None → has_open_text s ≡ false
+    → left_out_at choices (t ∷ above) s ≡ Some Manual
+touches_skipped choices t s above asked manual touch bare closed = rw (asked, manual, touch, bare, closed) refl
+
+pub others_stay : (choices : Choices) (t s : Statement) (above : List Statement) → in_manual (s ∷ t ∷ above) ≡ false
+    → left_out_at choices (t ∷ above) s ≡ left_out choices s
+others_stay choices t s above h = go choices.skip_manual
+  where
+    go : (asked : Bool) → cond (asked && is_skipped (in_manual (s ∷ t ∷ above)) s) (Some Manual) (left_out choices s) ≡ left_out choices s
+    go true = rw h refl
+    go false = refl

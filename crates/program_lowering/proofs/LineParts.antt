@@ -52,12 +52,12 @@ pub head_is : (names : Names) (choices : Choices) (source none one two three fou
     → two ≡ one ++ ended (codes "$$ source: " ++ program)
     → three ≡ two ++ ended (codes "$$ SHA-256 of the source: " ++ digest)
     → four ≡ three ++ ended (codes "$$ setup: " ++ setup)
-    → last ≡ four ++ ended (codes "$$ options: " ++ options)
+    → last ≡ four ++ ended (codes "$$ options:" ++ options)
     → last ≡ ended_lines (head_lines names choices source)
 head_is names choices source none one two three four last program digest setup options is p d s o a b c e f =
     rw (f, e, c, b, a, is, p, d, s, o) (five (ended (codes "$$ flat program, written by dme lower")) (ended (codes "$$ source: " ++ shown_name names.program))
     (ended (codes "$$ SHA-256 of the source: " ++ encode_lower (sha256 source))) (ended (codes "$$ setup: " ++ shown_name (setup_name names.setup)))
-    (ended (codes "$$ options: " ++ options_text choices)))
+    (ended (codes "$$ options:" ++ options_text choices)))
 
 -- a text for the operator
 pub text_line_is : (s : Statement) (m : StatementMeaning) (old middle new : List ℕ) → is_operator_text s ≡ true

@@ -37,8 +37,9 @@ pub use Rattle.program_lowering.specs.Carried.{nothing_carried, some_tool, step,
 pub use Rattle.program_lowering.specs.Flats.{after_word, components, Flat, flat, flat_line, flat_passed, flat_said, flat_text, kind_of, line_end}
 pub use Rattle.program_lowering.specs.Flats.{place, text_for, with_commas, within}
 pub use Rattle.program_lowering.specs.Heads.{head_lines, IsComment, Names, names_of, options_text, setup_name, shown_byte, shown_name, whole_text}
-pub use Rattle.program_lowering.specs.Lowering.{ended_lines, flat_lines, flat_program, is_closing, is_kept, kept, line_for, lowered_meaning, note_for}
-pub use Rattle.program_lowering.specs.Lowering.{note_start, notes_from, passed_over}
+pub use Rattle.program_lowering.specs.Lowering.{ended_lines, flat_lines, flat_program, is_closing, kept, kept_below, left_out_at, left_out_in, line_for}
+pub use Rattle.program_lowering.specs.Lowering.{lowered_meaning, note_for, note_start, notes_from, passed_over, unless_left_out}
+pub use Rattle.program_lowering.specs.Manual.{in_manual, is_skipped, manual_after, measures}
 pub use Rattle.program_lowering.specs.OperatorTexts.{as_read, before_refused, fault_for, flat_meant, is_outer, is_plain}
 pub use Rattle.program_lowering.specs.OperatorTexts.{line_refusal, marked, text_refusal, TextsFit, up_to_refused}
 pub use Rattle.program_review.specs.Texts.{is_operator_text}

@@ -119,19 +119,23 @@ nothing_noted s (Ok said.Closes) moved = refl
 nothing_noted s (Ok said.Passes) moved = rw (no_text s moved) (no_reason (keyword_of s.word) s.word moved)
 nothing_noted s (Err e) moved = refl
 
-closes_not : (k : Keyword) (m : StatementMeaning) → IsMoved k → SaidBy k m → closes m ≡ false
-closes_not k (said.Goes target) moved h = refl
-closes_not k (said.Begins name count) moved h = refl
-closes_not k (said.Touches target direction) moved h = refl
-closes_not k said.Ends moved h = refl
-closes_not k (said.Selects name) moved h = refl
-closes_not k (said.Recalls name) moved h = refl
-closes_not k said.Closes moved h = absurd (ends_not k moved h)
-closes_not k said.Passes moved h = refl
+closes_not : (k : Keyword) (m : StatementMeaning) → (k ≡ word.Endfil → ⊥) → SaidBy k m → closes m ≡ false
+closes_not k (said.Goes target) other h = refl
+closes_not k (said.Begins name count) other h = refl
+closes_not k (said.Touches target direction) other h = refl
+closes_not k said.Ends other h = refl
+closes_not k (said.Selects name) other h = refl
+closes_not k (said.Recalls name) other h = refl
+closes_not k said.Closes other h = absurd (other h)
+closes_not k said.Passes other h = refl
 
-no_end : (s : Statement) (r : Result StatementMeaning Refusal) → saying s ≡ r → IsMoved (keyword_of s.word) → is_closing r ≡ false
-no_end s (Ok m) e moved = closes_not (keyword_of s.word) m moved (says (keyword_of s.word) s m e)
-no_end s (Err refusal) e moved = refl
+no_end : (s : Statement) (r : Result StatementMeaning Refusal) → saying s ≡ r → (keyword_of s.word ≡ word.Endfil → ⊥) → is_closing r ≡ false
+no_end s (Ok m) e other = closes_not (keyword_of s.word) m other (says (keyword_of s.word) s m e)
+no_end s (Err refusal) e other = refl
+
+-- only `ENDFIL` closes a program
+pub closes_nothing : (s : Statement) → (keyword_of s.word ≡ word.Endfil → ⊥) → is_closing (saying s) ≡ false
+closes_nothing s other = no_end s (saying s) refl other
 
 pub record NotedAlike (s : Statement) (m : StatementMeaning) : Type 0 where
   pub notes : passed_over s (saying s) ≡ passed_over s (Ok m)
@@ -146,5 +150,6 @@ noted_same b s m h = go (stated_or b s)
         record { notes = ap (passed_over s) says; ends = ap is_closing says }
     go (inr moved) = record {
       notes = nothing_noted s (saying s) moved ∙ sym (nothing_noted s (Ok m) moved);
-      ends = no_end s (saying s) refl moved ∙ sym (closes_not (keyword_of s.word) m moved (says (keyword_of s.word) (stated b s) m h));
+      ends = closes_nothing s (ends_not (keyword_of s.word) moved)
+          ∙ sym (closes_not (keyword_of s.word) m (ends_not (keyword_of s.word) moved) (says (keyword_of s.word) (stated b s) m h));
     }

@@ -15,10 +15,10 @@ use Rattle.dmis_program.specs.declared.faults.StatementFault.TheVariants as faul
 use Rattle.dmis_program.specs.declared.faults.ProgramFault.{ProgramFault}
 use Rattle.dmis_program.specs.declared.sayings.StatementMeaning.{StatementMeaning}
 use Rattle.dmis_program.specs.declared.sayings.StatementMeaning.TheVariants as said
-use Rattle.program_lowering.specs.Words.{left_out}
+use Rattle.program_lowering.specs.Manual.{manual_after}
 use Rattle.program_lowering.specs.Inches.{inches_after, said_stated}
 use Rattle.program_lowering.specs.OperatorTexts.{flat_meant, text_refusal}
-use Rattle.program_lowering.specs.Lowering.{ended_lines, flat_program, line_for, lowered_meaning, note_for, notes_of, passed_over}
+use Rattle.program_lowering.specs.Lowering.{ended_lines, flat_program, left_out_in, line_for, lowered_meaning, note_for, notes_of, passed_over}
 use Rattle.program_lowering.specs.Lowered.{Refuses}
 use Rattle.program_lowering.specs.declared.above.Above.{Above}
 use Rattle.program_lowering.specs.declared.lowering.Lowered.{Lowered}
@@ -69,27 +69,29 @@ after_said above _ = one_more above
 pub record Carried : Type 0 where
   pub above : Above
   pub inches : Bool
+  pub manual : Bool
   pub text : List ℕ
   pub notes : List ℕ
 
 abbrev pub nothing_carried : Carried
-nothing_carried = record { above = none_above; inches = false; text = []; notes = [] }
+nothing_carried = record { above = none_above; inches = false; manual = false; text = []; notes = [] }
 
 -- after a statement that is left out, and after one that says this
 abbrev pub noted : Carried → Statement → Option Reason → Carried
-noted c s reason = record c { notes = c.notes ++ note_for s reason }
+noted c s reason = record c { manual = manual_after c.manual s; notes = c.notes ++ note_for s reason }
 
 abbrev pub followed : Carried → Statement → StatementMeaning → Carried
 followed c s meaning = record {
   above = after_said c.above meaning;
   inches = inches_after c.inches s;
+  manual = manual_after c.manual s;
   text = c.text ++ ended_lines (line_for s.line (flat_meant s meaning));
   notes = c.notes ++ note_for s (passed_over s (Ok meaning));
 }
 
 -- the first statement is never left out
-abbrev pub left_out_after : Choices → ℕ → Statement → Option Reason
-left_out_after choices number s = if number == 0 then None else left_out choices s
+abbrev pub left_out_after : Choices → ℕ → Bool → Statement → Option Reason
+left_out_after choices number manual s = if number == 0 then None else left_out_in choices manual s
 
 abbrev pub stepped : List (List ℕ × Point) → Carried → Statement → Option Reason → Result (Bool × Carried) Refusal
 stepped frames c s (Some reason) = Ok (false, noted c s (Some reason))
@@ -97,7 +99,7 @@ stepped frames c s None = refused_by (text_refusal s) (due frames c.above c.inch
 
 -- after a statement: whether the program ends there, and what is carried on; or the refusal that is due
 abbrev pub step : List (List ℕ × Point) → Choices → Carried → Statement → Result (Bool × Carried) Refusal
-step frames choices c s = stepped frames c s (left_out_after choices c.above.number s)
+step frames choices c s = stepped frames c s (left_out_after choices c.above.number (manual_after c.manual s) s)
 
 -- what a call gives and leaves is what is due, unless memory ran out
 abbrev pub GivesStep : Result Bool StatementFault → Carried → Result (Bool × Carried) Refusal → Type 0

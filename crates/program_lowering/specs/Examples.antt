@@ -1,14 +1,14 @@
 -- What the examples of this crate speak of.
-use Rattle.std.specs.Prelude.{ℕ, List, [], ◌∷◌, codes, true, false, None}
+use Rattle.std.specs.Prelude.{ℕ, List, [], ◌∷◌, ◌++◌, codes, true, false, None}
 use Rattle.dmis_text.specs.declared.elements.Statement.{Statement}
 use Rattle.program_lowering.specs.declared.words.Choices.{Choices}
 
 -- nothing is left out besides what measures and moves nothing; and all that may be
 abbrev pub plain_choices : Choices
-plain_choices = record { no_clearing = false; compensated = false }
+plain_choices = record { no_clearing = false; compensated = false; skip_manual = false }
 
 abbrev pub all_choices : Choices
-all_choices = record { no_clearing = true; compensated = true }
+all_choices = record { no_clearing = true; compensated = true; skip_manual = true }
 
 -- a statement without a label
 abbrev pub bare : List ℕ → List (List ℕ) → Statement
@@ -17,3 +17,22 @@ bare word params = record { line = 1; label = None; word = word; params = params
 -- a text for the operator
 abbrev pub to_operator : Statement
 to_operator = bare (codes "TEXT") (codes "OPER" ∷ codes "'Turn, then /go'" ∷ [])
+
+-- a program whose first feature is measured by the operator
+abbrev pub manual_front : List Statement
+manual_front = bare (codes "TEXT") (codes "OPER" ∷ []) ∷ bare (codes "SNSLCT") (codes "S(A)" ∷ []) ∷ bare (codes "FEAT") (codes "POINT" ∷ []) ∷ []
+
+abbrev pub measured : List Statement
+measured = bare (codes "MEAS") (codes "POINT" ∷ []) ∷ bare (codes "GOTO") (codes "1" ∷ []) ∷ bare (codes "PTMEAS") (codes "CART" ∷ []) ∷ bare (codes "ENDMES") [] ∷ []
+
+abbrev pub start : Statement
+start = bare (codes "DMISMN") []
+
+abbrev pub mode_man : Statement
+mode_man = bare (codes "MODE") (codes "MAN" ∷ [])
+
+abbrev pub mode_prog : Statement
+mode_prog = bare (codes "MODE") (codes "PROG" ∷ codes "MAN" ∷ [])
+
+abbrev pub first_by_hand : List Statement
+first_by_hand = start ∷ mode_man ∷ (manual_front ++ (measured ++ (mode_prog ∷ measured)))

@@ -1,5 +1,5 @@
 -- The comments before a flat program: what it was written of, and how (this profile).
-use Rattle.std.specs.Prelude.{◌≡◌, ℕ, ◌≤◌, true, List, [], ◌∷◌, ◌++◌, length, map, take, codes, if◌then◌else◌}
+use Rattle.std.specs.Prelude.{◌≡◌, ℕ, ◌≤◌, true, List, [], ◌∷◌, ◌++◌, length, map, take, codes, Bool, if◌then◌else◌}
 use Rattle.std.specs.List.{list_all}
 use Rattle.sha2.specs.Sha256.{sha256}
 use Rattle.hex.specs.Hex.{encode_lower}
@@ -34,11 +34,20 @@ abbrev pub setup_name : List ℕ → List ℕ
 setup_name [] = codes "none"
 setup_name (c ∷ cs) = c ∷ cs
 
--- the options that were given
+-- the options that were given, each after a blank
+abbrev pub option_text : Bool → List ℕ → List ℕ
+option_text given name = if given then name else []
+
+abbrev pub given_options : Choices → List ℕ
+given_options choices = option_text choices.no_clearing (codes " --no-clearing") ++ (option_text choices.compensated (codes " --compensated")
+    ++ option_text choices.skip_manual (codes " --skip-manual"))
+
+abbrev pub or_none : List ℕ → List ℕ
+or_none [] = codes " none"
+or_none (c ∷ cs) = c ∷ cs
+
 abbrev pub options_text : Choices → List ℕ
-options_text choices =
-    if choices.no_clearing then (if choices.compensated then codes "--no-clearing --compensated" else codes "--no-clearing")
-    else (if choices.compensated then codes "--compensated" else codes "none")
+options_text choices = or_none (given_options choices)
 
 abbrev pub head_lines : Names → Choices → List ℕ → List (List ℕ)
 head_lines names choices text =
@@ -46,7 +55,7 @@ head_lines names choices text =
     ∷ (codes "$$ source: " ++ shown_name names.program)
     ∷ (codes "$$ SHA-256 of the source: " ++ encode_lower (sha256 text))
     ∷ (codes "$$ setup: " ++ shown_name (setup_name names.setup))
-    ∷ (codes "$$ options: " ++ options_text choices)
+    ∷ (codes "$$ options:" ++ options_text choices)
     ∷ []
 
 -- the flat program with its head

@@ -1,5 +1,6 @@
 pub mod Words
 pub mod Reasons
+pub mod Manual
 pub mod Flats
 pub mod OperatorTexts
 pub mod Inches

@@ -1,17 +1,18 @@
 -- The flat program that a program stands for, and what was decided about it (this profile).
-use Rattle.std.specs.Prelude.{ℕ, Bool, false, List, [], ◌∷◌, ◌++◌, length, codes, decimal, filter, flat_map, Option, Some, None}
-use Rattle.std.specs.Prelude.{Result, Ok, Err, is_none, if◌then◌else◌}
+use Rattle.std.specs.Prelude.{ℕ, Bool, false, List, [], ◌∷◌, ◌++◌, length, codes, decimal, flat_map, Option, Some, None}
+use Rattle.std.specs.Prelude.{Result, Ok, Err, ◌&&◌, if◌then◌else◌}
 use Rattle.std.specs.Str.Lines.{lines}
 use Rattle.dmis_text.specs.Reading.{Reading, text_reading}
 use Rattle.dmis_text.specs.declared.elements.Statement.{Statement}
 use Rattle.fixed_um.specs.declared.lengths.Point.{Point}
 use Rattle.dmis_program.specs.Keywords.{keyword_of}
-use Rattle.dmis_program.specs.LookBack.{saying}
+use Rattle.dmis_program.specs.LookBack.{or_else, saying}
 use Rattle.dmis_program.specs.Meaning.{Meaning, closes, meaning_of}
 use Rattle.dmis_program.specs.declared.faults.Refusal.{Refusal}
 use Rattle.dmis_program.specs.declared.sayings.StatementMeaning.{StatementMeaning}
 use Rattle.dmis_program.specs.declared.sayings.StatementMeaning.TheVariants as said
-use Rattle.program_lowering.specs.Words.{left_out, is_unknown, passed_reason}
+use Rattle.program_lowering.specs.Words.{left_out, passed_reason}
+use Rattle.program_lowering.specs.Manual.{in_manual, is_skipped}
 use Rattle.program_lowering.specs.Flats.{Flat, flat_line}
 use Rattle.program_review.specs.Texts.{is_operator_text}
 use Rattle.program_lowering.specs.Inches.{all_stated}
@@ -19,14 +20,28 @@ use Rattle.program_lowering.specs.OperatorTexts.{flat_meant, up_to_refused}
 use Rattle.program_lowering.specs.Reasons.{reason_text}
 use Rattle.program_lowering.specs.declared.words.Choices.{Choices}
 use Rattle.program_lowering.specs.declared.words.Reason.{Reason}
+use Rattle.program_lowering.specs.declared.words.Reason.TheVariants.{Manual}
 
--- the statements that count: the first, which begins the program, and of the others those that are not left out
-abbrev pub is_kept : Choices → Statement → Bool
-is_kept choices s = is_none (left_out choices s)
+-- why a statement is left out, where the operator measures or not
+abbrev pub left_out_in : Choices → Bool → Statement → Option Reason
+left_out_in choices manual s = if choices.skip_manual && is_skipped manual s then Some Manual else left_out choices s
+
+-- likewise by those above it. The first, which begins the program, is never left out
+abbrev pub left_out_at : Choices → List Statement → Statement → Option Reason
+left_out_at choices [] s = None
+left_out_at choices (t ∷ above) s = left_out_in choices (in_manual (s ∷ (t ∷ above))) s
+
+-- the statements that count: those that are not left out
+abbrev pub unless_left_out : Option Reason → Statement → List Statement
+unless_left_out None s = s ∷ []
+unless_left_out (Some reason) s = []
+
+abbrev pub kept_below : Choices → List Statement → List Statement → List Statement
+kept_below choices above [] = []
+kept_below choices above (s ∷ statements) = unless_left_out (left_out_at choices above s) s ++ kept_below choices (s ∷ above) statements
 
 abbrev pub kept : Choices → List Statement → List Statement
-kept choices [] = []
-kept choices (s ∷ statements) = s ∷ filter (is_kept choices) statements
+kept choices statements = kept_below choices [] statements
 
 -- each in millimetres, up to a text for the operator that one line cannot hold
 abbrev pub kept_reading : Choices → Reading → Reading
@@ -72,8 +87,8 @@ abbrev pub passed_over : Statement → Result StatementMeaning Refusal → Optio
 passed_over s (Ok said.Passes) = if is_operator_text s then None else passed_reason (keyword_of s.word) s.word
 passed_over s _ = None
 
-abbrev pub unwritten : Choices → Statement → Option Reason
-unwritten choices s = if is_unknown (keyword_of s.word) then left_out choices s else passed_over s (saying s)
+abbrev pub unwritten : Choices → List Statement → Statement → Option Reason
+unwritten choices above s = or_else (left_out_at choices above s) (passed_over s (saying s))
 
 -- the line that says so
 unfoldable pub note_start : Statement → List ℕ
@@ -84,9 +99,10 @@ note_for s None = []
 note_for s (Some reason) = note_start s ++ ended (codes " is left out: " ++ reason_text reason)
 
 -- one for each such statement, up to the one that closes the program
-abbrev pub notes_from : Choices → List Statement → List ℕ
-notes_from choices [] = []
-notes_from choices (s ∷ statements) = note_for s (unwritten choices s) ++ (if is_closing (saying s) then [] else notes_from choices statements)
+abbrev pub notes_from : Choices → List Statement → List Statement → List ℕ
+notes_from choices above [] = []
+notes_from choices above (s ∷ statements) =
+    note_for s (unwritten choices above s) ++ (if is_closing (saying s) then [] else notes_from choices (s ∷ above) statements)
 
 abbrev pub notes_of : Choices → List ℕ → List ℕ
-notes_of choices text = notes_from choices (text_reading text).statements
+notes_of choices text = notes_from choices [] (text_reading text).statements

@@ -2,7 +2,7 @@
 use Rattle.std.specs.Prelude.{List, ℕ, codes}
 use Rattle.program_lowering.specs.declared.words.Reason.{Reason}
 use Rattle.program_lowering.specs.declared.words.Reason.TheVariants.{Printing, Naming, Evaluating, Motion, Clearing, Uncompensated}
-use Rattle.program_lowering.specs.declared.words.Reason.TheVariants.{Compensated, Passed}
+use Rattle.program_lowering.specs.declared.words.Reason.TheVariants.{Compensated, Manual, Passed}
 
 abbrev pub reason_text : Reason → List ℕ
 reason_text Printing = codes "it says what is printed or shown, and where"
@@ -12,4 +12,5 @@ reason_text Motion = codes "a setting of motion or probing; the machine keeps it
 reason_text Clearing = codes "it clears the part between features; nothing moves there by itself"
 reason_text Uncompensated = codes "nothing is corrected for temperature"
 reason_text Compensated = codes "the machine corrects for temperature"
+reason_text Manual = codes "it is in a manual block; the operator would carry it out"
 reason_text Passed = codes "it commands nothing"

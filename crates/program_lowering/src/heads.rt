@@ -1,9 +1,9 @@
 // The comments before a flat program.
 
-ghost use Rattle.std.specs.Prelude.{◌≡◌, ◌++◌, IfOk, string_bytes};
+ghost use Rattle.std.specs.Prelude.{◌≡◌, ◌++◌, IfOk, OnOk, string_bytes};
 ghost use Rattle.hex.specs.Hex.{encode_lower};
 ghost use Rattle.sha2.specs.Sha256.{sha256};
-ghost use Rattle.program_lowering.specs.Heads.{head_lines, names_of, options_text, setup_name, shown_byte, shown_name};
+ghost use Rattle.program_lowering.specs.Heads.{given_options, head_lines, names_of, option_text, or_none, setup_name, shown_byte, shown_name};
 ghost use Rattle.program_lowering.specs.Lowering.{ended_lines};
 
 use crate::flats::{front, push_named};
@@ -59,15 +59,34 @@ fn digest_of(alloc: Global, text: &[u8]) -> Result<String, AllocError>
     hex::encode(alloc, digest)
 }
 
-/// The options that were given.
-fn options_text(choices: Choices) -> &'static [u8]
-    ensures { result.now ≡ options_text choices }
+/// Appends the name of an option, if it was given.
+fn push_option(out: &mut Vec<u8>, given: bool, name: &[u8]) -> Result<(), AllocError>
+    ensures { OnOk result (out.new.items ≡ out.old.items ++ option_text given name.now) }
 {
-    match (choices.no_clearing, choices.compensated) {
-        (true, true) => b"--no-clearing --compensated",
-        (true, false) => b"--no-clearing",
-        (false, true) => b"--compensated",
-        (false, false) => b"none",
+    if given {
+        out.extend_from_slice(name)?;
+    }
+    Ok(())
+}
+
+/// The options that were given, each after a blank.
+fn given_options(alloc: Global, choices: Choices) -> Result<Vec<u8>, AllocError>
+    ensures { IfOk result (λ text. text.items ≡ given_options choices) }
+{
+    let mut text = Vec::new(alloc);
+    push_option(&mut text, choices.no_clearing, b" --no-clearing")?;
+    push_option(&mut text, choices.compensated, b" --compensated")?;
+    push_option(&mut text, choices.skip_manual, b" --skip-manual")?;
+    Ok(text)
+}
+
+/// These options, or that there are none.
+fn or_none(options: &[u8]) -> &[u8]
+    ensures { result.now ≡ or_none options.now }
+{
+    match options {
+        [] => b" none",
+        _ => options,
     }
 }
 
@@ -84,12 +103,13 @@ fn head(
     let program = shown_name(alloc, names.program.as_bytes())?;
     let digest = digest_of(alloc, source)?;
     let setup = shown_name(alloc, setup_name(names.setup.as_bytes()))?;
+    let options = given_options(alloc, choices)?;
     let mut head = Vec::new(alloc);
     push_named(&mut head, b"$$ flat program, written by dme lower", b"")?;
     push_named(&mut head, b"$$ source: ", program.as_slice())?;
     push_named(&mut head, b"$$ SHA-256 of the source: ", digest.as_bytes())?;
     push_named(&mut head, b"$$ setup: ", setup.as_slice())?;
-    push_named(&mut head, b"$$ options: ", options_text(choices))?;
+    push_named(&mut head, b"$$ options:", or_none(options.as_slice()))?;
     Ok(head)
 }
 

@@ -9,12 +9,17 @@ ghost use Rattle.dmis_program.specs.Meaning.{Meaning, program_of};
 ghost use Rattle.dmis_text.specs.Reading.{text_reading};
 ghost use Rattle.program_lowering.specs.Acts.{acts_of};
 ghost use Rattle.program_lowering.specs.Heads.{IsComment, Names, head_lines};
-ghost use Rattle.program_lowering.specs.Lowering.{ended_lines, flat_program, kept, lowered_meaning, passed_over};
+ghost use Rattle.dmis_program.specs.Keywords.{keyword_of};
+ghost use Rattle.dmis_program.specs.declared.keywords.Keyword.TheVariants.{Ptmeas};
+ghost use Rattle.dmis_text.specs.Statements.{has_open_text};
+ghost use Rattle.dmis_text.specs.declared.elements.Statement.{Statement};
+ghost use Rattle.program_lowering.specs.Lowering.{ended_lines, flat_program, kept, left_out_at, lowered_meaning, passed_over};
+ghost use Rattle.program_lowering.specs.Manual.{in_manual, is_skipped};
 ghost use Rattle.fixed_um.specs.Limits.{component_limit};
 ghost use Rattle.fixed_um.specs.Numerals.{IsRounded, Reads, signed};
 ghost use Rattle.dmis_program.specs.Positions.{length_of};
 ghost use Rattle.program_lowering.specs.Inches.{all_stated, in_inches, in_millimetres, inch_length, stated};
-ghost use Rattle.program_lowering.specs.Examples.{all_choices, bare, plain_choices, to_operator};
+ghost use Rattle.program_lowering.specs.Examples.{all_choices, bare, first_by_hand, manual_front, measured, mode_man, mode_prog, plain_choices, start, to_operator};
 ghost use Rattle.program_lowering.specs.Flats.{flat, flat_text};
 ghost use Rattle.program_review.specs.Texts.{is_operator_text};
 ghost use Rattle.program_lowering.specs.OperatorTexts.{TextsFit, flat_meant, text_refusal};
@@ -62,6 +67,31 @@ pub fn examples_of_units()
         ∷ (bare (codes "UNITS") (codes "INCH" ∷ []) ∷ [])) ≡ false }
     ensures polar { (stated true (bare (codes "GOTO") (codes "POL" ∷ (codes "1" ∷ [])))).params
         ≡ codes "POL" ∷ (codes "1" ∷ []) }
+{}
+
+/// Where the operator would measure, no touch stays, if it is asked for; elsewhere a statement is left out for itself alone.
+pub fn manual_blocks_alone_are_skipped()
+    ensures touches { (choices : Choices) (t s : Statement) (above : List Statement)
+        → choices.skip_manual ≡ true → in_manual (s ∷ (t ∷ above)) ≡ true
+        → keyword_of s.word ≡ Ptmeas → s.label ≡ None → has_open_text s ≡ false
+        → left_out_at choices (t ∷ above) s ≡ Some reason.Manual }
+    ensures others { (choices : Choices) (t s : Statement) (above : List Statement)
+        → in_manual (s ∷ (t ∷ above)) ≡ false
+        → left_out_at choices (t ∷ above) s ≡ left_out choices s }
+{}
+
+/// Examples: a manual block, what stays of it, and what is below it.
+pub fn examples_of_manual_blocks()
+    ensures skipped { kept all_choices first_by_hand
+        ≡ start ∷ (manual_front ++ (mode_prog ∷ measured)) }
+    ensures unasked { kept plain_choices first_by_hand ≡ first_by_hand }
+    ensures again { in_manual (bare (codes "ENDMES") [] ∷ (mode_man ∷ (mode_prog ∷ []))) ≡ true }
+    ensures ended { in_manual (bare (codes "GOTO") [] ∷ (mode_prog ∷ (mode_man ∷ []))) ≡ false }
+    ensures automatic { in_manual (bare (codes "MODE") (codes "AUTO" ∷ (codes "MAN" ∷ [])) ∷ [])
+        ≡ false }
+    ensures scanned { is_skipped true (bare (codes "SCAN") []) ≡ true }
+    ensures looped { is_skipped true (bare (codes "DO") []) ≡ false }
+    ensures open { is_skipped true (bare (codes "GOTO") (codes "'A" ∷ [])) ≡ false }
 {}
 
 /// The head of a flat program is comments alone.

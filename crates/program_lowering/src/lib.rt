@@ -4,6 +4,7 @@
 //! - `flats`: the statement that is written for one that commands something
 //! - `lines`: the line that is written of a statement; texts for the operator are written as they are read
 //! - `inches`: what a statement says whose lengths are in inches
+//! - `manual`: what is left to the operator
 //! - `heads`: the comments before a flat program
 //! - `above`: what the statements above leave for the one that is judged
 //! - `lowering`: `lower`, the flat program of a text, or its first refusal; `laws`: what follows from the definitions
@@ -19,6 +20,7 @@ mod inches;
 pub mod laws;
 mod lines;
 mod lowering;
+mod manual;
 mod orders;
 mod words;
 

@@ -16,6 +16,7 @@ use crate::flats::{push_named, push_number};
 use crate::heads::{SourceNames, with_head};
 use crate::inches::inches_after;
 use crate::lines::{is_operator_text, push_line, text_refusal};
+use crate::manual::{is_skipped, manual_after};
 use crate::words::{Choices, Reason, left_out, passed_reason, reason_text};
 use dmis_program::{
     Frames, Keyword, ProgramFault, Refusal, StatementFault, StatementMeaning, keyword_of_word,
@@ -39,6 +40,7 @@ struct Lowering {
     alloc: Global,
     above: Above,
     inches: bool,
+    manual: bool,
     text: Vec<u8>,
     notes: Vec<u8>,
 }
@@ -49,7 +51,7 @@ impl Model for Lowering {
 
     ghost Value = { Carried };
 
-    ghost view = { λ l. record { above = l.above; inches = l.inches; text = l.text.items; notes = l.notes.items } };
+    ghost view = { λ l. record { above = l.above; inches = l.inches; manual = l.manual; text = l.text.items; notes = l.notes.items } };
 
     ghost invariant = { λ l. (l.above.number ≤ 10000) × (l.above.touched ≤ l.above.number) };
 }
@@ -141,18 +143,28 @@ impl Lowering {
             alloc,
             above: Above::none(),
             inches: false,
+            manual: false,
             text: Vec::new(alloc),
             notes: Vec::new(alloc),
         }
     }
 
-    /// Why a statement with this keyword is left out. The first never is.
-    fn left_out(&self, choices: Choices, keyword: Keyword, statement: &Statement) -> Option<Reason>
+    /// Why a statement with this keyword is left out, where the operator measures or not. The first never is.
+    fn left_out(
+        &self,
+        choices: Choices,
+        manual: bool,
+        keyword: Keyword,
+        statement: &Statement,
+    ) -> Option<Reason>
         requires { keyword ≡ keyword_of statement.now.word }
-        ensures { result ≡ left_out_after choices self.now.above.number statement.now }
+        ensures { result ≡ left_out_after choices self.now.above.number manual statement.now }
     {
         if self.above.number == 0 {
             return None;
+        }
+        if choices.skip_manual && is_skipped(manual, keyword, statement) {
+            return Some(Reason::Manual);
         }
         left_out(choices, keyword, statement)
     }
@@ -176,6 +188,7 @@ impl Lowering {
         )?;
         self.above = self.above.after(meaning);
         self.inches = inches_after(self.inches, keyword, statement);
+        self.manual = manual_after(self.manual, keyword, statement);
         Ok(())
     }
 
@@ -189,8 +202,10 @@ impl Lowering {
         ensures { GivesStep result self.new (step frames.now choices self.old statement.now) }
     {
         let keyword = keyword_of_word(&statement.word);
-        if let Some(reason) = self.left_out(choices, keyword, statement) {
+        let manual = manual_after(self.manual, keyword, statement);
+        if let Some(reason) = self.left_out(choices, manual, keyword, statement) {
             push_note(&mut self.notes, statement, Some(reason))?;
+            self.manual = manual;
             return Ok(false);
         }
         if let Some(refusal) = text_refusal(self.alloc, statement)? {
@@ -223,6 +238,7 @@ impl Lowering {
             alloc: _,
             above: _,
             inches: _,
+            manual: _,
             text,
             notes,
         } = self;

@@ -17,6 +17,8 @@ pub struct Choices {
     pub no_clearing: bool,
     /// The machine corrects for temperature, so that a program need not ask for it.
     pub compensated: bool,
+    /// What the operator would measure is left out.
+    pub skip_manual: bool,
 }
 
 /// Why nothing is written of a statement.
@@ -36,6 +38,8 @@ pub enum Reason {
     Uncompensated,
     /// It asks for a correction that the machine makes.
     Compensated,
+    /// The operator would measure.
+    Manual,
     /// It commands nothing.
     Passed,
 }
@@ -176,6 +180,7 @@ pub(crate) fn reason_text(reason: Reason) -> &'static [u8]
         Reason::Clearing => b"it clears the part between features; nothing moves there by itself",
         Reason::Uncompensated => b"nothing is corrected for temperature",
         Reason::Compensated => b"the machine corrects for temperature",
+        Reason::Manual => b"it is in a manual block; the operator would carry it out",
         Reason::Passed => b"it commands nothing",
     }
 }
