@@ -124,6 +124,11 @@ lower_line = line_of (codes "lower") (text_rule (codes "setup") ∷ flag_rule (c
 abbrev pub bare_line : App
 bare_line = record (new_app (codes "dme")) { top = record (new_app (codes "dme")).top { subcommand_required = true } }
 
+-- with the subcommands of the table's first half
+abbrev pub first_line : App
+first_line = fold (λ line order. with_subcommand line order.top) bare_line (check_line ∷ simulate_line ∷ audit_line ∷ loop_line
+    ∷ serve_line ∷ run_line ∷ [])
+
 -- `dme COMMAND ..`
 abbrev pub whole_line : App
 whole_line = fold (λ line order. with_subcommand line order.top) bare_line (check_line ∷ simulate_line ∷ audit_line ∷ loop_line

@@ -3,7 +3,7 @@
 ghost use Rattle.std.specs.Prelude.{◌≡◌, IfOk, false, fold};
 ghost use Rattle.clap.specs.declared.builder.command.Command.TheViews.{out-Command};
 ghost use Rattle.clap.specs.Words.{app_of, rule_of};
-ghost use Rattle.dme_words.specs.CommandLine.{bare_line, text_rule, whole_line};
+ghost use Rattle.dme_words.specs.CommandLine.{bare_line, first_line, text_rule, whole_line};
 ghost use Rattle.dme_words.specs.Arguments.{argument_rule, with_argument, with_line};
 
 use Argument::{Flag, Needed, Number, NumberOr, Text, Word, WordOr};
@@ -196,7 +196,7 @@ const UP: Argument = Needed("up", "FILE", UP_HELP);
 const DOWN: Argument = Needed("down", "FILE", DOWN_HELP);
 
 /// The commands.
-const LINES: [Line; 13] = [
+const LINES: [Line; 6] = [
     Line(
         "check",
         "Prints the I++ DME command lines of a DMIS program",
@@ -273,6 +273,10 @@ const LINES: [Line; 13] = [
             PROGRAM,
         ],
     ),
+];
+
+/// The others.
+const LATER_LINES: [Line; 7] = [
     Line(
         "explain",
         "Says what a refusal means and what to do about it",
@@ -441,11 +445,18 @@ fn bare_command<'a>(alloc: Global) -> Command<'a>
         .subcommand_required(true)
 }
 
-/// The commands of the table.
-fn lines() -> &'static [Line]
-    ensures { fold with_line bare_line result.now ≡ whole_line }
+/// The first commands.
+fn first_lines() -> &'static [Line]
+    ensures { fold with_line bare_line result.now ≡ first_line }
 {
     &LINES
+}
+
+/// The others.
+fn later_lines() -> &'static [Line]
+    ensures { fold with_line first_line result.now ≡ whole_line }
+{
+    &LATER_LINES
 }
 
 /// `dme COMMAND ..`.
@@ -453,5 +464,6 @@ pub(crate) fn whole_command<'a>(alloc: Global) -> Result<Command<'a>, AllocError
     ensures shape { IfOk result (λ command. app_of command ≡ whole_line) }
     ensures local { IfOk result (λ command. (out-Command command).has_globals ≡ false) }
 {
-    with_lines(alloc, bare_command(alloc), lines())
+    let command = with_lines(alloc, bare_command(alloc), first_lines())?;
+    with_lines(alloc, command, later_lines())
 }

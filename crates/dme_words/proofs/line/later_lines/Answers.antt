@@ -1,5 +1,5 @@
 use Rattle.std.proofs.Common.{refl}
-use Rattle.dme_words.proofs.line.lines.Goals as goal
+use Rattle.dme_words.proofs.line.later_lines.Goals as goal
 
 pub returns : goal.returns
 returns c = refl
