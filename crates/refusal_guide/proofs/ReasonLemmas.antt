@@ -1,10 +1,9 @@
 -- The cause of a place, from that of its statement or of its line.
-use Rattle.refusal_guide.proofs.Outside.{◌≡◌, ap, bytes_from, Caused, caused_by, IfSome, IsOfEither, IsOfLine, IsOfPlace, IsOfStatement}
-use Rattle.refusal_guide.proofs.Outside.{IsProgramReason, None, Option, option_map, refl, slice_get, Some, Spot, spot_at, spot_of, Statement, subst}
+use Rattle.refusal_guide.proofs.Outside.{◌≡◌, ap, Caused, caused_by, IfSome, IsOfEither, IsOfLine, IsOfPlace, IsOfStatement}
+use Rattle.refusal_guide.proofs.Outside.{IsProgramReason, None, Option, option_map, slice_get, Some, Spot, Statement, subst}
 use Rattle.refusal_guide.proofs.Outside.{text_reading}
 use Rattle.dmis_program.specs.declared.faults.Refusal.{Refusal}
 use Rattle.refusal_guide.specs.declared.words.Reason.{Reason}
-use Rattle.refusal_guide.specs.declared.lines.Place.{Place}
 
 shown_given : (r : Option Reason) (g : Reason) → IfSome r (λ w. g ≡ w) → IfSome (option_map caused_by r) (λ s. caused_by g ≡ s)
 shown_given None g h = tt
@@ -23,8 +22,3 @@ on_statement refusal p s o e h = subst (λ (x : Option Statement). IsOfEither re
 pub on_line : (refusal : Refusal) (p : Spot) (o : Option Caused) → None ≡ slice_get (text_reading p.rest).statements 0
     → IsOfLine refusal p o → IsOfPlace refusal p o
 on_line refusal p o e h = subst (λ (x : Option Statement). IsOfEither refusal p x o) e h
-
--- a line of a whole text
-pub spot_is : (place : Place) → place.rest.now ≡ bytes_from place.number place.text.now → place.above ≡ 0
-    → spot_at place ≡ spot_of place.text.now place.number 0
-spot_is place e f = rw (e, f) refl

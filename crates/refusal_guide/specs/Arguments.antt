@@ -1,6 +1,6 @@
 -- Why the parameters of a statement do not fit, and which word is at fault (this profile). `rest` are the bytes from its line on.
 use Rattle.std.specs.Prelude.{ℕ, ◌-◌, List, [], ◌∷◌, length, drop, codes, Option, Some, None}
-use Rattle.std.specs.Prelude.{◌==◌, if◌then◌else◌, slice_get, slice_index_or, option_and_then}
+use Rattle.std.specs.Prelude.{◌==◌, if◌then◌else◌, slice_index_or}
 use Rattle.std.specs.List.{before_last, last_or}
 use Rattle.std.specs.Option.{option_or}
 use Rattle.std.specs.Str.{bytes_eq}
@@ -29,18 +29,17 @@ form_cause_of rest s n param (Some name) = name_reason name (param_spot rest s n
 abbrev pub form_cause : List ℕ → Statement → ℕ → List ℕ → List ℕ → Option Caused
 form_cause rest s n front param = form_cause_of rest s n param (within_ends front param)
 
-abbrev pub parenthesis_cause : List ℕ → Statement → ℕ → List ℕ → Option Caused
-parenthesis_cause rest s n front = option_and_then (form_cause rest s n front) (slice_get s.params n)
-
 -- `MEAS/kind,F(name),n`: of its three parameters the leftmost that does not fit
-abbrev pub feature_cause : List ℕ → Statement → List ℕ → Option Caused
-feature_cause rest s touches = option_or (parenthesis_cause rest s 1 (codes "F(")) (Some (caused cause.NoCount (param_spot rest s 2 touches)))
+abbrev pub feature_cause : List ℕ → Statement → List ℕ → List ℕ → Option Caused
+feature_cause rest s feature touches = option_or (form_cause rest s 1 (codes "F(") feature) (Some (caused cause.NoCount (param_spot rest s 2 touches)))
 
-abbrev pub three_cause : List ℕ → Statement → List ℕ → List ℕ → Option Caused
-three_cause rest s kind touches = if is_letters kind then feature_cause rest s touches else Some (caused cause.NoKind (param_spot rest s 0 kind))
+abbrev pub three_cause : List ℕ → Statement → List ℕ → List ℕ → List ℕ → Option Caused
+three_cause rest s kind feature touches = if is_letters kind then feature_cause rest s feature touches else
+    Some (caused cause.NoKind (param_spot rest s 0 kind))
 
 abbrev pub meas_cause : List ℕ → Statement → Option Caused
-meas_cause rest s = if length s.params == 3 then three_cause rest s (slice_index_or s.params 0 []) (slice_index_or s.params 2 []) else count_cause rest s
+meas_cause rest s = if length s.params == 3 then three_cause rest s (slice_index_or s.params 0 []) (slice_index_or s.params 1 [])
+    (slice_index_or s.params 2 []) else count_cause rest s
 
 -- `PTMEAS/CART,x,y,z[,i,j,k]`
 abbrev pub ptmeas_cause_of : List ℕ → Statement → List (List ℕ) → Option Caused

@@ -72,8 +72,12 @@ unfoldable pub within_ends : List ℕ → List ℕ → Option (List ℕ)
 within_ends front bytes = if begins front bytes then before_close (drop (length front) bytes) else None
 
 -- the frame that a first parameter names is not stored
+abbrev pub frame_called : List ℕ → Statement → Option (List ℕ) → Option Caused
+frame_called rest s None = None
+frame_called rest s (Some name) = Some (caused cause.NoFrame (param_spot rest s 0 name))
+
 abbrev pub frame_named : List ℕ → Statement → List ℕ → Option Caused
-frame_named rest s first = option_map (λ name. caused cause.NoFrame (param_spot rest s 0 name)) (within_ends (codes "D(") first)
+frame_named rest s first = frame_called rest s (within_ends (codes "D(") first)
 
 abbrev pub frame_in : List ℕ → Statement → Option (List ℕ) → Option Caused
 frame_in rest s None = None

@@ -65,18 +65,7 @@ IsOfLine refusal.NotDmis p o = o ≡ Some (of_line cause.NoStatement)
 IsOfLine refusal.Truncated p o = o ≡ why.truncated p.text
 IsOfLine refusal.LineTooLong p o = o ≡ Some (long_line p)
 IsOfLine refusal.BadByte p o = IsByteReason p.text p.rest o
-IsOfLine refusal.Unsupported p o = o ≡ None
-IsOfLine refusal.BadArguments p o = o ≡ None
-IsOfLine (refusal.BadNumeral fault) p o = o ≡ None
-IsOfLine refusal.OutsideBlock p o = o ≡ None
-IsOfLine refusal.InsideBlock p o = o ≡ None
-IsOfLine refusal.TooFewPoints p o = o ≡ None
-IsOfLine refusal.UnknownFrame p o = o ≡ None
-IsOfLine refusal.NotMillimetres p o = o ≡ None
-IsOfLine refusal.NoProgMode p o = o ≡ None
-IsOfLine refusal.ZeroVector p o = o ≡ None
-IsOfLine refusal.NoTool p o = o ≡ None
-IsOfLine refusal.TooLarge p o = o ≡ None
+IsOfLine _ p o = o ≡ None
 
 abbrev pub IsOfEither : Refusal → Spot → Option Statement → Option Caused → Type 0
 IsOfEither refusal p None o = IsOfLine refusal p o

@@ -1,28 +1,26 @@
 // Which parameter of a statement does not fit, or how many there are.
 
-ghost use Rattle.std.specs.Prelude.{◌≡◌, ◌≤◌, length, codes, Some, IfOk};
+ghost use Rattle.std.specs.Prelude.{◌≡◌, ◌≤◌, length, codes, IfOk};
 ghost use Rattle.std.specs.List.{list_all};
 ghost use Rattle.std.specs.Char.{is_ascii_alphabetic};
 ghost use Rattle.std.specs.Option.{option_map};
 ghost use Rattle.std.specs.Str.{bytes_eq};
 ghost use Rattle.dmis_program.specs.Keywords.{keyword_of};
 ghost use Rattle.dmis_program.specs.Parameters.{is_letters};
-ghost use Rattle.refusal_guide.specs.Words.{named_by, caused, caused_by};
+ghost use Rattle.refusal_guide.specs.Words.{named_by, caused_by};
 ghost use Rattle.refusal_guide.specs.Causes.{within_ends};
-ghost use Rattle.refusal_guide.specs.Spots.{param_spot};
 ghost use Rattle.refusal_guide.specs.Numerals.{count_before};
-ghost use Rattle.refusal_guide.specs.Arguments.{last_apostrophe, last_text, open_text, count_cause, form_cause, parenthesis_cause, feature_cause, meas_cause};
+ghost use Rattle.refusal_guide.specs.Arguments.{last_apostrophe, last_text, open_text, count_cause, form_cause, meas_cause};
 ghost use Rattle.refusal_guide.specs.Arguments.{ptmeas_cause, tool_front, snslct_cause, recall_cause, open_cause, head_cause, params_cause, argument_cause};
 
 use crate::causes::Cause;
 use crate::names::name_reason;
 use crate::statements::Found;
-use crate::words::{Reason, Word};
+use crate::words::{Explained, Word};
 use dmis_program::Keyword;
 use dmis_text::Text;
-use std::alloc::{AllocError, Global};
+use std::alloc::Global;
 
-/// Whether a parameter is `CART`.
 fn is_cart(param: &[u8]) -> bool
     ensures { result ≡ bytes_eq param.now (codes "CART") }
 {
@@ -52,14 +50,14 @@ pub(crate) fn within<'a>(front: &[u8], text: &'a [u8]) -> Option<&'a [u8]>
 }
 
 /// How many parameters a statement has after a first `CART`; `wanted` says how many it takes.
-fn count_reason(alloc: Global, found: Found, wanted: &str) -> Result<Option<Reason>, AllocError>
+fn count_reason(alloc: Global, found: Found, wanted: &str) -> Explained
     ensures { IfOk result (λ reason. option_map caused_by reason
         ≡ count_cause found.entry.rest.now found.entry.statement.now) }
 {
     let params: &[Text] = &found.statement.params;
     let before = count_before(params);
     let cause = Cause::Count(before, params.len() - before);
-    Ok(Some(found.word().because(alloc, cause, wanted)?))
+    found.word().because(alloc, cause, wanted)
 }
 
 /// Why the parameter of this number is not a name in parentheses after this prefix, which `wanted` says; none if it is one.
@@ -70,33 +68,15 @@ fn form_reason(
     front: &[u8],
     wanted: &str,
     param: &[u8],
-) -> Result<Option<Reason>, AllocError>
+) -> Explained
     ensures { IfOk result (λ reason. option_map caused_by reason
         ≡ form_cause found.entry.rest.now found.entry.statement.now index front.now param.now) }
 {
     match within(front, param) {
         Some(name) => name_reason(alloc, name, found.in_param(index, name)),
-        None => {
-            let param = found.in_param(index, param);
-            Ok(Some(param.because(alloc, Cause::NoParentheses, wanted)?))
-        }
-    }
-}
-
-/// Likewise; none also if there is no such parameter.
-fn parenthesis_reason(
-    alloc: Global,
-    found: Found,
-    index: usize,
-    front: &[u8],
-    wanted: &str,
-) -> Result<Option<Reason>, AllocError>
-    ensures { IfOk result (λ reason. option_map caused_by reason
-        ≡ parenthesis_cause found.entry.rest.now found.entry.statement.now index front.now) }
-{
-    match found.statement.params.get(index) {
-        Some(param) => form_reason(alloc, found, index, front, wanted, param),
-        None => Ok(None),
+        None => found
+            .in_param(index, param)
+            .because(alloc, Cause::NoParentheses, wanted),
     }
 }
 
@@ -106,61 +86,37 @@ fn all_letters(text: &[u8]) -> bool
     text.iter().all(|b| b.is_ascii_alphabetic())
 }
 
-/// Whether a parameter is a word of letters.
 fn is_letters(param: &[u8]) -> bool
     ensures { result ≡ is_letters param.now }
 {
     !param.is_empty() && all_letters(param)
 }
 
-/// That the parameter of this number, which is this, is at fault for this cause.
-fn param_reason(
-    alloc: Global,
-    found: Found,
-    index: usize,
-    param: &[u8],
-    cause: Cause,
-) -> Result<Option<Reason>, AllocError>
-    ensures { IfOk result (λ reason. option_map caused_by reason ≡ Some (caused cause
-        (param_spot found.entry.rest.now found.entry.statement.now index param.now))) }
-{
-    Ok(Some(found.in_param(index, param).because(alloc, cause, "")?))
-}
-
-/// Why the second parameter of `MEAS` does not fit, or else the third, which is this one.
-fn feature_reason(alloc: Global, found: Found, count: &[u8]) -> Result<Option<Reason>, AllocError>
-    ensures { IfOk result (λ reason. option_map caused_by reason
-        ≡ feature_cause found.entry.rest.now found.entry.statement.now count.now) }
-{
-    match parenthesis_reason(alloc, found, 1, b"F(", "F(name)")? {
-        Some(reason) => Ok(Some(reason)),
-        None => param_reason(alloc, found, 2, count, Cause::NoCount),
-    }
-}
-
-/// Why the parameters of `MEAS` do not fit.
-fn meas_reason(alloc: Global, found: Found) -> Result<Option<Reason>, AllocError>
+/// Why the parameters of `MEAS` do not fit: of the three the leftmost.
+fn meas_reason(alloc: Global, found: Found) -> Explained
     ensures { IfOk result (λ reason. option_map caused_by reason
         ≡ meas_cause found.entry.rest.now found.entry.statement.now) }
 {
     let params: &[Text] = &found.statement.params;
-    let [kind, _, count] = params else {
+    let [kind, feature, count] = params else {
         return count_reason(alloc, found, "3, a kind, F(name) and a count of touches");
     };
     if !is_letters(kind) {
-        return param_reason(alloc, found, 0, kind, Cause::NoKind);
+        return found.in_param(0, kind).because(alloc, Cause::NoKind, "");
     }
-    feature_reason(alloc, found, count)
+    match form_reason(alloc, found, 1, b"F(", "F(name)", feature)? {
+        Some(reason) => Ok(Some(reason)),
+        None => found.in_param(2, count).because(alloc, Cause::NoCount, ""),
+    }
 }
 
-/// Why the parameters of `PTMEAS` do not fit.
-fn ptmeas_reason(alloc: Global, found: Found) -> Result<Option<Reason>, AllocError>
+fn ptmeas_reason(alloc: Global, found: Found) -> Explained
     ensures { IfOk result (λ reason. option_map caused_by reason
         ≡ ptmeas_cause found.entry.rest.now found.entry.statement.now) }
 {
     match found.statement.params.split_first() {
         Some((first, _)) if !is_cart(first) => {
-            param_reason(alloc, found, 0, first, Cause::NotCart)
+            found.in_param(0, first).because(alloc, Cause::NotCart, "")
         }
         Some(_) => count_reason(alloc, found, "3, or 6 with a direction"),
         None => count_reason(alloc, found, "CART and 3 or 6 numerals"),
@@ -178,8 +134,7 @@ fn tool_front(first: &[u8]) -> &'static [u8]
     }
 }
 
-/// Why the one parameter of `SNSLCT` does not fit.
-fn snslct_reason(alloc: Global, found: Found) -> Result<Option<Reason>, AllocError>
+fn snslct_reason(alloc: Global, found: Found) -> Explained
     ensures { IfOk result (λ reason. option_map caused_by reason
         ≡ snslct_cause found.entry.rest.now found.entry.statement.now) }
 {
@@ -191,8 +146,7 @@ fn snslct_reason(alloc: Global, found: Found) -> Result<Option<Reason>, AllocErr
     form_reason(alloc, found, 0, front, "S(name) or SA(name)", first)
 }
 
-/// Why the one parameter of `RECALL/D(name)` does not fit.
-fn recall_reason(alloc: Global, found: Found) -> Result<Option<Reason>, AllocError>
+fn recall_reason(alloc: Global, found: Found) -> Explained
     ensures { IfOk result (λ reason. option_map caused_by reason
         ≡ recall_cause found.entry.rest.now found.entry.statement.now) }
 {
@@ -244,18 +198,18 @@ fn open_text<'s>(found: Found<'s, '_>) -> Word<'s>
 }
 
 /// That a text of a statement is not closed; none if each is.
-fn open_reason(alloc: Global, found: Found) -> Result<Option<Reason>, AllocError>
+fn open_reason(alloc: Global, found: Found) -> Explained
     ensures { IfOk result (λ reason. option_map caused_by reason
         ≡ open_cause found.entry.rest.now found.entry.statement.now) }
 {
     if !found.statement.is_open() {
         return Ok(None);
     }
-    Ok(Some(open_text(found).because(alloc, Cause::OpenText, "")?))
+    open_text(found).because(alloc, Cause::OpenText, "")
 }
 
 /// That a statement may have no label, or that one of its texts is not closed; none if neither applies.
-fn head_reason(alloc: Global, found: Found) -> Result<Option<Reason>, AllocError>
+fn head_reason(alloc: Global, found: Found) -> Explained
     ensures { IfOk result (λ reason. option_map caused_by reason
         ≡ head_cause found.entry.rest.now found.entry.statement.now) }
 {
@@ -266,13 +220,13 @@ fn head_reason(alloc: Global, found: Found) -> Result<Option<Reason>, AllocError
         Keyword::Definition => open_reason(alloc, found),
         _ => {
             let word = found.word().shown(alloc)?;
-            Ok(Some(found.label(label).because(alloc, Cause::Label, &word)?))
+            Word::found(found.rest, 0, label).because(alloc, Cause::Label, &word)
         }
     }
 }
 
 /// Why the parameters of a statement do not fit; none if it takes any.
-fn params_reason(alloc: Global, found: Found) -> Result<Option<Reason>, AllocError>
+fn params_reason(alloc: Global, found: Found) -> Explained
     ensures { IfOk result (λ reason. option_map caused_by reason
         ≡ params_cause found.entry.rest.now found.entry.statement.now) }
 {
@@ -290,7 +244,7 @@ fn params_reason(alloc: Global, found: Found) -> Result<Option<Reason>, AllocErr
 }
 
 /// Why a statement is not one of its word; none if it takes any parameters.
-pub(crate) fn argument_reason(alloc: Global, found: Found) -> Result<Option<Reason>, AllocError>
+pub(crate) fn argument_reason(alloc: Global, found: Found) -> Explained
     ensures { IfOk result (λ reason. option_map caused_by reason
         ≡ argument_cause found.entry.rest.now found.entry.statement.now) }
 {

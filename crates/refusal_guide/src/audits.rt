@@ -11,61 +11,44 @@ use ledger_audit::{Verdict, audit};
 use session_telling::visible;
 use std::alloc::{AllocError, Global};
 
-/// Appends that the contact of this number serves no feature.
-fn add_unserving(
-    alloc: Global,
-    text: &mut String,
-    contacts: &Contacts,
-    number: usize,
-) -> Result<(), AllocError> {
-    let Some(contact) = contacts.get(number) else {
-        return Ok(());
-    };
-    let target = point_text(alloc, contact.target)?;
-    let point = point_text(alloc, contact.point)?;
-    let connection = contact.shown_on;
-    writeln!(
-        text,
-        "dme: contact {number} on connection {connection} serves no feature: target {target}, point {point}"
-    )
-}
-
 /// Appends a line for each contact from one number on and before another: that it serves no feature.
-fn add_all_unserving(
-    alloc: Global,
+fn add_unserving(
     text: &mut String,
     contacts: &Contacts,
     from: usize,
     to: usize,
 ) -> Result<(), AllocError> {
+    let alloc = *text.allocator();
     for number in from..to {
-        add_unserving(alloc, text, contacts, number)?;
+        if let Some(contact) = contacts.get(number) {
+            let target = point_text(alloc, contact.asked.target)?;
+            let point = point_text(alloc, contact.point)?;
+            let connection = contact.shown_on;
+            writeln!(
+                text,
+                "dme: contact {number} on connection {connection} serves no feature: target {target}, point {point}"
+            )?;
+        }
     }
     Ok(())
-}
-
-/// How many points the feature in this place has.
-fn points_at(features: &[Feature], index: usize) -> usize {
-    match features.get(index) {
-        Some(feature) => feature.points.as_slice().len(),
-        None => 0,
-    }
 }
 
 /// Appends a line for each contact before and between the runs of these features, which begin at these numbers. The number of the contact
 /// after the last run.
 fn add_between(
-    alloc: Global,
     text: &mut String,
     features: &[Feature],
     starts: &[u64],
     contacts: &Contacts,
 ) -> Result<usize, AllocError> {
     let mut passed = 0;
-    for index in 0..starts.len() {
-        let start = starts[index] as usize;
-        add_all_unserving(alloc, text, contacts, passed, start)?;
-        passed = start.saturating_add(points_at(features, index));
+    for (index, start) in starts.iter().enumerate() {
+        let start = *start as usize;
+        add_unserving(text, contacts, passed, start)?;
+        let count = features
+            .get(index)
+            .map_or(0, |feature| feature.points.len());
+        passed = start.saturating_add(count);
     }
     Ok(passed)
 }
@@ -90,7 +73,7 @@ fn add_reason(
         let other = visible(alloc, wanted.label.as_bytes())?;
         return writeln!(text, "dme: the program has {other} in the place of {label}");
     }
-    let count = feature.points.as_slice().len();
+    let count = feature.points.len();
     let touches = wanted.touches.as_slice().len();
     if count != touches {
         return writeln!(
@@ -99,23 +82,6 @@ fn add_reason(
         );
     }
     add_nearest(text, feature, wanted, contacts, least)
-}
-
-/// Appends how many of the program's features were audited. How many first ones have their runs.
-fn add_count(
-    alloc: Global,
-    text: &mut String,
-    program: &Program,
-    features: &[Feature],
-    ledger: &ServerLedger,
-) -> Result<usize, AllocError> {
-    let count = features.len();
-    let all = program.features().len();
-    writeln!(text, "dme: {count} of {all} features audited")?;
-    match audit(alloc, program, features, ledger)? {
-        Verdict::Starts(_) => Ok(count),
-        Verdict::NoRun(count) => Ok(count.saturating_sub(1)),
-    }
 }
 
 /// The text of an audit's explanation.
@@ -127,18 +93,24 @@ fn audit_text(
     connections: &[u64],
 ) -> Result<String, AllocError> {
     let mut text = String::new(alloc);
-    let sound = add_count(alloc, &mut text, program, features, ledger)?;
-    let (first, _) = features.split_at(sound.min(features.len()));
+    let count = features.len();
+    let all = program.features().len();
+    writeln!(text, "dme: {count} of {all} features audited")?;
+    let sound = match audit(alloc, program, features, ledger)? {
+        Verdict::Starts(_) => count,
+        Verdict::NoRun(number) => number.saturating_sub(1).min(count),
+    };
+    let (first, _) = features.split_at(sound);
     let Verdict::Starts(starts) = audit(alloc, program, first, ledger)? else {
         return Ok(text);
     };
     let contacts = Contacts::of(alloc, ledger, connections)?;
-    let passed = add_between(alloc, &mut text, first, starts.as_slice(), &contacts)?;
+    let passed = add_between(&mut text, first, starts.as_slice(), &contacts)?;
     if let Some(feature) = features.get(sound) {
         let wanted = program.features().get(sound);
         add_reason(&mut text, feature, wanted, &contacts, passed)?;
     }
-    add_all_unserving(alloc, &mut text, &contacts, passed, contacts.len())?;
+    add_unserving(&mut text, &contacts, passed, contacts.len())?;
     Ok(text)
 }
 

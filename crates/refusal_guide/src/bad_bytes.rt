@@ -2,7 +2,7 @@
 // prefixes of the text, each of which ends within that line.
 
 ghost use Rattle.std.specs.Prelude.{◌≡◌, ◌≤◌, ◌+◌, [], length, IfOk, OnOk};
-ghost use Rattle.refusal_guide.specs.BadBytes.{is_bad_byte, has_bad_byte, line_of_last, near, Turns, IsBadByteOf};
+ghost use Rattle.refusal_guide.specs.BadBytes.{has_bad_byte, line_of_last, near, Turns, IsBadByteOf};
 
 use crate::lines::{Place, first_line, from_line};
 use crate::statements::next_statement;
@@ -24,24 +24,16 @@ fn last_line(statements: &mut Statements) -> Result<u64, AllocError>
     Ok(line)
 }
 
-fn is_next_bad(statements: &mut Statements) -> Result<bool, AllocError>
-    requires { statements.old.left ≡ [] }
-    ensures { IfOk result (λ bad. bad ≡ is_bad_byte statements.old.fault) }
-{
-    match statements.next() {
-        Err(TextFault::BadByte(_)) => Ok(true),
-        Err(TextFault::LineTooLong(_)) => Ok(false),
-        Err(TextFault::Memory) => Err(AllocError),
-        Ok(_) => Ok(false),
-    }
-}
-
 fn has_bad_byte(alloc: Global, text: &[u8]) -> Result<bool, AllocError>
     ensures { IfOk result (λ bad. bad ≡ has_bad_byte text.now) }
 {
     let mut statements = Statements::new(alloc, text);
     last_line(&mut statements)?;
-    is_next_bad(&mut statements)
+    match statements.next() {
+        Err(TextFault::BadByte(_)) => Ok(true),
+        Err(TextFault::Memory) => Err(AllocError),
+        Err(TextFault::LineTooLong(_)) | Ok(_) => Ok(false),
+    }
 }
 
 /// The text from the last statement that can be read on: what is above it is not part of the line's statement.

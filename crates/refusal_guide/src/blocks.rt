@@ -19,7 +19,6 @@ pub(crate) struct Block {
     pub(crate) touches: u64,
 }
 
-/// The block that a `MEAS` begins.
 fn begun(alloc: Global, statement: &Statement) -> Result<Option<Block>, AllocError>
     ensures { IfOk result (λ block. option_map opened_by block ≡ begun statement.now) }
 {
@@ -94,21 +93,16 @@ pub(crate) fn open_block(alloc: Global, place: Place) -> Result<Option<Block>, A
     Ok(block)
 }
 
-fn last_of<'a>(statements: &mut Statements<'a>) -> Result<Option<Statement<'a>>, AllocError>
-    ensures { IfOk result (λ last. last ≡ last_or None statements.old.left) }
-{
-    let mut last = None;
-    while let Some(statement) = next_statement(statements)? {
-        last = Some(statement);
-    }
-    Ok(last)
-}
-
 pub(crate) fn last_statement(
     alloc: Global,
     text: &[u8],
 ) -> Result<Option<Statement<'_>>, AllocError>
     ensures { IfOk result (λ last. last ≡ last_or None (text_reading text.now).statements) }
 {
-    last_of(&mut Statements::new(alloc, text))
+    let mut statements = Statements::new(alloc, text);
+    let mut last = None;
+    while let Some(statement) = next_statement(&mut statements)? {
+        last = Some(statement);
+    }
+    Ok(last)
 }

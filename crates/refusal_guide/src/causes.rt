@@ -8,9 +8,7 @@ use std::alloc::{AllocError, Global};
 /// Why a text is refused, with the values that the sentence on it names.
 #[derive(Clone, Copy)]
 pub(crate) enum Cause {
-    /// The first statement is not that of a program.
     NotFirst,
-    /// There is no statement.
     NoStatement,
     /// The text ends after the statement that begins on this line.
     Ended(u64),
@@ -18,57 +16,38 @@ pub(crate) enum Cause {
     LongLine(usize),
     /// This byte is not allowed where it is.
     BadByte(u8),
-    /// The minor word names coordinates that are not carried out.
     OtherCoordinates,
-    /// Likewise what is not recalled.
     OtherRecall,
-    /// A program begins a second time.
     SecondStart,
-    /// The word is not carried out.
     NotCarriedOut,
-    /// No block is open.
     OutsideBlock,
     /// A block is open that begins on this line.
     InsideBlock(u64),
     /// The block that begins on this line has that many touches.
     FewTouches(u64, u64),
-    /// The frame is not stored.
     NoFrame,
-    /// The unit is not the millimetre.
     OtherUnit,
-    /// The mode is not the programmed one.
     OtherMode,
     /// The direction is zero, of which this is the first component.
     ZeroDirection,
-    /// No tool is selected.
     NoTool,
-    /// It is one statement too many.
     TooLarge,
-    /// The label is before a word that has none.
     Label,
-    /// The text is not closed.
     OpenText,
     /// After this many parameters it has that many others.
     Count(usize, usize),
-    /// It is not a kind.
     NoKind,
-    /// It is not a count of touches.
     NoCount,
-    /// It is not `CART`.
     NotCart,
-    /// It is not a name in parentheses.
     NoParentheses,
-    /// The name has no byte.
     NoName,
     /// The name has this many bytes.
     LongName(usize),
     /// This byte is not allowed in a name.
     NameByte(u8),
-    /// It is not a name.
     NotName,
     /// The parameter of this number, counted from 1, is empty.
     NoNumeral(usize),
-    /// It is not a numeral.
     NotNumeral,
     /// The numeral has this many digits.
     ManyDigits(usize),
@@ -78,13 +57,8 @@ pub(crate) enum Cause {
     Other,
 }
 
-/// The word for this many.
-fn counted(count: usize, one: &'static str, more: &'static str) -> &'static str {
-    if count == 1 { one } else { more }
-}
-
-/// The sentence on a line or on a whole statement.
-fn statement_sentence(
+/// The sentence on a cause, with the word that is at fault and another text that some of them name.
+pub(crate) fn sentence_of(
     alloc: Global,
     cause: Cause,
     word: &str,
@@ -141,9 +115,9 @@ fn place_sentence(
             "{word} is inside the measurement block that begins at line {line}: it has no ENDMES yet."
         ),
         Cause::FewTouches(line, 0) => {
-            let touches = if other == "1" { "touch" } else { "touches" };
+            let plural = if other == "1" { "" } else { "es" };
             format!(in alloc;
-                "The program asks for automatic measuring: MEAS at line {line} names {other} {touches} and its block has none, and only programmed touches are measured. Write a PTMEAS for each, or delete the MEAS at line {line} and this ENDMES together."
+                "The program asks for automatic measuring: MEAS at line {line} names {other} touch{plural} and its block has none, and only programmed touches are measured. Write a PTMEAS for each, or delete the MEAS at line {line} and this ENDMES together."
             )
         }
         Cause::FewTouches(line, touches) => format!(in alloc;
@@ -179,9 +153,9 @@ fn argument_sentence(
         ),
         Cause::OpenText => format!(in alloc; "The text {word} is not closed by an apostrophe."),
         Cause::Count(before, count) => {
-            let parameters = counted(count, "parameter", "parameters");
+            let plural = if count == 1 { "" } else { "s" };
             let cart = if before > 0 { " after CART" } else { "" };
-            format!(in alloc; "{word} has {count} {parameters}{cart}, and takes {other}.")
+            format!(in alloc; "{word} has {count} parameter{plural}{cart}, and takes {other}.")
         }
         Cause::NoKind => format!(in alloc; "{word} is not a kind: a kind is a word of letters."),
         Cause::NoCount => format!(in alloc; "{word} is not a count of touches from 1 to 10000."),
@@ -231,14 +205,4 @@ fn numeral_sentence(
         ),
         _ => String::from_str(alloc, other),
     }
-}
-
-/// The sentence on a cause, with the word that is at fault and another text that some of them name.
-pub(crate) fn sentence_of(
-    alloc: Global,
-    cause: Cause,
-    word: &str,
-    other: &str,
-) -> Result<String, AllocError> {
-    statement_sentence(alloc, cause, word, other)
 }

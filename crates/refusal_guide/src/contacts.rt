@@ -2,28 +2,18 @@
 
 use crate::touches::Request;
 use contact_ledger::{Act, ServerLedger};
-use fixed_um::{Dir, Frame, Name, Point};
+use fixed_um::Point;
 use std::alloc::{AllocError, Global};
 
 /// A contact of a ledger: its number among the contacts, counted from 0, its connection and the one that it is shown with, what was asked for,
 /// and the point reported.
-#[derive(Drop)]
+#[derive(Clone, Copy)]
 pub(crate) struct Contact<'a> {
     pub(crate) number: usize,
     pub(crate) connection: u64,
     pub(crate) shown_on: u64,
-    pub(crate) target: Point,
-    pub(crate) dir: Option<Dir>,
-    pub(crate) tool: &'a Name,
-    pub(crate) frame: Frame,
+    pub(crate) asked: Request<'a>,
     pub(crate) point: Point,
-}
-
-impl<'a> Contact<'a> {
-    /// What was asked for.
-    pub(crate) fn request(&self) -> Request<'a> {
-        Request::new(self.target, self.dir, self.tool, self.frame)
-    }
 }
 
 /// The contacts of a ledger, in order.
@@ -66,28 +56,15 @@ impl<'a> Contacts<'a> {
     pub(crate) fn get(&self, number: usize) -> Option<Contact<'a>> {
         let place = self.places.get(number)?;
         let (connection, act) = self.acts.get(*place)?;
-        let shown_on = match self.connections.get(number) {
-            Some(shown_on) => *shown_on,
-            None => *connection,
+        let Some((asked, point)) = Request::of_contact(act) else {
+            return None;
         };
-        match act {
-            Act::Contact {
-                target,
-                dir,
-                tool,
-                frame,
-                point,
-            } => Some(Contact {
-                number,
-                connection: *connection,
-                shown_on,
-                target: *target,
-                dir: *dir,
-                tool,
-                frame: *frame,
-                point: *point,
-            }),
-            _ => None,
-        }
+        Some(Contact {
+            number,
+            connection: *connection,
+            shown_on: *self.connections.get(number).unwrap_or(connection),
+            asked,
+            point,
+        })
     }
 }

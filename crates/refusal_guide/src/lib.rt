@@ -2,16 +2,14 @@
 //! that is refused, also its line and the word at fault.
 //!
 //! - `topics`: what is refused by a code, and the topic of a code
-//! - `pages`: what a topic means, what to do, and a line as it should be
-//! - `faults`: the topic of a refusal
-//! - `written`: the page of a topic as text
+//! - `written`: what a topic means, what to do, and a line as it should be
 //! - `places`: the line of a text that is refused, with a sentence on it
 //! - `lines`, `words`: a line and a word as they are shown
 //! - `causes`: why a text is refused, and how it is said
 //! - `sentences`: the sentence on a refusal by itself
 //! - `programs`: the sentences of programs; `statements`, `blocks`, `bad_bytes`: what they are about; `arguments`, `numerals`, `names`: why
 //!   a parameter does not fit
-//! - `setups`, `schedules`, `ledgers`, `records`, `limits`: the sentences of the other texts
+//! - `fields`: lines of fields, and the sentences of setups and limits; `schedules`, `ledgers`, `records`: those of the other texts
 //! - `hosts`: a host that has no address
 //! - `strangers`: why a record is of another part or program; `touches`: in what two touches differ
 //! - `audits`: what an audit found; `contacts`: the contacts of a ledger; `nearest`: the one
@@ -26,21 +24,18 @@ mod blocks;
 mod causes;
 mod contacts;
 pub mod examples;
-mod faults;
+mod fields;
 mod hosts;
 mod ledgers;
-mod limits;
 mod lines;
 mod names;
 mod nearest;
 mod numerals;
-mod pages;
 mod places;
 mod programs;
 mod records;
 mod schedules;
 mod sentences;
-mod setups;
 mod statements;
 mod strangers;
 mod topics;

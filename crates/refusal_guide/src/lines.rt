@@ -4,6 +4,7 @@ ghost use Rattle.std.specs.Prelude.{◌≡◌, ◌==◌, ◌<◌, ◌≤◌, ◌
 ghost use Rattle.std.specs.List.{flat_map, position};
 ghost use Rattle.std.specs.Str.Lines.{lines};
 ghost use Rattle.refusal_guide.specs.Windows.{shown_start};
+ghost use Rattle.refusal_guide.specs.Reasons.{spot_at, spot_of};
 ghost use Rattle.refusal_guide.specs.Lines.{lines_from, bytes_from, after_feeds, first_of, visible_in_line, shown_front, shown_from};
 
 use dmis_text::cut_line;
@@ -23,7 +24,28 @@ pub(crate) struct Place<'a> {
     pub(crate) above: u64,
 }
 
-/// Where the first LF is.
+impl<'a> Place<'a> {
+    /// The line of this number of a text; the last one if it has fewer.
+    pub(crate) fn on_line(text: &'a [u8], number: u64, above: u64) -> Place<'a>
+        ensures spot { spot_at result ≡ spot_of text.now number above }
+        ensures lines { lines result.rest.now ≡ lines_from number text.now }
+    {
+        Place {
+            text,
+            rest: from_line(text, number),
+            number,
+            above,
+        }
+    }
+
+    /// The lines above it.
+    pub(crate) fn above_line(&self) -> &'a [u8] {
+        let count = self.text.len().saturating_sub(self.rest.len());
+        let (lines, _) = self.text.split_at(count);
+        lines
+    }
+}
+
 fn end_of(bytes: &[u8]) -> Option<usize>
     ensures place { result ≡ position (λ b. b == 10) bytes.now }
     ensures within { IfSome result (λ at. at < length bytes.now) }

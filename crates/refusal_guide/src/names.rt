@@ -7,7 +7,7 @@ ghost use Rattle.refusal_guide.specs.Words.{named_by, caused_by};
 ghost use Rattle.refusal_guide.specs.BadNames.{leftmost_byte, name_cause, name_reason};
 
 use crate::causes::Cause;
-use crate::words::{Reason, Word};
+use crate::words::{Explained, Word};
 use fixed_um::Name;
 use std::alloc::{AllocError, Global};
 
@@ -47,17 +47,12 @@ fn name_cause(alloc: Global, text: &[u8]) -> Result<Cause, AllocError>
 }
 
 /// Why a text, which is this word, is not a name; none if it is one.
-pub(crate) fn name_reason(
-    alloc: Global,
-    text: &[u8],
-    word: Word,
-) -> Result<Option<Reason>, AllocError>
+pub(crate) fn name_reason(alloc: Global, text: &[u8], word: Word) -> Explained
     ensures { IfOk result (λ reason. option_map caused_by reason
         ≡ name_reason text.now (named_by word.entry)) }
 {
     if is_name(alloc, text)? {
         return Ok(None);
     }
-    let cause = name_cause(alloc, word.bytes)?;
-    Ok(Some(word.because(alloc, cause, "")?))
+    word.because(alloc, name_cause(alloc, word.bytes)?, "")
 }

@@ -1,17 +1,15 @@
 // Which numeral does not read, and why.
 
-ghost use Rattle.std.specs.Prelude.{◌≡◌, ◌<◌, ◌∷◌, [], length, IfOk, IfSome};
-ghost use Rattle.std.specs.List.{position, find};
-ghost use Rattle.std.specs.Option.{option_map};
-ghost use Rattle.refusal_guide.specs.Words.{named_by, caused, caused_by};
+ghost use Rattle.std.specs.Prelude.{◌≡◌, ◌<◌, length, IfSome};
+ghost use Rattle.std.specs.List.{position};
 ghost use Rattle.refusal_guide.specs.Lengths.{length_fault, is_no_length};
 ghost use Rattle.refusal_guide.specs.Numerals.{component_fault, is_no_component, measure_fault, is_exponent, digits_before, numeral_cause};
 
 use crate::causes::Cause;
-use crate::words::{Reason, Word};
+use crate::words::{Explained, Word};
 use dmis_text::Text;
 use fixed_um::{NumeralFault, Um, read_dir, read_um};
-use std::alloc::{AllocError, Global};
+use std::alloc::Global;
 
 /// What a numeral is to be: a length in millimetres, or a component of a direction.
 #[derive(Clone, Copy)]
@@ -61,7 +59,6 @@ pub(crate) fn measure_fault(text: &[u8], measure: Measure) -> Option<NumeralFaul
     }
 }
 
-/// The number of the leftmost parameter that is not read as a length.
 pub(crate) fn leftmost_length(params: &[Text]) -> Option<usize>
     ensures leftmost { result ≡ position is_no_length params.now }
     ensures within { IfSome result (λ index. index < length params.now) }
@@ -69,28 +66,11 @@ pub(crate) fn leftmost_length(params: &[Text]) -> Option<usize>
     params.iter().position(|p| is_no_length(p))
 }
 
-/// The number of the leftmost parameter that is not read as a component of a direction.
 pub(crate) fn leftmost_component(params: &[Text]) -> Option<usize>
     ensures leftmost { result ≡ position is_no_component params.now }
     ensures within { IfSome result (λ index. index < length params.now) }
 {
     params.iter().position(|p| is_no_component(p))
-}
-
-fn leftmost_field<'a>(x: &'a [u8], y: &'a [u8], z: &'a [u8]) -> Option<&'a [u8]>
-    ensures { option_map (λ t. t.now) result
-        ≡ find is_no_length (x.now ∷ y.now ∷ z.now ∷ []) }
-{
-    if is_no_length(x) {
-        return Some(x);
-    }
-    if is_no_length(y) {
-        return Some(y);
-    }
-    if is_no_length(z) {
-        return Some(z);
-    }
-    None
 }
 
 fn is_exponent(byte: u8) -> bool
@@ -99,7 +79,6 @@ fn is_exponent(byte: u8) -> bool
     byte == b'E' || byte == b'e'
 }
 
-/// How many digits precede an exponent.
 fn count_digits(numeral: &[u8]) -> usize
     ensures { result ≡ digits_before numeral.now }
 {
@@ -111,7 +90,7 @@ fn count_digits(numeral: &[u8]) -> usize
 }
 
 /// Why this numeral does not read as what it is to be.
-fn numeral_cause(numeral: &[u8], fault: NumeralFault, measure: Measure) -> Cause
+pub(crate) fn numeral_cause(numeral: &[u8], fault: NumeralFault, measure: Measure) -> Cause
     ensures { result ≡ numeral_cause fault measure numeral.now }
 {
     match fault {
@@ -121,36 +100,13 @@ fn numeral_cause(numeral: &[u8], fault: NumeralFault, measure: Measure) -> Cause
     }
 }
 
-/// Likewise of this word.
-pub(crate) fn numeral_reason(
-    alloc: Global,
-    numeral: Word,
-    fault: NumeralFault,
-    measure: Measure,
-) -> Result<Reason, AllocError>
-    ensures { IfOk result (λ reason. caused_by reason ≡ caused
-        (numeral_cause fault measure numeral.entry.bytes.now) (named_by numeral.entry)) }
-{
-    numeral.because(alloc, numeral_cause(numeral.bytes, fault, measure), "")
-}
-
-/// Which of three fields of a line, after its first `from` bytes, is not read as a length, and why; none if all are.
-pub(crate) fn field_reason(
-    alloc: Global,
-    line: &[u8],
-    from: usize,
-    (x, y, z): (&[u8], &[u8], &[u8]),
-) -> Result<Option<Reason>, AllocError> {
-    let Some(numeral) = leftmost_field(x, y, z) else {
-        return Ok(None);
-    };
-    match length_fault(numeral) {
-        Some(fault) => Ok(Some(numeral_reason(
-            alloc,
-            Word::found(line, from, numeral),
-            fault,
-            Measure::Length,
-        )?)),
+/// Why a field is not read as a length; none if it is.
+pub(crate) fn length_reason(alloc: Global, field: Word) -> Explained {
+    match length_fault(field.bytes) {
+        Some(fault) => {
+            let cause = numeral_cause(field.bytes, fault, Measure::Length);
+            field.because(alloc, cause, "")
+        }
         None => Ok(None),
     }
 }

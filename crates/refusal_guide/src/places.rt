@@ -1,17 +1,16 @@
 // A refused text: the line, and what is wrong with it.
 
 ghost use Rattle.std.specs.Prelude.{◌≡◌, OnOk, OnErr, IfOk, string_bytes};
-ghost use Rattle.refusal_guide.specs.Lines.{bytes_from};
 ghost use Rattle.refusal_guide.specs.Words.{caused_by};
 ghost use Rattle.refusal_guide.specs.Places.{number_of, place_text, IsReason, IsPlace, IsPlaceOf, Places};
 
-use crate::ledgers::{Ledger, ledger_reason};
-use crate::limits::{limit_line_reason, limit_range_reason, limit_twice_reason};
+use crate::fields::{Form, range_reason, twice_reason};
+use crate::ledgers::{contact_reason, feature_reason};
 use crate::lines::{Place, first_line, from_line, shown_line, shown_start};
-use crate::programs::whole_reason;
+use crate::programs::program_reason;
 use crate::records::record_reason;
 use crate::schedules::schedule_reason;
-use crate::setups::{setup_line_reason, setup_numeral_reason, setup_twice_reason};
+use crate::topics::Topic;
 use crate::words::Reason;
 use contact_ledger::TextFault;
 use dmis_program::ProgramFault;
@@ -45,55 +44,57 @@ fn line_number(refused: Refused) -> Option<u64>
     ensures { result ≡ number_of refused }
 {
     match refused {
-        Refused::Program(ProgramFault::Refused(_, line)) => Some(line),
-        Refused::Setup(SetupFault::BadLine(line)) => Some(line),
-        Refused::Setup(SetupFault::Twice(line)) => Some(line),
-        Refused::Setup(SetupFault::BadNumeral(line)) => Some(line),
-        Refused::Schedule(ScheduleFault::BadLine(line)) => Some(line),
-        Refused::Features(TextFault::Damaged(line)) => Some(line),
-        Refused::Contacts(TextFault::Damaged(line)) => Some(line),
-        Refused::Record(RecordFault::Damaged(line)) => Some(line),
-        Refused::Limits(LimitsFault::NotLimit(line)) => Some(line),
-        Refused::Limits(LimitsFault::Twice(line)) => Some(line),
-        Refused::Limits(LimitsFault::EmptyRange(line)) => Some(line),
-        Refused::Program(ProgramFault::Memory) => None,
-        Refused::Setup(SetupFault::Memory) => None,
-        Refused::Schedule(ScheduleFault::Memory) => None,
-        Refused::Features(TextFault::Memory) => None,
-        Refused::Contacts(TextFault::Memory) => None,
-        Refused::Record(RecordFault::Memory) => None,
-        Refused::Limits(LimitsFault::Memory) => None,
+        Refused::Program(ProgramFault::Refused(_, line))
+        | Refused::Setup(SetupFault::BadLine(line))
+        | Refused::Setup(SetupFault::Twice(line))
+        | Refused::Setup(SetupFault::BadNumeral(line))
+        | Refused::Schedule(ScheduleFault::BadLine(line))
+        | Refused::Features(TextFault::Damaged(line))
+        | Refused::Contacts(TextFault::Damaged(line))
+        | Refused::Record(RecordFault::Damaged(line))
+        | Refused::Limits(LimitsFault::NotLimit(line))
+        | Refused::Limits(LimitsFault::Twice(line))
+        | Refused::Limits(LimitsFault::EmptyRange(line)) => Some(line),
+        _ => None,
     }
 }
 
-/// What is wrong with the line of this place; nothing if out of memory.
-fn reason(alloc: Global, refused: Refused, place: Place) -> Result<Reason, AllocError>
-    requires rest { place.rest.now ≡ bytes_from place.number place.text.now }
-    requires above { place.above ≡ 0 }
-    ensures { IfOk result (λ reason. IsReason refused place.entry.text.now
-        place.entry.number (caused_by reason)) }
+/// What is wrong with the line of this place, in a text that is no program, and what the refusal means.
+fn other_reason(alloc: Global, refused: Refused, place: Place) -> Result<Reason, AllocError> {
+    let (reason, topic) = match refused {
+        Refused::Setup(SetupFault::Twice(_)) => (twice_reason(alloc, place)?, Topic::SetupTwice),
+        Refused::Setup(SetupFault::BadNumeral(_)) => {
+            (Form::Setup.line_reason(alloc, place)?, Topic::SetupNumeral)
+        }
+        Refused::Setup(_) => (Form::Setup.line_reason(alloc, place)?, Topic::SetupLine),
+        Refused::Schedule(_) => (schedule_reason(alloc, place)?, Topic::ScheduleLine),
+        Refused::Features(_) => (feature_reason(alloc, place)?, Topic::Damaged),
+        Refused::Contacts(_) => (contact_reason(alloc, place)?, Topic::Damaged),
+        Refused::Record(_) => (record_reason(alloc, place)?, Topic::RecordDamaged),
+        Refused::Limits(LimitsFault::Twice(_)) => (twice_reason(alloc, place)?, Topic::LimitTwice),
+        Refused::Limits(LimitsFault::EmptyRange(_)) => {
+            (range_reason(alloc, place)?, Topic::LimitRange)
+        }
+        _ => (Form::Limits.line_reason(alloc, place)?, Topic::LimitLine),
+    };
+    Reason::or_topic(alloc, reason, topic)
+}
+
+/// What is wrong with the line of this number.
+fn reason(alloc: Global, refused: Refused, text: &[u8], number: u64) -> Result<Reason, AllocError>
+    ensures { IfOk result (λ reason. IsReason refused text.now number (caused_by reason)) }
 {
     match refused {
         Refused::Program(ProgramFault::Refused(refusal, _)) => {
-            whole_reason(alloc, refusal, place)
+            program_reason(alloc, refusal, text, number, 0)
         }
-        Refused::Setup(SetupFault::BadLine(_)) => setup_line_reason(alloc, place),
-        Refused::Setup(SetupFault::Twice(_)) => setup_twice_reason(alloc, place),
-        Refused::Setup(SetupFault::BadNumeral(_)) => setup_numeral_reason(alloc, place),
-        Refused::Schedule(ScheduleFault::BadLine(_)) => schedule_reason(alloc, place),
-        Refused::Features(TextFault::Damaged(_)) => ledger_reason(alloc, Ledger::Features, place),
-        Refused::Contacts(TextFault::Damaged(_)) => ledger_reason(alloc, Ledger::Contacts, place),
-        Refused::Record(RecordFault::Damaged(_)) => record_reason(alloc, place),
-        Refused::Limits(LimitsFault::NotLimit(_)) => limit_line_reason(alloc, place),
-        Refused::Limits(LimitsFault::Twice(_)) => limit_twice_reason(alloc, place),
-        Refused::Limits(LimitsFault::EmptyRange(_)) => limit_range_reason(alloc, place),
         Refused::Program(ProgramFault::Memory)
-        | Refused::Setup(SetupFault::Memory)
-        | Refused::Schedule(ScheduleFault::Memory)
-        | Refused::Features(TextFault::Memory)
-        | Refused::Contacts(TextFault::Memory)
-        | Refused::Record(RecordFault::Memory)
-        | Refused::Limits(LimitsFault::Memory) => Ok(Reason::of_line(String::new(alloc))),
+        | Refused::Setup(_)
+        | Refused::Schedule(_)
+        | Refused::Features(_)
+        | Refused::Contacts(_)
+        | Refused::Record(_)
+        | Refused::Limits(_) => other_reason(alloc, refused, Place::on_line(text, number, 0)),
     }
 }
 
@@ -121,15 +122,8 @@ fn numbered_place(
     ensures { IfOk result (λ shown.
         IsPlace refused name.now text.now number (string_bytes shown)) }
 {
-    let rest = from_line(text, number);
-    let place = Place {
-        text,
-        rest,
-        number,
-        above: 0,
-    };
-    let reason = reason(alloc, refused, place)?;
-    let line = first_line(rest);
+    let reason = reason(alloc, refused, text, number)?;
+    let line = first_line(from_line(text, number));
     let start = shown_start(line, reason.at, reason.len);
     let shown = shown_line(alloc, line, start)?;
     place_text(alloc, name, number, &shown, &reason.said)

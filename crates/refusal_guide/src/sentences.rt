@@ -1,11 +1,10 @@
 // The sentence on a refusal by itself, without its line.
 
 ghost use Rattle.std.specs.Prelude.{◌≡◌, OnErr, IfOk};
-ghost use Rattle.refusal_guide.specs.Reasons.{spot_at, IsProgramReason};
+ghost use Rattle.refusal_guide.specs.Reasons.{IsProgramReason};
 ghost use Rattle.refusal_guide.specs.Passages.{spot_in};
 ghost use Rattle.refusal_guide.specs.Words.{caused_by};
 
-use crate::lines::{Place, from_line};
 use crate::programs::program_reason;
 use crate::words::Reason;
 use dmis_program::Refusal;
@@ -23,26 +22,14 @@ pub struct Passage<'a> {
     pub line: u64,
 }
 
-/// The passage as a place of its own text.
-fn place_of(passage: Passage) -> Place
-    ensures { spot_at result ≡ spot_in passage.entry }
-{
-    let above = passage.first.saturating_sub(1);
-    let number = passage.line.saturating_sub(above);
-    Place {
-        text: passage.text,
-        rest: from_line(passage.text, number),
-        number,
-        above,
-    }
-}
-
 /// Why a program is refused there.
 fn reason(alloc: Global, refusal: Refusal, passage: Passage) -> Result<Reason, AllocError>
     ensures { IfOk result (λ reason.
         IsProgramReason refusal (spot_in passage.entry) (caused_by reason)) }
 {
-    program_reason(alloc, refusal, place_of(passage))
+    let above = passage.first.saturating_sub(1);
+    let number = passage.line.saturating_sub(above);
+    program_reason(alloc, refusal, passage.text, number, above)
 }
 
 /// Appends the sentence on a refusal of a program that `write_place` has below the line. Fails only if out of memory, and then nothing is

@@ -5,10 +5,10 @@ ghost use Rattle.dmis_text.specs.Reading.{text_reading};
 ghost use Rattle.std.specs.Option.{option_map};
 ghost use Rattle.dmis_program.specs.Keywords.{keyword_of};
 ghost use Rattle.refusal_guide.specs.Words.{named_by, caused, caused_by};
-ghost use Rattle.refusal_guide.specs.Spots.{after_word, after_label, after_params, word_from, label_spot, part_spot, word_spot, param_spot};
+ghost use Rattle.refusal_guide.specs.Spots.{after_word, after_label, after_params, word_from, part_spot, word_spot, param_spot};
 
 use crate::causes::Cause;
-use crate::words::{Reason, Word, place_from};
+use crate::words::{Explained, Word, place_from};
 use dmis_program::{Keyword, keyword_of_word};
 use dmis_text::{Statement, Statements, Text, TextFault};
 use std::alloc::{AllocError, Global};
@@ -56,7 +56,6 @@ fn behind(text: &[u8], from: Option<usize>, wanted: &[u8]) -> Option<usize>
 }
 
 impl<'s, 'a> Found<'s, 'a> {
-    /// What its major word is.
     pub(crate) fn keyword(&self) -> Keyword
         ensures { result ≡ keyword_of self.now.statement.now.word }
     {
@@ -91,27 +90,16 @@ impl<'s, 'a> Found<'s, 'a> {
     {
         match place {
             Some(place) => Word::found(self.rest, place, wanted),
-            None => Word {
-                bytes: wanted,
-                at: None,
-            },
+            None => Word::of_bytes(wanted),
         }
-    }
-
-    /// This label.
-    pub(crate) fn label(&self, label: &'s Text<'a>) -> Word<'s>
-        ensures { named_by result ≡ label_spot self.now.rest.now label.now }
-    {
-        self.word_from(Some(0), label)
     }
 
     pub(crate) fn word(&self) -> Word<'s>
         ensures { named_by result ≡ word_spot self.now.rest.now self.now.statement.now }
     {
-        self.word_from(self.behind_label(), &self.statement.word)
+        self.in_word(&self.statement.word)
     }
 
-    /// A part of the major word.
     pub(crate) fn in_word(&self, part: &'s [u8]) -> Word<'s>
         ensures { named_by result ≡ part_spot self.now.rest.now self.now.statement.now part.now }
     {
@@ -127,10 +115,10 @@ impl<'s, 'a> Found<'s, 'a> {
     }
 
     /// That the major word is at fault for this cause.
-    pub(crate) fn because(&self, alloc: Global, cause: Cause) -> Result<Option<Reason>, AllocError>
+    pub(crate) fn because(&self, alloc: Global, cause: Cause) -> Explained
         ensures { IfOk result (λ reason. option_map caused_by reason
             ≡ Some (caused cause (word_spot self.now.rest.now self.now.statement.now))) }
     {
-        Ok(Some(self.word().because(alloc, cause, "")?))
+        self.word().because(alloc, cause, "")
     }
 }

@@ -50,28 +50,6 @@ pub fn write_other_part(
     out.extend_from_slice(text.as_bytes())
 }
 
-/// In what a touch of this number, counted from 1, differs; none if it does not.
-fn touch_sentence(
-    alloc: Global,
-    label: &str,
-    number: usize,
-    one: &Touch,
-    other: &Touch,
-) -> Result<Option<String>, AllocError> {
-    let one = Request::of_touch(one);
-    let other = Request::of_touch(other);
-    let Some(difference) = one.difference(alloc, &other)? else {
-        return Ok(None);
-    };
-    let what = difference.what;
-    let one: &str = &difference.one;
-    let other: &str = &difference.other;
-    let said = format!(in alloc;
-        "The {what} of touch {number} of {label} is {one} in the record and {other} in the program.\n"
-    )?;
-    Ok(Some(said))
-}
-
 /// In what the first differing touch differs; none if none does.
 fn touches_sentence(
     alloc: Global,
@@ -79,13 +57,16 @@ fn touches_sentence(
     asked: &[Touch],
     wanted: &[Touch],
 ) -> Result<Option<String>, AllocError> {
-    for (index, one) in asked.iter().enumerate() {
-        let Some(other) = wanted.get(index) else {
-            return Ok(None);
-        };
-        let said = touch_sentence(alloc, label, index.saturating_add(1), one, other)?;
-        if said.is_some() {
-            return Ok(said);
+    for (index, held) in asked.iter().enumerate() {
+        let held = Request::of_touch(held);
+        let number = index.saturating_add(1);
+        if let Some(other) = wanted.get(index)
+            && let Some(found) = held.difference(alloc, &Request::of_touch(other))?
+        {
+            let (what, one, other) = found;
+            return Ok(Some(format!(in alloc;
+                "The {what} of touch {number} of {label} is {one} in the record and {other} in the program.\n"
+            )?));
         }
     }
     Ok(None)
@@ -101,19 +82,17 @@ fn feature_sentence(
     let held = visible(alloc, asked.label().as_bytes())?;
     if asked.label().as_bytes() != wanted.label.as_bytes() {
         let other = visible(alloc, wanted.label.as_bytes())?;
-        let said = format!(in alloc;
+        return Ok(Some(format!(in alloc;
             "Feature {number} is {held} in the record and {other} in the program.\n"
-        )?;
-        return Ok(Some(said));
+        )?));
     }
     let count = asked.touches().len();
     let touches = wanted.touches.as_slice();
     let other = touches.len();
     if count != other {
-        let said = format!(in alloc;
+        return Ok(Some(format!(in alloc;
             "The number of touches of {held} is {count} in the record and {other} in the program.\n"
-        )?;
-        return Ok(Some(said));
+        )?));
     }
     touches_sentence(alloc, &held, asked.touches(), touches)
 }
@@ -127,10 +106,9 @@ fn missing_sentence(
     with: &str,
 ) -> Result<Option<String>, AllocError> {
     let label = visible(alloc, label)?;
-    let said = format!(in alloc;
+    Ok(Some(format!(in alloc;
         "The {without} has no feature {number}, which is {label} in the {with}.\n"
-    )?;
-    Ok(Some(said))
+    )?))
 }
 
 /// In what the first differing feature differs; none if none does.

@@ -4,8 +4,11 @@ ghost use Rattle.std.specs.Prelude.{◌≡◌, ◌≤◌, true, find, length, Ma
 ghost use Rattle.std.specs.List.{list_all, prefix_len};
 ghost use Rattle.std.specs.Char.{is_ascii_digit};
 ghost use Rattle.refusal_guide.specs.declared.topics.TheConstants.{TOPICS};
-ghost use Rattle.refusal_guide.specs.Titles.{title_of, is_of_code, code_in, is_called};
+ghost use Rattle.refusal_guide.specs.Titles.{title_of, is_of_code, code_in, is_called, IsTitleOf};
 ghost use Rattle.refusal_guide.specs.Codes.{is_error_number, is_code_of, topic_of};
+ghost use Rattle.dmis_program.specs.Messages.{refusal_text};
+
+use dmis_program::Refusal;
 
 /// What `dme` refuses by a code, or its server reports by a number.
 #[derive(Clone, Copy, Debug, PartialEq, Eq)]
@@ -170,11 +173,22 @@ fn code_in(title: &[u8]) -> &[u8]
     code
 }
 
-/// Whether a title begins with this code, its letters in any case.
 fn is_called(title: &[u8], code: &[u8]) -> bool
     ensures { result ≡ is_called title.now code.now }
 {
     code.eq_ignore_ascii_case(code_in(title))
+}
+
+fn all_digits(code: &[u8]) -> bool
+    ensures { result ≡ list_all is_ascii_digit code.now }
+{
+    code.iter().all(|byte| byte.is_ascii_digit())
+}
+
+fn is_error_number(code: &[u8]) -> bool
+    ensures { result ≡ is_error_number code.now }
+{
+    code.len() == 4 && all_digits(code)
 }
 
 fn find_topic(code: &[u8]) -> Option<Topic>
@@ -186,31 +200,12 @@ fn find_topic(code: &[u8]) -> Option<Topic>
         .find(|topic| is_called(topic.title().as_bytes(), code))
 }
 
-fn all_digits(code: &[u8]) -> bool
-    ensures { result ≡ list_all is_ascii_digit code.now }
-{
-    code.iter().all(|byte| byte.is_ascii_digit())
-}
-
-/// Whether a code is the number of an error, as a server writes it.
-fn is_error_number(code: &[u8]) -> bool
-    ensures { result ≡ is_error_number code.now }
-{
-    code.len() == 4 && all_digits(code)
-}
-
 fn topic_of(code: &[u8]) -> Option<Topic>
     ensures { result ≡ topic_of code.now }
 {
     match find_topic(code) {
-        Some(topic) => Some(topic),
-        None => {
-            if is_error_number(code) {
-                Some(Topic::ServersOwn)
-            } else {
-                None
-            }
-        }
+        None if is_error_number(code) => Some(Topic::ServersOwn),
+        found => found,
     }
 }
 
@@ -219,55 +214,7 @@ impl Topic {
     pub fn title(self) -> &'static str
         ensures { result.now ≡ title_of self }
     {
-        match self {
-            Topic::NotDmis => "P1 NotDmis",
-            Topic::Truncated => "P2 Truncated",
-            Topic::LineTooLong => "P3 LineTooLong",
-            Topic::BadByte => "P4 BadByte",
-            Topic::Unsupported => "P5 Unsupported",
-            Topic::BadArguments => "P6 BadArguments",
-            Topic::BadNumeral => "P7 BadNumeral",
-            Topic::OutsideBlock => "P8 OutsideBlock",
-            Topic::InsideBlock => "P9 InsideBlock",
-            Topic::TooFewPoints => "P10 TooFewPoints",
-            Topic::UnknownFrame => "P11 UnknownFrame",
-            Topic::NotMillimetres => "P12 NotMillimetres",
-            Topic::NoProgMode => "P13 NoProgMode",
-            Topic::ZeroVector => "P14 ZeroVector",
-            Topic::NoTool => "P15 NoTool",
-            Topic::TooLarge => "P16 TooLarge",
-            Topic::NotNumeral => "N1 NotNumeral",
-            Topic::TooManyDigits => "N2 TooManyDigits",
-            Topic::NumeralTooLarge => "N3 TooLarge",
-            Topic::SetupLine => "S1 BadLine",
-            Topic::SetupTwice => "S2 Twice",
-            Topic::SetupNumeral => "S3 BadNumeral",
-            Topic::ScheduleLine => "H1 BadLine",
-            Topic::LimitLine => "M1 NotLimit",
-            Topic::LimitTwice => "M2 Twice",
-            Topic::LimitRange => "M3 EmptyRange",
-            Topic::Damaged => "K1 Damaged",
-            Topic::NotOurs => "C4 NotOurs",
-            Topic::RecordDamaged => "J1 Damaged",
-            Topic::OtherPart => "J2 OtherPart",
-            Topic::OtherProgram => "J3 OtherProgram",
-            Topic::NoTag => "9001 No tag",
-            Topic::TagInUse => "9002 Tag in use",
-            Topic::UnknownCommand => "9003 Unknown command",
-            Topic::BadCommand => "9004 Bad arguments",
-            Topic::NoSession => "9005 No session",
-            Topic::SessionOpen => "9006 Session open",
-            Topic::Aborted => "9007 Aborted",
-            Topic::ErrorState => "9008 Error state",
-            Topic::QueueFull => "9009 Queue full",
-            Topic::NotHomed => "9010 Not homed",
-            Topic::NoToolInHead => "9011 No tool",
-            Topic::UnknownTool => "9012 Unknown tool",
-            Topic::OutOfVolume => "9013 Out of volume",
-            Topic::NoSurface => "9014 No surface",
-            Topic::MachineFault => "9015 Machine fault",
-            Topic::ServersOwn => "Server's own error",
-        }
+        self.page().title
     }
 
     /// The topic of a code, its letters in any case: the one whose title begins with it, and the server's own errors for every other number of
@@ -277,5 +224,28 @@ impl Topic {
             (λ topic. is_code_of topic code.now ≡ true) }
     {
         topic_of(code)
+    }
+
+    pub(crate) fn of_refusal(refusal: Refusal) -> Topic
+        ensures { IsTitleOf (title_of result) (refusal_text refusal) }
+    {
+        match refusal {
+            Refusal::NotDmis => Topic::NotDmis,
+            Refusal::Truncated => Topic::Truncated,
+            Refusal::LineTooLong => Topic::LineTooLong,
+            Refusal::BadByte => Topic::BadByte,
+            Refusal::Unsupported => Topic::Unsupported,
+            Refusal::BadArguments => Topic::BadArguments,
+            Refusal::BadNumeral(_) => Topic::BadNumeral,
+            Refusal::OutsideBlock => Topic::OutsideBlock,
+            Refusal::InsideBlock => Topic::InsideBlock,
+            Refusal::TooFewPoints => Topic::TooFewPoints,
+            Refusal::UnknownFrame => Topic::UnknownFrame,
+            Refusal::NotMillimetres => Topic::NotMillimetres,
+            Refusal::NoProgMode => Topic::NoProgMode,
+            Refusal::ZeroVector => Topic::ZeroVector,
+            Refusal::NoTool => Topic::NoTool,
+            Refusal::TooLarge => Topic::TooLarge,
+        }
     }
 }

@@ -1,7 +1,7 @@
 // In what two touches differ.
 
 use contact_ledger::Act;
-use contact_ledger::fields::{add_direction, add_frame, add_point};
+use contact_ledger::fields::{add_direction, add_frame, add_name, add_point};
 use dmis_program::Touch;
 use fixed_um::{Dir, Frame, Name, Point};
 use session_telling::visible;
@@ -10,18 +10,10 @@ use std::alloc::{AllocError, Global};
 /// What a touch asks for.
 #[derive(Clone, Copy)]
 pub(crate) struct Request<'a> {
-    target: Point,
+    pub(crate) target: Point,
     dir: Option<Dir>,
     tool: &'a Name,
     frame: Frame,
-}
-
-/// In what two touches differ, and how each has it, in the form of a file.
-#[derive(Drop)]
-pub(crate) struct Difference {
-    pub(crate) what: &'static str,
-    pub(crate) one: String,
-    pub(crate) other: String,
 }
 
 /// Fields as a sentence shows them: without the space before them.
@@ -39,36 +31,7 @@ pub(crate) fn point_text(alloc: Global, point: Point) -> Result<String, AllocErr
     shown_fields(alloc, text.as_slice())
 }
 
-/// A direction, or its absence, in the form of a file.
-fn direction_text(alloc: Global, dir: Option<Dir>) -> Result<String, AllocError> {
-    let mut text = Vec::new(alloc);
-    add_direction(&mut text, dir)?;
-    shown_fields(alloc, text.as_slice())
-}
-
-/// A frame in the form of a file.
-fn frame_text(alloc: Global, frame: Frame) -> Result<String, AllocError> {
-    let mut text = Vec::new(alloc);
-    add_frame(&mut text, frame)?;
-    shown_fields(alloc, text.as_slice())
-}
-
 impl<'a> Request<'a> {
-    /// A target, a direction, a tool and a frame that are asked for.
-    pub(crate) fn new(
-        target: Point,
-        dir: Option<Dir>,
-        tool: &'a Name,
-        frame: Frame,
-    ) -> Request<'a> {
-        Request {
-            target,
-            dir,
-            tool,
-            frame,
-        }
-    }
-
     /// What a program's touch asks for.
     pub(crate) fn of_touch(touch: &'a Touch) -> Request<'a> {
         Request {
@@ -79,21 +42,24 @@ impl<'a> Request<'a> {
         }
     }
 
-    /// What a contact was asked for; none for another act.
-    pub(crate) fn of_contact(act: &'a Act) -> Option<Request<'a>> {
+    /// What a contact was asked for, and the point reported; none for another act.
+    pub(crate) fn of_contact(act: &'a Act) -> Option<(Request<'a>, Point)> {
         match act {
             Act::Contact {
                 target,
                 dir,
                 tool,
                 frame,
-                point: _,
-            } => Some(Request {
-                target: *target,
-                dir: *dir,
-                tool,
-                frame: *frame,
-            }),
+                point,
+            } => {
+                let asked = Request {
+                    target: *target,
+                    dir: *dir,
+                    tool,
+                    frame: *frame,
+                };
+                Some((asked, *point))
+            }
             _ => None,
         }
     }
@@ -106,39 +72,35 @@ impl<'a> Request<'a> {
             && self.frame == other.frame
     }
 
-    /// The first in which two touches differ, of target, direction, tool and frame; none if they are the same.
+    /// The first in which two touches differ, of target, direction, tool and frame, and how each has it, in the form of a file; none if they
+    /// are the same.
     pub(crate) fn difference(
         &self,
         alloc: Global,
-        other: &Request,
-    ) -> Result<Option<Difference>, AllocError> {
-        let (what, one, other) = if self.target != other.target {
-            (
-                "target",
-                point_text(alloc, self.target)?,
-                point_text(alloc, other.target)?,
-            )
-        } else if self.dir != other.dir {
-            (
-                "direction",
-                direction_text(alloc, self.dir)?,
-                direction_text(alloc, other.dir)?,
-            )
-        } else if self.tool.as_bytes() != other.tool.as_bytes() {
-            (
-                "tool",
-                visible(alloc, self.tool.as_bytes())?,
-                visible(alloc, other.tool.as_bytes())?,
-            )
-        } else if self.frame != other.frame {
-            (
-                "frame",
-                frame_text(alloc, self.frame)?,
-                frame_text(alloc, other.frame)?,
-            )
+        wanted: &Request,
+    ) -> Result<Option<(&'static str, String, String)>, AllocError> {
+        let mut one = Vec::new(alloc);
+        let mut other = Vec::new(alloc);
+        let what = if self.target != wanted.target {
+            add_point(&mut one, self.target)?;
+            add_point(&mut other, wanted.target)?;
+            "target"
+        } else if self.dir != wanted.dir {
+            add_direction(&mut one, self.dir)?;
+            add_direction(&mut other, wanted.dir)?;
+            "direction"
+        } else if self.tool.as_bytes() != wanted.tool.as_bytes() {
+            add_name(&mut one, self.tool)?;
+            add_name(&mut other, wanted.tool)?;
+            "tool"
+        } else if self.frame != wanted.frame {
+            add_frame(&mut one, self.frame)?;
+            add_frame(&mut other, wanted.frame)?;
+            "frame"
         } else {
             return Ok(None);
         };
-        Ok(Some(Difference { what, one, other }))
+        let one = shown_fields(alloc, one.as_slice())?;
+        Ok(Some((what, one, shown_fields(alloc, other.as_slice())?)))
     }
 }

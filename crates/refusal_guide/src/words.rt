@@ -1,7 +1,8 @@
 // The word of a line that a sentence names.
 
-ghost use Rattle.std.specs.Prelude.{◌≡◌, ◌≤◌, ◌+◌, ◌<◌, ℕ, false, true, length, None, IfOk, IfSome};
-ghost use Rattle.refusal_guide.specs.Words.{first_place, is_at, word_in, named_by, caused, caused_by};
+ghost use Rattle.std.specs.Prelude.{◌≡◌, ◌≤◌, ◌+◌, length, None, Some, IfOk, IfSome};
+ghost use Rattle.std.specs.Option.{option_map};
+ghost use Rattle.refusal_guide.specs.Words.{first_place, word_in, named_by, caused, caused_by};
 
 use crate::causes::{Cause, sentence_of};
 use crate::topics::Topic;
@@ -33,10 +34,7 @@ impl<'a> Word<'a> {
                     at: Some(at),
                 }
             }
-            None => Word {
-                bytes: wanted,
-                at: None,
-            },
+            None => Word::of_bytes(wanted),
         }
     }
 
@@ -61,17 +59,13 @@ impl<'a> Word<'a> {
     }
 
     /// That the word is at fault for this cause; `other` is the other text that the sentence names.
-    pub(crate) fn because(
-        &self,
-        alloc: Global,
-        cause: Cause,
-        other: &str,
-    ) -> Result<Reason, AllocError>
-        ensures { IfOk result (λ reason. caused_by reason ≡ caused cause (named_by self.now)) }
+    pub(crate) fn because(&self, alloc: Global, cause: Cause, other: &str) -> Explained
+        ensures { IfOk result (λ reason. option_map caused_by reason
+            ≡ Some (caused cause (named_by self.now))) }
     {
         let shown = self.shown(alloc)?;
         let said = sentence_of(alloc, cause, &shown, other)?;
-        Ok(Reason::of_word(cause, said, *self))
+        Ok(Some(Reason::of_word(cause, said, *self)))
     }
 
     /// The word between these texts.
@@ -86,23 +80,15 @@ impl<'a> Word<'a> {
     }
 
     /// The sentence that has the word between these texts.
-    pub(crate) fn reason(
-        &self,
-        alloc: Global,
-        before: &str,
-        behind: &str,
-    ) -> Result<Reason, AllocError> {
+    pub(crate) fn reason(&self, alloc: Global, before: &str, behind: &str) -> Explained {
         let said = self.between(alloc, before, behind)?;
-        Ok(Reason::of_word(Cause::Other, said, *self))
+        Ok(Some(Reason::of_word(Cause::Other, said, *self)))
     }
 }
 
 /// The first place from this one on at which these bytes are found, letters in any case.
 pub(crate) fn place_from(text: &[u8], from: usize, wanted: &[u8]) -> Option<usize>
     ensures place { result ≡ first_place text.now from wanted.now }
-    ensures least { IfSome result (λ at. (k : ℕ) → from ≤ k → k < at
-        → is_at text.now wanted.now k ≡ false) }
-    ensures found { IfSome result (λ at. is_at text.now wanted.now at ≡ true) }
     ensures within { IfSome result (λ at. at + length wanted.now ≤ length text.now) }
 {
     if wanted.len() > text.len() {
@@ -118,6 +104,9 @@ pub(crate) fn place_from(text: &[u8], from: usize, wanted: &[u8]) -> Option<usiz
     }
     None
 }
+
+/// Why a text is refused; none if it is not refused for this. Fails only if out of memory.
+pub(crate) type Explained = Result<Option<Reason>, AllocError>;
 
 /// What is wrong with a line: why, a sentence, and the place and the length of the word at fault in the bytes from that line on.
 #[derive(Drop)]
@@ -156,8 +145,8 @@ impl Reason {
     }
 
     /// Likewise of these words.
-    pub(crate) fn of_text(alloc: Global, text: &str) -> Result<Reason, AllocError> {
-        Ok(Reason::of_line(String::from_str(alloc, text)?))
+    pub(crate) fn of_text(alloc: Global, text: &str) -> Explained {
+        Ok(Some(Reason::of_line(String::from_str(alloc, text)?)))
     }
 
     /// This reason, or what the refusal of a topic means if there is none.
@@ -170,7 +159,7 @@ impl Reason {
     {
         match reason {
             Some(reason) => Ok(reason),
-            None => Reason::of_text(alloc, topic.meaning()),
+            None => Ok(Reason::of_line(String::from_str(alloc, topic.page().meaning)?)),
         }
     }
 }

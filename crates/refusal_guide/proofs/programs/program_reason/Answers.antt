@@ -1,8 +1,10 @@
-use Rattle.refusal_guide.proofs.Outside.{IfOk-weaker, spot_at}
+use Rattle.refusal_guide.proofs.Outside.{caused_by, IfOk-weaker, IsOfPlace, option_map, Spot, spot_of, subst}
 use Rattle.refusal_guide.proofs.ReasonLemmas.{reasoned}
 use Rattle.refusal_guide.proofs.programs.program_reason.Goals as goal
 
 pub returns : goal.returns
 returns c =
     IfOk-weaker c.or_topic.result _ _
-    (λ g e. reasoned c.args.refusal (spot_at c.args.place) c.in_ok-place_reason.field-0 g c.in_ok-place_reason.ensures e) c.or_topic.ensures
+    (λ g e. reasoned c.args.refusal (spot_of c.args.text.now c.args.number c.args.above) c.in_ok-place_reason.field-0 g
+    (subst (λ (p : Spot). IsOfPlace c.args.refusal p (option_map caused_by c.in_ok-place_reason.field-0)) c.on_line-place.ensures.spot
+    c.in_ok-place_reason.ensures) e) c.or_topic.ensures
