@@ -16,7 +16,6 @@ use Rattle.witness_judge.specs.declared.lines.Reply.TheVariants as reply
 use Rattle.witness_judge.specs.declared.lines.Sent.{Sent}
 use Rattle.witness_judge.specs.declared.lines.Sent.TheVariants as sent
 use Rattle.witness_judge.specs.declared.course.Course.{Course}
-use Rattle.witness_judge.specs.declared.course.Links.{Links}
 use Rattle.witness_judge.specs.declared.course.Notes.{Notes}
 use Rattle.witness_judge.specs.declared.rules.Moment.{Moment}
 use Rattle.witness_judge.specs.declared.rules.Stage.{Stage}
@@ -218,7 +217,7 @@ pub record AreAllNoted (up : List Sent) (above : List Heard) (n : Notes) : Type 
   pub counted : AreNoted mark.Received mark.Received up above n.counted.items
 
 -- which use of each tag is next
-pub record AreAllLinked (up : List Sent) (above : List Heard) (l : Links) : Type 0 where
+pub record AreAllLinked (up : List Sent) (above : List Heard) (l : Course) : Type 0 where
   pub next : AreNext up 0 l.next.items
   pub ends : AreLinked mark.Complete up above l.ends.items
   pub receipts : AreLinked mark.Received up above l.receipts.items
@@ -226,7 +225,7 @@ pub record AreAllLinked (up : List Sent) (above : List Heard) (l : Links) : Type
 
 -- what a server has done in these lines
 pub record IsCourse (up : List Sent) (above : List Heard) (c : Course) : Type 0 where
-  pub links : AreAllLinked up above c.links
+  pub links : AreAllLinked up above c
   pub notes : AreAllNoted up above c.notes
   pub so_far : c.moment ≡ moment up above
   pub unclear : c.is_unclear ≡ list_any is_unclear above

@@ -32,36 +32,16 @@ fn names(kind: Kind, sent: &Sent) -> bool
     }
 }
 
-fn names_none(sent: &Sent) -> bool
-    ensures { result ≡ spec.names_none sent.now }
-{
-    !matches!(sent, Sent::Command(_, _) | Sent::Unread(_, _))
-}
-
-fn named(up: &[Sent], kind: Kind) -> usize
-    ensures { result ≡ spec.named up.now kind }
-{
-    up.iter().filter(|sent| names(kind, sent)).count()
-}
-
-fn named_none(up: &[Sent]) -> usize
-    ensures { result ≡ count_by spec.names_none up.now }
-{
-    up.iter().filter(|sent| names_none(sent)).count()
-}
-
-fn kind_counts(alloc: Global, up: &[Sent]) -> Result<Vec<usize>, AllocError>
-    ensures { IfOk result (λ counts. counts.items ≡ map (spec.named up.now) spec.kinds) }
-{
-    KINDS.iter().map(|kind| named(up, *kind)).collect(alloc)
-}
-
 /// Lines of the client by command, and last those of no command of this profile. Fails only if out of memory.
 pub(crate) fn client_counts(alloc: Global, up: &[Sent]) -> Result<Vec<usize>, AllocError>
     ensures { IfOk result (λ counts. counts.items ≡ spec.client_counts up.now) }
 {
-    let mut counts = kind_counts(alloc, up)?;
-    counts.push(named_none(up))?;
+    let mut counts: Vec<usize> = KINDS
+        .iter()
+        .map(|kind| up.iter().filter(|sent| names(*kind, sent)).count())
+        .collect(alloc)?;
+    let others = up.iter().filter(|sent| !matches!(sent, Sent::Command(_, _) | Sent::Unread(_, _)));
+    counts.push(others.count())?;
     Ok(counts)
 }
 

@@ -56,11 +56,10 @@ fn heard_of(line: &[u8]) -> Heard
 pub(crate) fn sent_lines(alloc: Global, lines: &[Line]) -> Result<Vec<Sent>, AllocError>
     ensures { IfOk result (λ all. all.items ≡ map spec.sent_of lines.now) }
 {
-    let mut all = Vec::with_capacity(alloc, lines.len())?;
-    for line in lines {
-        all.push(sent_of(alloc, line.as_slice())?)?;
-    }
-    Ok(all)
+    lines
+        .iter()
+        .map(|line| sent_of(alloc, line.as_slice()))
+        .try_collect(alloc)
 }
 
 pub(crate) fn heard_lines(alloc: Global, lines: &[Line]) -> Result<Vec<Heard>, AllocError>
