@@ -2,7 +2,7 @@
 use Rattle.witness.proofs.Names.{◌&&◌, ◌==◌, ◌||◌, ◌∙◌, ◌≡◌, after_mark, all_renewed, answered_known, ap, below, Bool, Dialogue, eq-eqb, false, Fault}
 use Rattle.witness.proofs.Names.{faulting, Heard, heard_at, hearing, if◌then◌else◌, is_error, is_foreign, is_out_of_turn, is_rival, Known, Mark}
 use Rattle.witness.proofs.Names.{nothing, NotInTurn, Option, refl, SentCommand, Standing, stage_with, true, unknowing, unless_crossed, Use, use_heard, use_renewed, without_rival}
-use Rattle.witness.proofs.Names.{ℕ}
+use Rattle.witness.proofs.Names.{None, Some, ℕ}
 use Rattle.std.proofs.lemmas.Bool.{false≢true}
 use Rattle.witness.specs.declared.lines.Reported.TheVariants.{Broken}
 
@@ -59,3 +59,10 @@ pub in_turn_is : (d : Dialogue) (at : ℕ) (u : Use) (h : Heard) (is_end : Bool)
     → heard_at d at u h is_end ≡ hearing d at u h is_end
 in_turn_is d at u h is_end e =
     ap (λ b. if b then hearing (faulting d (Broken NotInTurn u.tag)) at (use_renewed (all_renewed Fault) u) h is_end else hearing d at u h is_end) e
+
+abbrev taken : Use → Option Use → Use
+taken u None = u
+taken u (Some w) = w
+
+pub same_use : (u w : Use) → Some u ≡ Some w → u ≡ w
+same_use u w e = ap (λ (o : Option Use). taken u o) e
