@@ -1,10 +1,13 @@
 -- What may be known for a line after a mark for it, and below a line that this profile does not know.
-use Rattle.witness.proofs.Names.{◌&&◌, ◌==◌, ◌||◌, ◌∙◌, ◌≡◌, after_mark, all_renewed, answered_known, ap, below, Bool, Dialogue, eq-eqb, false, Fault}
-use Rattle.witness.proofs.Names.{faulting, Heard, heard_at, hearing, if◌then◌else◌, is_error, is_foreign, is_out_of_turn, is_rival, Known, Mark}
-use Rattle.witness.proofs.Names.{nothing, NotInTurn, Option, refl, SentCommand, Standing, stage_with, true, unknowing, unless_crossed, Use, use_heard, use_renewed, without_rival}
-use Rattle.witness.proofs.Names.{None, Some, ℕ}
+use Rattle.witness.proofs.Names.{[], ◌&&◌, ◌+◌, ◌++◌, ◌==◌, ◌||◌, ◌∙◌, ◌∷◌, ◌≡◌, after_mark, all_renewed, answered_known, ap, at_once, below, Bool}
+use Rattle.witness.proofs.Names.{Dialogue, eq-eqb, false, Fault, faulting, foreign_event, fresh, Heard, heard_at, hearing, if◌then◌else◌, is_error}
+use Rattle.witness.proofs.Names.{is_foreign, is_out_of_turn, is_rival, is_some, Known, last_under, List, map, Mark, None, nothing, NotInTurn, Option}
+use Rattle.witness.proofs.Names.{refl, Some, sending, sending_after, sent_tagged, SentCommand, Stage, stage_with, Standing, sym, Tag, true, unknowing}
+use Rattle.witness.proofs.Names.{unless_crossed, Use, use_heard, use_renewed, with_event, without_rival, ℕ}
 use Rattle.std.proofs.lemmas.Bool.{false≢true}
-use Rattle.witness.specs.declared.lines.Reported.TheVariants.{Broken}
+use Rattle.witness.specs.Dialogues as dialogues
+use Rattle.witness.specs.declared.lines.Reported.TheVariants.{Broken, Other}
+use Rattle.witness.specs.declared.lines.Side.TheVariants.{Client}
 
 -- a line after a mark, by its parts, if the mark is its own, and if it may have been refused
 abbrev pub by_parts : ℕ → Heard → Use → Bool → Bool → Use
@@ -45,9 +48,36 @@ foreign_below s (SentCommand.Known c) k e = absurd (false≢true e)
 foreign_below s SentCommand.Asking k e = absurd (false≢true e)
 foreign_below s (SentCommand.Foreign line) k e = refl
 
-pub either_nothing : (b : Bool) → (if b then nothing else nothing) ≡ nothing
-either_nothing true = refl
-either_nothing false = refl
+-- what was sent last under a tag is the same when nothing is known
+pub last_unknowing : (tag : Tag) (us : List Use) (found : Option (ℕ × Bool)) → last_under tag (map unknowing us) found ≡ last_under tag us found
+last_unknowing tag [] found = refl
+last_unknowing tag (u ∷ us) found = last_unknowing tag us (dialogues.later tag u found)
+
+-- a line that may be carried out at once is sent under a tag
+pub at_once_sent : (d : Dialogue) (line : List ℕ) (tag : Tag) (what : SentCommand) (s : Option Standing) (k : Known)
+    → foreign_event tag what ≡ true → is_foreign what ≡ true
+    → sent_tagged d line tag what ≡ record {
+      ordered = d.ordered;
+      lines = d.lines + 1;
+      uses = map unknowing d.uses ++ record {
+        tag = tag;
+        command = what;
+        line = d.lines;
+        stage = Stage.Sent;
+        has_failed = false;
+        rival = dialogues.line_of (last_under tag d.uses None);
+        known = unless_crossed (dialogues.is_lost (last_under tag d.uses None)) nothing;
+      } ∷ [];
+      events = with_event tag d.events;
+      crossed = d.crossed || (d.ordered && is_some (dialogues.line_of (last_under tag d.uses None)));
+      known = below s what k;
+      reported = d.reported ++ Other Client line ∷ [];
+    }
+at_once_sent d line tag what s k now foreign =
+    ap (λ b. if b then sending (at_once d line) tag what else sending d tag what) now
+    ∙ ap (λ before. sending_after (at_once d line) tag what before) (last_unknowing tag d.uses None)
+    ∙ ap (λ known. record (sending_after (at_once d line) tag what (last_under tag d.uses None)) { known = known })
+    (foreign_below (fresh d.lines (dialogues.line_of (last_under tag d.uses None)) (dialogues.is_lost (last_under tag d.uses None))) what nothing foreign ∙ sym (foreign_below s what k foreign))
 
 -- a mark that comes out of turn, or does not
 pub early_is : (d : Dialogue) (at : ℕ) (u : Use) (h : Heard) (is_end : Bool) → is_out_of_turn d.uses at u h ≡ true

@@ -128,15 +128,21 @@ impl Dialogue {
 
     // ---- a line of the client
 
-    fn send(&mut self, tag: Tag, command: SentCommand) -> Result<(), AllocError>
+    fn send(&mut self, line: &[u8], tag: Tag, command: SentCommand) -> Result<(), AllocError>
         requires { self.old.lines + 1 < 2 ^ 64 }
-        ensures { Leads result self.old self.new (spec.sending self.old tag command) }
+        ensures { Leads result self.old self.new (spec.sent_tagged self.old line.now tag command) }
     {
         let (rival, is_lost) = last_under(self.uses.as_slice(), tag);
         let standing = fresh(self.lines, rival, is_lost);
         let below = below(self.alloc, &self.known, standing, &command)?;
         self.uses.reserve(1)?;
         self.events.reserve(1)?;
+        if foreign_event(tag, &command) {
+            let other = Text::new(self.alloc, line)?;
+            self.reported.push(Reported::Other(Side::Client, other))?;
+            forget(self.uses.as_mut_slice());
+            self.known = nothing();
+        }
         let known = replace(&mut self.known, below);
         self.uses.push_reserved(Use {
             tag,
@@ -148,41 +154,7 @@ impl Dialogue {
             known: unless(is_lost, known),
         });
         note_event(&mut self.events, tag);
-        self.crossed = self.crossed || (self.ordered && rival.is_some());
-        self.lines += 1;
-        Ok(())
-    }
-
-    #[tactic(auto, using(crate::proofs::AfterMarks::foreign_below, crate::proofs::AfterMarks::either_nothing))]
-    fn send_at_once(
-        &mut self,
-        line: &[u8],
-        tag: Tag,
-        command: SentCommand,
-    ) -> Result<(), AllocError>
-        requires room { self.old.lines + 1 < 2 ^ 64 }
-        requires foreign { is_foreign command ≡ true }
-        ensures { Leads result self.old self.new
-            (spec.sending (spec.at_once self.old line.now) tag command) }
-    {
-        let other = Text::new(self.alloc, line)?;
-        self.uses.reserve(1)?;
-        self.events.reserve(1)?;
-        self.reported.push(Reported::Other(Side::Client, other))?;
-        forget(self.uses.as_mut_slice());
-        let (rival, _) = last_under(self.uses.as_slice(), tag);
-        self.uses.push_reserved(Use {
-            tag,
-            command,
-            line: self.lines,
-            stage: Stage::Sent,
-            has_failed: false,
-            rival,
-            known: nothing(),
-        });
-        note_event(&mut self.events, tag);
-        self.crossed = self.crossed || (self.ordered && rival.is_some());
-        self.known = nothing();
+        self.crossed |= self.ordered & rival.is_some();
         self.lines += 1;
         Ok(())
     }
@@ -209,12 +181,7 @@ impl Dialogue {
             return Err(AllocError);
         }
         match sent(self.alloc, line)? {
-            Some((tag, command)) => {
-                if foreign_event(tag, &command) {
-                    return self.send_at_once(line, tag, command);
-                }
-                self.send(tag, command)
-            }
+            Some((tag, command)) => self.send(line, tag, command),
             None => self.send_untagged(line),
         }
     }
