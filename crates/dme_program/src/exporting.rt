@@ -6,9 +6,9 @@ use crate::files::{NamedSource, Sources};
 use byte_ports::Writing;
 use dme_orders::{
     ExportFiles, Exported, InputFiles, Missing, RecordFiles, RecordNotes, RecordText, explain,
-    export_files, export_record,
+    export_files, export_record, report_record,
 };
-use dme_words::{Export, RecordExport, RecordForm};
+use dme_words::{Export, PartReport, RecordExport, RecordForm};
 use refusal_guide::Topic;
 use std::io;
 use std::rt::Files;
@@ -95,6 +95,41 @@ pub fn export_of_record<R: Files + Input + Print + Eprint + AllocGlobal>(
     let form = text_of(order.form);
     let fault = match export_record(rt.alloc(), form, &mut limits, &mut sought, &mut sink) {
         Ok(exported) => return Ok(tell_exported(rt, &exported)),
+        Err(fault) => fault,
+    };
+    let mut files = record_files(rt, sought);
+    if let Some(limits) = limits {
+        files.limits = limits.into_file();
+    }
+    Err(refused(rt.alloc(), fault, files, order.explain))
+}
+
+/// How a page names a file.
+fn shown_name(name: &str) -> &str {
+    if name == "-" { "standard input" } else { name }
+}
+
+/// The order `report`: its exit status.
+#[inline(never)]
+pub fn report_of_record<R: Files + Input + Print + Eprint + AllocGlobal>(
+    rt: &R,
+    order: PartReport,
+) -> Result<u8, Fault> {
+    let name = String::from_str(rt.alloc(), shown_name(order.program.as_str()))?;
+    let mut sources = Sources::new(rt, order.explain);
+    let mut sought = RecordFiles {
+        setup: sources.maybe(order.setup),
+        record: sources.file(order.record),
+        program: sources.file(order.program),
+    };
+    let mut limits = sources.maybe(order.limits);
+    let mut sink = Writing::new(io::writer(rt));
+    let name = name.as_str();
+    let fault = match report_record(rt.alloc(), name, &mut limits, &mut sought, &mut sink) {
+        Ok(missing) => {
+            tell_missing(rt, &missing);
+            return Ok(missing.status());
+        }
         Err(fault) => fault,
     };
     let mut files = record_files(rt, sought);

@@ -7,7 +7,9 @@ ghost use Rattle.dme_program.specs.Blamed.{OnSetup};
 
 use crate::connecting::loop_program;
 use crate::explaining::{refused, tell_audit};
-use crate::exporting::{explain_topic, export, export_of_record, record_files, tell_notes};
+use crate::exporting::{
+    explain_topic, export, export_of_record, record_files, report_of_record, tell_notes,
+};
 use crate::faults::Fault;
 use crate::files::{NamedSource, Sources};
 use crate::serving::serve;
@@ -351,6 +353,7 @@ fn carry_out<
         Order::Judge(order) => read_recordings(rt, Job::Judge, order.up, order.down),
         Order::Watch(order) => watch(rt, order),
         Order::Lower(order) => lower(rt, order),
+        Order::Report(order) => report_of_record(rt, order),
     }
 }
 
