@@ -148,6 +148,7 @@ fn lower<R: Files + Input + Print + Eprint + AllocGlobal>(
         no_clearing: order.no_clearing,
         compensated: order.compensated,
         skip_manual: order.skip_manual,
+        stored_frames: order.stored_frames,
     };
     let name = String::from_str(rt.alloc(), order.program.as_str())?;
     let setup_name = name_of(rt.alloc(), &order.setup)?;

@@ -4,8 +4,14 @@ use Rattle.program_lowering.proofs.Names.{flat_text, is_operator_text, left_out,
 use Rattle.program_lowering.proofs.Names.{Ok, passed_over, Passes, refl, Some, text_refusal, true}
 use Rattle.std.specs.Option.{option_map}
 use Rattle.dmis_program.specs.Keywords.{keyword_of}
-use Rattle.program_lowering.specs.Examples.{all_choices, bare, first_by_hand, manual_front, measured, mode_man, mode_prog, plain_choices, start, to_operator}
+use Rattle.program_lowering.specs.Examples.{a_touch, all_choices, bare, labelled, make_b, recall_a, first_by_hand, manual_front, measured, mode_man, mode_prog, plain_choices, start, to_operator}
 use Rattle.program_lowering.specs.Lowering.{kept}
+use Rattle.program_lowering.specs.StoredFrames.{by_frame, frame_note, frame_notes, stored_frame, touches_until}
+use Rattle.dmis_program.specs.LookBack.{frame_said, nearest}
+use Rattle.dmis_program.specs.Parameters.{name_within}
+use Rattle.dmis_program.specs.Positions.{position_of}
+use Rattle.dmis_program.specs.Sayings.{said_by, said_of}
+use Rattle.program_lowering.proofs.Names.{Recalls}
 use Rattle.program_lowering.specs.Manual.{in_manual, is_skipped}
 use Rattle.program_lowering.specs.declared.words.Reason.TheVariants as reason
 use Rattle.program_lowering.specs.Inches.{in_inches, stated}
@@ -143,3 +149,64 @@ manual_looped = refl
 pub manual_open : is_skipped true (bare (codes "GOTO") (codes "'A" ∷ [])) ≡ false
 unfolding keyword_of
 manual_open = refl
+
+pub frame_made : by_frame all_choices (labelled (codes "D(A)") (codes "DATSET")) ≡ recall_a
+unfolding keyword_of name_within
+frame_made = refl
+
+pub frame_moved : by_frame all_choices (labelled (codes "D(A)") (codes "TRANS")) ≡ recall_a
+unfolding keyword_of name_within
+frame_moved = refl
+
+pub frame_turned : by_frame all_choices (labelled (codes "DA(a)") (codes "ROTATE")) ≡ recall_a
+unfolding keyword_of name_within
+frame_turned = refl
+
+pub frame_recalled : by_frame all_choices (bare (codes "RECALL") (codes "DA(A)" ∷ [])) ≡ recall_a
+unfolding keyword_of name_within
+frame_recalled = refl
+
+pub frame_unasked : by_frame plain_choices (labelled (codes "D(A)") (codes "DATSET")) ≡ labelled (codes "D(A)") (codes "DATSET")
+unfolding keyword_of name_within
+frame_unasked = refl
+
+pub frame_unnamed : stored_frame all_choices (labelled (codes "F(A)") (codes "DATSET")) ≡ None
+unfolding keyword_of name_within
+frame_unnamed = refl
+
+pub frame_equated : stored_frame all_choices (labelled (codes "D(A)") (codes "EQUATE")) ≡ None
+unfolding keyword_of name_within
+frame_equated = refl
+
+pub frame_datum : left_out all_choices (bare (codes "DATDEF") []) ≡ Some reason.Datum
+unfolding keyword_of name_within
+frame_datum = refl
+
+pub frame_datum_stays : left_out plain_choices (bare (codes "DATDEF") []) ≡ None
+unfolding keyword_of name_within
+frame_datum_stays = refl
+
+pub frame_saved : left_out all_choices (bare (codes "SAVE") (codes "D(A)" ∷ [])) ≡ Some reason.Saved
+unfolding keyword_of name_within
+frame_saved = refl
+
+pub frame_sensor : left_out all_choices (bare (codes "SAVE") (codes "S(A)" ∷ [])) ≡ None
+unfolding keyword_of name_within
+frame_sensor = refl
+
+pub frame_nearest : nearest frame_said (make_b ∷ recall_a ∷ []) ≡ Some (codes "B")
+unfolding keyword_of name_within said_of said_by position_of
+frame_nearest = refl
+
+pub frame_before : nearest frame_said (recall_a ∷ make_b ∷ recall_a ∷ []) ≡ Some (codes "A")
+unfolding keyword_of name_within said_of said_by position_of
+frame_before = refl
+
+pub frame_counted : touches_until (a_touch ∷ a_touch ∷ make_b ∷ a_touch ∷ []) ≡ 2
+unfolding keyword_of name_within said_of said_by position_of
+frame_counted = refl
+
+pub frame_listed : frame_notes (recall_a ∷ a_touch ∷ make_b ∷ [])
+    ≡ frame_note 1 (Ok (Recalls (codes "A"))) 1 ++ (frame_note 1 (Ok (Recalls (codes "B"))) 0 ++ [])
+unfolding keyword_of name_within said_of said_by position_of
+frame_listed = refl

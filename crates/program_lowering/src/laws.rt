@@ -2,7 +2,7 @@
 ghost use Rattle.std.specs.Prelude.{◌≡◌, ◌<◌, ◌^◌, ◌++◌, ◌∷◌, ◌*◌, [], ℕ, ℤ, pos, neg_ℤ, int_lt, unsigned_abs, List, length, codes, false, true, Some, None, Ok};
 ghost use Rattle.std.specs.Option.{option_map};
 ghost use Rattle.dmis_program.specs.declared.faults.Refusal.TheVariants.{BadByte};
-ghost use Rattle.dmis_program.specs.declared.sayings.StatementMeaning.TheVariants.{Passes};
+ghost use Rattle.dmis_program.specs.declared.sayings.StatementMeaning.TheVariants.{Passes, Recalls};
 ghost use Rattle.std.specs.List.{AllByRecursion};
 ghost use Rattle.fixed_um.specs.declared.lengths.Point.{Point};
 ghost use Rattle.dmis_program.specs.Meaning.{Meaning, program_of};
@@ -15,11 +15,13 @@ ghost use Rattle.dmis_text.specs.Statements.{has_open_text};
 ghost use Rattle.dmis_text.specs.declared.elements.Statement.{Statement};
 ghost use Rattle.program_lowering.specs.Lowering.{ended_lines, flat_program, kept, left_out_at, lowered_meaning, passed_over};
 ghost use Rattle.program_lowering.specs.Manual.{in_manual, is_skipped};
+ghost use Rattle.program_lowering.specs.StoredFrames.{by_frame, frame_note, frame_notes, stored_frame, touches_until};
+ghost use Rattle.dmis_program.specs.LookBack.{frame_said, nearest, saying};
 ghost use Rattle.fixed_um.specs.Limits.{component_limit};
 ghost use Rattle.fixed_um.specs.Numerals.{IsRounded, Reads, signed};
 ghost use Rattle.dmis_program.specs.Positions.{length_of};
 ghost use Rattle.program_lowering.specs.Inches.{all_stated, in_inches, in_millimetres, inch_length, stated};
-ghost use Rattle.program_lowering.specs.Examples.{all_choices, bare, first_by_hand, manual_front, measured, mode_man, mode_prog, plain_choices, start, to_operator};
+ghost use Rattle.program_lowering.specs.Examples.{a_touch, all_choices, bare, labelled, make_b, recall_a, first_by_hand, manual_front, measured, mode_man, mode_prog, plain_choices, start, to_operator};
 ghost use Rattle.program_lowering.specs.Flats.{flat, flat_text};
 ghost use Rattle.program_review.specs.Texts.{is_operator_text};
 ghost use Rattle.program_lowering.specs.OperatorTexts.{TextsFit, flat_meant, text_refusal};
@@ -92,6 +94,38 @@ pub fn examples_of_manual_blocks()
     ensures scanned { is_skipped true (bare (codes "SCAN") []) ≡ true }
     ensures looped { is_skipped true (bare (codes "DO") []) ≡ false }
     ensures open { is_skipped true (bare (codes "GOTO") (codes "'A" ∷ [])) ≡ false }
+{}
+
+/// What makes or recalls a coordinate system by name selects the stored frame of this name, and no other statement changes.
+pub fn frames_are_selected_by_name()
+    ensures selects { (choices : Choices) (s : Statement) (name : List ℕ)
+        → stored_frame choices s ≡ Some name → saying (by_frame choices s) ≡ Ok (Recalls name) }
+    ensures others { (choices : Choices) (s : Statement) → stored_frame choices s ≡ None
+        → by_frame choices s ≡ s }
+{}
+
+/// Examples: alignments by name, and the frame of a touch below them.
+pub fn examples_of_frames()
+    ensures made { by_frame all_choices (labelled (codes "D(A)") (codes "DATSET")) ≡ recall_a }
+    ensures moved { by_frame all_choices (labelled (codes "D(A)") (codes "TRANS")) ≡ recall_a }
+    ensures turned { by_frame all_choices (labelled (codes "DA(a)") (codes "ROTATE")) ≡ recall_a }
+    ensures recalled { by_frame all_choices (bare (codes "RECALL") (codes "DA(A)" ∷ []))
+        ≡ recall_a }
+    ensures unasked { by_frame plain_choices (labelled (codes "D(A)") (codes "DATSET"))
+        ≡ labelled (codes "D(A)") (codes "DATSET") }
+    ensures unnamed { stored_frame all_choices (labelled (codes "F(A)") (codes "DATSET")) ≡ None }
+    ensures equated { stored_frame all_choices (labelled (codes "D(A)") (codes "EQUATE")) ≡ None }
+    ensures datum { left_out all_choices (bare (codes "DATDEF") []) ≡ Some reason.Datum }
+    ensures datum_stays { left_out plain_choices (bare (codes "DATDEF") []) ≡ None }
+    ensures saved { left_out all_choices (bare (codes "SAVE") (codes "D(A)" ∷ []))
+        ≡ Some reason.Saved }
+    ensures sensor { left_out all_choices (bare (codes "SAVE") (codes "S(A)" ∷ [])) ≡ None }
+    ensures nearest { nearest frame_said (make_b ∷ (recall_a ∷ [])) ≡ Some (codes "B") }
+    ensures before { nearest frame_said (recall_a ∷ (make_b ∷ (recall_a ∷ [])))
+        ≡ Some (codes "A") }
+    ensures counted { touches_until (a_touch ∷ (a_touch ∷ (make_b ∷ (a_touch ∷ [])))) ≡ 2 }
+    ensures listed { frame_notes (recall_a ∷ (a_touch ∷ (make_b ∷ [])))
+        ≡ frame_note 1 (Ok (Recalls (codes "A"))) 1 ++ (frame_note 1 (Ok (Recalls (codes "B"))) 0 ++ []) }
 {}
 
 /// The head of a flat program is comments alone.

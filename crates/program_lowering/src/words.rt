@@ -3,8 +3,8 @@
 ghost use Rattle.std.specs.Prelude.{◌≡◌};
 ghost use Rattle.std.specs.Str.{bytes_eq};
 ghost use Rattle.dmis_program.specs.Keywords.{is_among, keyword_of};
-ghost use Rattle.program_lowering.specs.Words.{clearing, compensation, left_out, naming, passed_motion};
-ghost use Rattle.program_lowering.specs.Words.{passed_reason, printing, reason_of};
+ghost use Rattle.program_lowering.specs.Words.{clearing, compensation, left_out, naming, of_setup, passed_motion};
+ghost use Rattle.program_lowering.specs.Words.{passed_reason, printing, reason_of, saves_frame};
 ghost use Rattle.program_lowering.specs.Reasons.{reason_text};
 
 use dmis_program::Keyword;
@@ -19,6 +19,8 @@ pub struct Choices {
     pub compensated: bool,
     /// What the operator would measure is left out.
     pub skip_manual: bool,
+    /// Alignments select the frames of the setup that have their names.
+    pub stored_frames: bool,
 }
 
 /// Why nothing is written of a statement.
@@ -40,6 +42,10 @@ pub enum Reason {
     Compensated,
     /// The operator would measure.
     Manual,
+    /// It names a datum.
+    Datum,
+    /// It saves a frame that the setup has.
+    Saved,
     /// It commands nothing.
     Passed,
 }
@@ -106,6 +112,29 @@ fn compensation(compensated: bool, params: &[Text]) -> Option<Reason>
     None
 }
 
+/// Whether a `SAVE` with these parameters saves a frame.
+fn saves_frame(params: &[Text]) -> bool
+    ensures { result ≡ saves_frame params.now }
+{
+    match params {
+        [only] => only.starts_with(b"D(") || only.starts_with(b"DA("),
+        _ => false,
+    }
+}
+
+/// What alignments by name leave to the setup.
+fn of_setup(word: &[u8], params: &[Text]) -> Option<Reason>
+    ensures { result ≡ of_setup word.now params.now }
+{
+    if is_text(word, "DATDEF") {
+        return Some(Reason::Datum);
+    }
+    if is_text(word, "SAVE") && saves_frame(params) {
+        return Some(Reason::Saved);
+    }
+    None
+}
+
 /// Why a word that no flat program has may be left out.
 fn reason_of(choices: Choices, word: &[u8], params: &[Text]) -> Option<Reason>
     ensures { result ≡ reason_of choices word.now params.now }
@@ -131,6 +160,9 @@ fn reason_of(choices: Choices, word: &[u8], params: &[Text]) -> Option<Reason>
     }
     if is_text(word, "TECOMP") {
         return compensation(choices.compensated, params);
+    }
+    if choices.stored_frames {
+        return of_setup(word, params);
     }
     None
 }
@@ -181,6 +213,8 @@ pub(crate) fn reason_text(reason: Reason) -> &'static [u8]
         Reason::Uncompensated => b"nothing is corrected for temperature",
         Reason::Compensated => b"the machine corrects for temperature",
         Reason::Manual => b"it is in a manual block; the operator would carry it out",
+        Reason::Datum => b"it names a datum; the setup has the frames",
+        Reason::Saved => b"the setup has the frame",
         Reason::Passed => b"it commands nothing",
     }
 }
