@@ -220,17 +220,24 @@ AsksAt st s ask = IsQuietAsk ask
 abbrev pub Asks : State → Ask → Type 0
 Asks s ask = AsksAt s.stage s ask
 
+-- a pause is to come, and all that stands above it is counted
+abbrev pub IsPaused : State → Type 0
+IsPaused s = (1 ≤ length s.book.pauses) × (length s.pair.end.client.table.tally.todo ≤ held s.book.pauses)
+
 -- what holds besides before an effect is asked for: what is printed is the client's report; what replaces the features file are the features
--- that the client holds; and what is added to the record without being forced completes no feature
+-- that the client holds; what is added to the record without being forced completes no feature; and the operator is asked at a pause
 pub data Want : Type 0 where
   Report : Want
   Features : Want
   Unforced : Want
+  Pause : Want
 
 abbrev pub wants : Stage → Option Want
 wants stage.Printing = Some Report
 wants stage.ReplacingFeatures = Some Features
 wants stage.Recording = Some Unforced
+wants stage.Awaiting = Some Pause
+wants stage.Returning = Some Pause
 wants s = None
 
 abbrev pub IsDueBy : Option Want → State → Type 0
@@ -238,6 +245,7 @@ IsDueBy None s = ⊤
 IsDueBy (Some Report) s = s.text ≡ report_text (end_shown s.pair.end)
 IsDueBy (Some Features) s = IsFeaturesText s.pair.end.client.table.tally.features s.list
 IsDueBy (Some Unforced) s = s.pair.recording.telling.counted.features ≤ s.book.settled
+IsDueBy (Some Pause) s = IsPaused s
 
 abbrev pub IsDue : State → Type 0
 IsDue s = IsDueBy (wants s.stage) s
