@@ -1,47 +1,42 @@
-// The order `serve`: its session, with hands on files and sockets.
+// The orders `ledger`, `judge`, `serve`, `watch` and `run`: their sessions, with hands on files and sockets. Each ends with its exit status,
+// or with 70 once no more turns can be counted.
+
+ghost use Rattle.std.specs.Prelude.{◌≡◌, true};
+ghost use Rattle.client_core.specs.Clients.{is_window};
 
 use crate::explaining::refused;
 use crate::faults::Fault;
 use crate::files::Sources;
 use dme_hands::RealHands;
 use dme_orders::{InputFiles, read_setup};
-use dme_words::Service;
-use services::{Service as Values, Session, run};
-use std::fs::File;
-use std::net::{Net, TcpListener, TcpStream};
-use std::rt::{Clock, Files};
-use tool_rack::Setup;
+use dme_words::{Run, Service, Watch};
+use ledger_session::{Job, Session as Reading};
+use run_opening::Opening;
+use services::{Relay, RelaySession, Service as Values, Session};
 
-/// The setup of a service.
-fn setup_of<R: Files + Input + AllocGlobal>(rt: &R, order: &mut Service) -> Result<Setup, Fault> {
-    let name = std::mem::replace(&mut order.setup, String::new(rt.alloc()));
-    let mut source = Sources::new(rt, order.explain).file(name);
-    let read = read_setup(rt.alloc(), &mut source);
-    let file = source.into_file();
-    match read {
-        Ok(setup) => Ok(setup),
-        Err(fault) => {
-            let mut files = InputFiles::unnamed(rt.alloc());
-            files.setup = file;
-            Err(refused(rt.alloc(), fault, files, order.explain))
-        }
-    }
+/// The status of a session that has not ended.
+const ENDLESS: u8 = 70;
+
+/// The order `ledger` or `judge`.
+#[inline(never)]
+pub fn read_recordings(rt: HostRuntime, job: Job, up: String, down: String) -> Result<u8, Fault> {
+    let mut session = Reading::new(rt.alloc(), job, up, down)?;
+    Ok(ledger_session::run(&mut session, &mut RealHands::new(rt)).unwrap_or(ENDLESS))
 }
 
-/// The order `serve`: its exit status, or 70 once no more turns can be counted.
+/// The order `serve`.
 #[inline(never)]
-pub fn serve<
-    R: Files<File = File>
-        + Input
-        + Print
-        + Eprint
-        + Clock
-        + Net<Listener = TcpListener, Stream = TcpStream>
-        + AllocGlobal
-        + Clone
-        + Drop,
->(rt: &R, mut order: Service) -> Result<u8, Fault> {
-    let setup = setup_of(rt, &mut order)?;
+pub fn serve(rt: HostRuntime, order: Service) -> Result<u8, Fault> {
+    let mut source = Sources::new(rt, order.explain).file(order.setup);
+    let read = read_setup(rt.alloc(), &mut source);
+    let files = InputFiles {
+        setup: source.into_file(),
+        ..InputFiles::unnamed(rt.alloc())
+    };
+    let setup = match read {
+        Ok(setup) => setup,
+        Err(fault) => return Ok(refused(rt, fault, files, order.explain)),
+    };
     let service = Values {
         listen: order.listen,
         port: order.port,
@@ -53,9 +48,33 @@ pub fn serve<
         timeout: order.timeout,
         stop: order.stop,
     };
-    let mut hands = RealHands::new(rt.clone()?);
     let mut session = Session::new(rt.alloc(), service, setup)?;
-    let status = run(&mut session, &mut hands).unwrap_or(70);
-    drop(session);
-    Ok(status)
+    Ok(services::run(&mut session, &mut RealHands::new(rt)).unwrap_or(ENDLESS))
+}
+
+/// The order `watch`.
+#[inline(never)]
+pub fn watch(rt: HostRuntime, order: Watch) -> Result<u8, Fault> {
+    let relay = Relay {
+        listen: order.listen,
+        host: order.host,
+        port: order.port,
+        told: order.told,
+        folder: order.record_bytes,
+        connections: order.connections,
+        trace: order.trace,
+        log: order.log,
+        timeout: order.timeout,
+    };
+    let mut session = RelaySession::new(rt.alloc(), relay)?;
+    Ok(services::run_relay(&mut session, &mut RealHands::new(rt)).unwrap_or(ENDLESS))
+}
+
+/// The order `run`.
+#[inline(never)]
+pub fn run_program(rt: HostRuntime, order: Run) -> u8
+    requires { is_window order.window ≡ true }
+{
+    let mut opening = Opening::new(rt.alloc(), order);
+    run_opening::run(&mut opening, &mut RealHands::new(rt)).unwrap_or(ENDLESS)
 }

@@ -7,6 +7,7 @@ use crate::{Answer, Cause};
 use std::alloc::Global;
 use std::io::{self, ErrorKind};
 use std::marker::Model;
+use std::time::Duration;
 
 /// What came of an effect, but for its bytes.
 #[derive(Clone, Copy, Debug, PartialEq, Eq)]
@@ -111,14 +112,14 @@ impl Came {
         };
     }
 
-    /// A connection was not made.
-    pub fn unreached(&mut self, error: io::Error) {
-        self.kind = Kind::Failed(cause(error.kind()));
-    }
-
     /// It failed for this cause.
     pub fn failed(&mut self, why: Cause) {
         self.kind = Kind::Failed(why);
+    }
+
+    /// Memory ran out for it.
+    pub fn short(&mut self) {
+        self.kind = Kind::Short;
     }
 
     /// A text is the answer.
@@ -135,10 +136,16 @@ impl Came {
         };
     }
 
-    /// A time, if the clock can be read.
-    pub fn timed(&mut self, ms: Option<u64>) {
-        self.kind = match ms {
-            Some(ms) => Kind::At(ms),
+    /// The number of a file, after that of its device.
+    pub fn numbered(&mut self, device: u64, number: u64) {
+        let node = (u128::from(device) << 64) | u128::from(number);
+        self.text(&node.to_be_bytes());
+    }
+
+    /// A time that has passed, if the clock can be read.
+    pub fn timed(&mut self, passed: Option<Duration>) {
+        self.kind = match passed {
+            Some(passed) => Kind::At(u64::try_from(passed.as_millis()).unwrap_or(u64::MAX)),
             None => Kind::Failed(Cause::Unknown),
         };
     }
