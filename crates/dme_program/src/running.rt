@@ -249,7 +249,7 @@ fn carry_out(rt: HostRuntime, order: Order) -> Result<u8, Fault>
         Order::Audit(order) => Ok(audit(rt, order)),
         Order::AuditRecord(order) => Ok(audit_of_record(rt, order)),
         Order::Loop(order) => loop_program(rt, order),
-        Order::Serve(order) => serve(rt, order),
+        Order::Serve(order) => Ok(serve(rt, order)?),
         Order::Run(order) => Ok(run_program(rt, order)),
         Order::Explain(topic) => Ok(explain_topic(rt, topic)),
         Order::Export(order) => Ok(export(rt, order)),
@@ -257,10 +257,10 @@ fn carry_out(rt: HostRuntime, order: Order) -> Result<u8, Fault>
         Order::Review(order) => Ok(review(rt, order)?),
         Order::Ledger(order) => {
             let job = Job::Ledger(u64::from(order.connection));
-            read_recordings(rt, job, order.up, order.down)
+            Ok(read_recordings(rt, job, order.up, order.down)?)
         }
-        Order::Judge(order) => read_recordings(rt, Job::Judge, order.up, order.down),
-        Order::Watch(order) => watch(rt, order),
+        Order::Judge(order) => Ok(read_recordings(rt, Job::Judge, order.up, order.down)?),
+        Order::Watch(order) => Ok(watch(rt, order)?),
         Order::Lower(order) => Ok(lower(rt, order)?),
     }
 }

@@ -5,7 +5,6 @@ ghost use Rattle.std.specs.Prelude.{◌≡◌, true};
 ghost use Rattle.client_core.specs.Clients.{is_window};
 
 use crate::explaining::refused;
-use crate::faults::Fault;
 use crate::files::Sources;
 use dme_hands::RealHands;
 use dme_orders::{InputFiles, read_setup};
@@ -13,30 +12,50 @@ use dme_words::{Run, Service, Watch};
 use ledger_session::{Job, Session as Reading};
 use run_opening::Opening;
 use services::{Relay, RelaySession, Service as Values, Session};
+use std::alloc::AllocError;
+use tool_rack::Setup;
 
 /// The status of a session that has not ended.
 const ENDLESS: u8 = 70;
 
 /// The order `ledger` or `judge`.
 #[inline(never)]
-pub fn read_recordings(rt: HostRuntime, job: Job, up: String, down: String) -> Result<u8, Fault> {
+pub fn read_recordings(
+    rt: HostRuntime,
+    job: Job,
+    up: String,
+    down: String,
+) -> Result<u8, AllocError> {
+    let mut hands = RealHands::new(rt);
     let mut session = Reading::new(rt.alloc(), job, up, down)?;
-    Ok(ledger_session::run(&mut session, &mut RealHands::new(rt)).unwrap_or(ENDLESS))
+    Ok(ledger_session::run(&mut session, &mut hands).unwrap_or(ENDLESS))
 }
 
-/// The order `serve`.
-#[inline(never)]
-pub fn serve(rt: HostRuntime, order: Service) -> Result<u8, Fault> {
-    let mut source = Sources::new(rt, order.explain).file(order.setup);
+/// The setup of a service; if it is refused, standard error shows why, and this is the exit status.
+fn setup_of(rt: HostRuntime, name: String, is_explained: bool) -> Result<Setup, u8> {
+    let mut source = Sources::new(rt, is_explained).file(name);
     let read = read_setup(rt.alloc(), &mut source);
     let files = InputFiles {
         setup: source.into_file(),
         ..InputFiles::unnamed(rt.alloc())
     };
-    let setup = match read {
-        Ok(setup) => setup,
-        Err(fault) => return Ok(refused(rt, fault, files, order.explain)),
-    };
+    match read {
+        Ok(setup) => Ok(setup),
+        Err(fault) => Err(refused(rt, fault, files, is_explained)),
+    }
+}
+
+fn serve_with(rt: HostRuntime, service: Values, setup: Setup) -> Result<u8, AllocError> {
+    let mut hands = RealHands::new(rt);
+    let mut session = Session::new(rt.alloc(), service, setup)?;
+    let status = services::run(&mut session, &mut hands).unwrap_or(ENDLESS);
+    drop(session);
+    Ok(status)
+}
+
+/// The order `serve`.
+#[inline(never)]
+pub fn serve(rt: HostRuntime, order: Service) -> Result<u8, AllocError> {
     let service = Values {
         listen: order.listen,
         port: order.port,
@@ -48,13 +67,15 @@ pub fn serve(rt: HostRuntime, order: Service) -> Result<u8, Fault> {
         timeout: order.timeout,
         stop: order.stop,
     };
-    let mut session = Session::new(rt.alloc(), service, setup)?;
-    Ok(services::run(&mut session, &mut RealHands::new(rt)).unwrap_or(ENDLESS))
+    match setup_of(rt, order.setup, order.explain) {
+        Ok(setup) => serve_with(rt, service, setup),
+        Err(status) => Ok(status),
+    }
 }
 
 /// The order `watch`.
 #[inline(never)]
-pub fn watch(rt: HostRuntime, order: Watch) -> Result<u8, Fault> {
+pub fn watch(rt: HostRuntime, order: Watch) -> Result<u8, AllocError> {
     let relay = Relay {
         listen: order.listen,
         host: order.host,
@@ -66,8 +87,11 @@ pub fn watch(rt: HostRuntime, order: Watch) -> Result<u8, Fault> {
         log: order.log,
         timeout: order.timeout,
     };
+    let mut hands = RealHands::new(rt);
     let mut session = RelaySession::new(rt.alloc(), relay)?;
-    Ok(services::run_relay(&mut session, &mut RealHands::new(rt)).unwrap_or(ENDLESS))
+    let status = services::run_relay(&mut session, &mut hands).unwrap_or(ENDLESS);
+    drop(session);
+    Ok(status)
 }
 
 /// The order `run`.
@@ -75,6 +99,7 @@ pub fn watch(rt: HostRuntime, order: Watch) -> Result<u8, Fault> {
 pub fn run_program(rt: HostRuntime, order: Run) -> u8
     requires { is_window order.window ≡ true }
 {
+    let mut hands = RealHands::new(rt);
     let mut opening = Opening::new(rt.alloc(), order);
-    run_opening::run(&mut opening, &mut RealHands::new(rt)).unwrap_or(ENDLESS)
+    run_opening::run(&mut opening, &mut hands).unwrap_or(ENDLESS)
 }
