@@ -5,7 +5,6 @@ ghost use Rattle.std.specs.List.{list_all};
 ghost use Rattle.std.specs.Char.{is_ascii_alphabetic};
 ghost use Rattle.std.specs.Option.{option_map};
 ghost use Rattle.std.specs.Str.{bytes_eq};
-ghost use Rattle.dmis_program.specs.Keywords.{keyword_of};
 ghost use Rattle.dmis_program.specs.Parameters.{is_letters};
 ghost use Rattle.refusal_guide.specs.Words.{named_by, caused_by};
 ghost use Rattle.refusal_guide.specs.Causes.{within_ends};
@@ -17,7 +16,7 @@ use crate::causes::Cause;
 use crate::names::name_reason;
 use crate::statements::Found;
 use crate::words::{Explained, Word};
-use dmis_program::Keyword;
+use dmis_program::{Keyword, keyword_of_word};
 use dmis_text::Text;
 use std::alloc::Global;
 
@@ -216,7 +215,7 @@ fn head_reason(alloc: Global, found: Found) -> Explained
     let Some(label) = &found.statement.label else {
         return open_reason(alloc, found);
     };
-    match found.keyword() {
+    match keyword_of_word(&found.statement.word) {
         Keyword::Definition => open_reason(alloc, found),
         _ => {
             let word = found.word().shown(alloc)?;
@@ -230,7 +229,7 @@ fn params_reason(alloc: Global, found: Found) -> Explained
     ensures { IfOk result (λ reason. option_map caused_by reason
         ≡ params_cause found.entry.rest.now found.entry.statement.now) }
 {
-    match found.keyword() {
+    match keyword_of_word(&found.statement.word) {
         Keyword::Goto => count_reason(alloc, found, "3"),
         Keyword::Endmes | Keyword::Endfil => count_reason(alloc, found, "none"),
         Keyword::Units => count_reason(alloc, found, "1 or more, MM first"),

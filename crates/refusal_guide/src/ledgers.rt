@@ -109,7 +109,6 @@ fn act_reason(alloc: Global, place: Place) -> Explained {
     act.reason(alloc, "", words)
 }
 
-/// Whether a line ends with CR LF.
 pub(crate) fn has_return(place: Place) -> bool {
     matches!(place.rest.get(first_line(place.rest).len()), Some(b'\r'))
 }

@@ -10,10 +10,8 @@
 //! - `programs`: the sentences of programs; `statements`, `blocks`, `bad_bytes`: what they are about; `arguments`, `numerals`, `names`: why
 //!   a parameter does not fit
 //! - `fields`: lines of fields, and the sentences of setups and limits; `schedules`, `ledgers`, `records`: those of the other texts
-//! - `hosts`: a host that has no address
 //! - `strangers`: why a record is of another part or program; `touches`: in what two touches differ
-//! - `audits`: what an audit found; `contacts`: the contacts of a ledger; `nearest`: the one
-//!   that is nearest to a touch without one
+//! - `audits`: what an audit found; `contacts`: those of a ledger; `nearest`: the one that is nearest to a touch without one
 //! - `examples`: places and causes that are written out
 #![tactic(auto)]
 

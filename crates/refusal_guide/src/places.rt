@@ -92,13 +92,7 @@ fn reason(alloc: Global, refused: Refused, text: &[u8], number: u64) -> Result<R
         Refused::Program(ProgramFault::Refused(refusal, _)) => {
             program_reason(alloc, refusal, text, number, 0)
         }
-        Refused::Program(ProgramFault::Memory)
-        | Refused::Setup(_)
-        | Refused::Schedule(_)
-        | Refused::Features(_)
-        | Refused::Contacts(_)
-        | Refused::Record(_)
-        | Refused::Limits(_) => other_reason(alloc, refused, Place::on_line(text, number, 0)),
+        _ => other_reason(alloc, refused, Place::on_line(text, number, 0)),
     }
 }
 

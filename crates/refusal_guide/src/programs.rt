@@ -20,7 +20,7 @@ use crate::numerals::{Measure, leftmost_of, measure_fault, numeral_cause};
 use crate::statements::{Found, first_statement};
 use crate::topics::Topic;
 use crate::words::{Explained, Reason, Word};
-use dmis_program::{Keyword, Refusal};
+use dmis_program::{Keyword, Refusal, keyword_of_word};
 use dmis_text::{Statement, Text};
 use session_telling::visible;
 use std::alloc::{AllocError, Global};
@@ -76,7 +76,8 @@ fn unsupported_major(alloc: Global, found: Found) -> Explained
     ensures { IfOk result (λ reason. option_map caused_by reason
         ≡ major_cause found.entry.rest.now found.entry.statement.now) }
 {
-    found.because(alloc, major_of(found.keyword()))
+    let keyword = keyword_of_word(&found.statement.word);
+    found.because(alloc, major_of(keyword))
 }
 
 fn unsupported(alloc: Global, found: Found) -> Explained
@@ -88,7 +89,7 @@ fn unsupported(alloc: Global, found: Found) -> Explained
     };
     let minor = found.in_param(0, minor);
     let major = found.word().shown(alloc)?;
-    match found.keyword() {
+    match keyword_of_word(&found.statement.word) {
         Keyword::Goto | Keyword::Ptmeas => minor.because(alloc, Cause::OtherCoordinates, &major),
         Keyword::Recall => minor.because(alloc, Cause::OtherRecall, &major),
         _ => unsupported_major(alloc, found),

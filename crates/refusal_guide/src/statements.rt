@@ -3,13 +3,11 @@
 ghost use Rattle.std.specs.Prelude.{◌≡◌, ◌∷◌, [], IfOk, IfSome, IfNone, Some, slice_get};
 ghost use Rattle.dmis_text.specs.Reading.{text_reading};
 ghost use Rattle.std.specs.Option.{option_map};
-ghost use Rattle.dmis_program.specs.Keywords.{keyword_of};
 ghost use Rattle.refusal_guide.specs.Words.{named_by, caused, caused_by};
 ghost use Rattle.refusal_guide.specs.Spots.{after_word, after_label, after_params, word_from, part_spot, word_spot, param_spot};
 
 use crate::causes::Cause;
 use crate::words::{Explained, Word, place_from};
-use dmis_program::{Keyword, keyword_of_word};
 use dmis_text::{Statement, Statements, Text, TextFault};
 use std::alloc::{AllocError, Global};
 
@@ -56,12 +54,6 @@ fn behind(text: &[u8], from: Option<usize>, wanted: &[u8]) -> Option<usize>
 }
 
 impl<'s, 'a> Found<'s, 'a> {
-    pub(crate) fn keyword(&self) -> Keyword
-        ensures { result ≡ keyword_of self.now.statement.now.word }
-    {
-        keyword_of_word(&self.statement.word)
-    }
-
     /// The place after the label; the start if there is none.
     fn behind_label(&self) -> Option<usize>
         ensures { result ≡ after_label self.now.rest.now self.now.statement.now.label }

@@ -1,9 +1,8 @@
 // What `dme` refuses by a code.
 
-ghost use Rattle.std.specs.Prelude.{◌≡◌, ◌≤◌, true, find, length, MatchOption};
+ghost use Rattle.std.specs.Prelude.{◌≡◌, ◌≤◌, true, length, MatchOption};
 ghost use Rattle.std.specs.List.{list_all, prefix_len};
 ghost use Rattle.std.specs.Char.{is_ascii_digit};
-ghost use Rattle.refusal_guide.specs.declared.topics.TheConstants.{TOPICS};
 ghost use Rattle.refusal_guide.specs.Titles.{title_of, is_of_code, code_in, is_called, IsTitleOf};
 ghost use Rattle.refusal_guide.specs.Codes.{is_error_number, is_code_of, topic_of};
 ghost use Rattle.dmis_program.specs.Messages.{refusal_text};
@@ -191,19 +190,11 @@ fn is_error_number(code: &[u8]) -> bool
     code.len() == 4 && all_digits(code)
 }
 
-fn find_topic(code: &[u8]) -> Option<Topic>
-    ensures { result ≡ find (λ topic. is_called (title_of topic) code.now) TOPICS }
-{
-    TOPICS
-        .iter()
-        .copied()
-        .find(|topic| is_called(topic.title().as_bytes(), code))
-}
-
 fn topic_of(code: &[u8]) -> Option<Topic>
     ensures { result ≡ topic_of code.now }
 {
-    match find_topic(code) {
+    let mut topics = TOPICS.iter().copied();
+    match topics.find(|topic| is_called(topic.title().as_bytes(), code)) {
         None if is_error_number(code) => Some(Topic::ServersOwn),
         found => found,
     }
