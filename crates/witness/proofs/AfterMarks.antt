@@ -1,10 +1,13 @@
 -- What may be known for a line after a mark for it, and below a line that this profile does not know.
-use Rattle.witness.proofs.Names.{◌&&◌, ◌==◌, ◌||◌, ◌∙◌, ◌≡◌, after_mark, all_renewed, answered_known, ap, below, Bool, Dialogue, eq-eqb, false, Fault}
-use Rattle.witness.proofs.Names.{faulting, Heard, heard_at, hearing, if◌then◌else◌, is_error, is_foreign, is_out_of_turn, is_rival, Known, Mark}
-use Rattle.witness.proofs.Names.{nothing, NotInTurn, Option, refl, SentCommand, Standing, stage_with, true, unknowing, unless_crossed, Use, use_heard, use_renewed, without_rival}
-use Rattle.witness.proofs.Names.{ℕ}
+use Rattle.witness.proofs.Names.{[], ◌&&◌, ◌+◌, ◌++◌, ◌==◌, ◌||◌, ◌∙◌, ◌∷◌, ◌≡◌, after_mark, all_renewed, answered_known, ap, at_once, below, Bool}
+use Rattle.witness.proofs.Names.{Dialogue, eq-eqb, false, Fault, faulting, foreign_event, fresh, Heard, heard_at, hearing, if◌then◌else◌, is_error}
+use Rattle.witness.proofs.Names.{is_foreign, is_out_of_turn, is_rival, is_some, Known, last_under, List, map, Mark, None, nothing, NotInTurn, Option}
+use Rattle.witness.proofs.Names.{refl, Some, sending, sending_after, sent_tagged, SentCommand, Stage, stage_with, Standing, sym, Tag, true, unknowing}
+use Rattle.witness.proofs.Names.{unless_crossed, Use, use_heard, use_renewed, with_event, ℕ}
 use Rattle.std.proofs.lemmas.Bool.{false≢true}
-use Rattle.witness.specs.declared.lines.Reported.TheVariants.{Broken}
+use Rattle.witness.specs.Dialogues as dialogues
+use Rattle.witness.specs.declared.lines.Reported.TheVariants.{Broken, Other}
+use Rattle.witness.specs.declared.lines.Side.TheVariants.{Client}
 
 -- a line after a mark, by its parts, if the mark is its own, and if it may have been refused
 abbrev pub by_parts : ℕ → Heard → Use → Bool → Bool → Use
@@ -45,9 +48,44 @@ foreign_below s (SentCommand.Known c) k e = absurd (false≢true e)
 foreign_below s SentCommand.Asking k e = absurd (false≢true e)
 foreign_below s (SentCommand.Foreign line) k e = refl
 
-pub either_nothing : (b : Bool) → (if b then nothing else nothing) ≡ nothing
+-- what was sent last under a tag is the same when nothing is known
+pub last_unknowing : (tag : Tag) (us : List Use) (found : Option (ℕ × Bool)) → last_under tag (map unknowing us) found ≡ last_under tag us found
+last_unknowing tag [] found = refl
+last_unknowing tag (u ∷ us) found = last_unknowing tag us (dialogues.later tag u found)
+
+either_nothing : (b : Bool) → unless_crossed b nothing ≡ nothing
 either_nothing true = refl
 either_nothing false = refl
+
+-- a line that may be carried out at once is sent under a tag, for which and below which this may be known
+abbrev pub at_once_to : Dialogue → List ℕ → Tag → SentCommand → (own next : Known) → Dialogue
+at_once_to d line tag what own next = record {
+  ordered = d.ordered;
+  lines = d.lines + 1;
+  uses = map unknowing d.uses ++ record {
+    tag = tag;
+    command = what;
+    line = d.lines;
+    stage = Stage.Sent;
+    has_failed = false;
+    rival = dialogues.line_of (last_under tag d.uses None);
+    known = own;
+  } ∷ [];
+  events = with_event tag d.events;
+  crossed = d.crossed || (d.ordered && is_some (dialogues.line_of (last_under tag d.uses None)));
+  known = next;
+  reported = d.reported ++ Other Client line ∷ [];
+}
+
+pub at_once_sent : (d : Dialogue) (line : List ℕ) (tag : Tag) (what : SentCommand) (s : Option Standing) (k : Known)
+    → foreign_event tag what ≡ true → is_foreign what ≡ true → sent_tagged d line tag what ≡ at_once_to d line tag what nothing (below s what k)
+at_once_sent d line tag what s k now foreign =
+    let last = last_under tag d.uses None in
+    let standing = fresh d.lines (dialogues.line_of last) (dialogues.is_lost last) in
+    ap (λ b. if b then sending (at_once d line) tag what else sending d tag what) now
+    ∙ ap (λ before. sending_after (at_once d line) tag what before) (last_unknowing tag d.uses None)
+    ∙ ap (λ own. at_once_to d line tag what own (below standing what nothing)) (either_nothing (dialogues.is_lost last))
+    ∙ ap (λ next. at_once_to d line tag what nothing next) (foreign_below standing what nothing foreign ∙ sym (foreign_below s what k foreign))
 
 -- a mark that comes out of turn, or does not
 pub early_is : (d : Dialogue) (at : ℕ) (u : Use) (h : Heard) (is_end : Bool) → is_out_of_turn d.uses at u h ≡ true
@@ -59,3 +97,22 @@ pub in_turn_is : (d : Dialogue) (at : ℕ) (u : Use) (h : Heard) (is_end : Bool)
     → heard_at d at u h is_end ≡ hearing d at u h is_end
 in_turn_is d at u h is_end e =
     ap (λ b. if b then hearing (faulting d (Broken NotInTurn u.tag)) at (use_renewed (all_renewed Fault) u) h is_end else hearing d at u h is_end) e
+
+abbrev taken : Use → Option Use → Use
+taken u None = u
+taken u (Some w) = w
+
+pub same_use : (u w : Use) → Some u ≡ Some w → u ≡ w
+same_use u w e = ap (λ (o : Option Use). taken u o) e
+
+-- two dialogues are the same if their parts are
+pub same_parts : (a b : Dialogue) → a.ordered ≡ b.ordered → a.lines ≡ b.lines → a.uses ≡ b.uses → a.events ≡ b.events
+    → a.crossed ≡ b.crossed → a.known ≡ b.known → a.reported ≡ b.reported → a ≡ b
+same_parts a b ordered lines uses events crossed known reported =
+    ap (λ x. record a { ordered = x }) ordered
+    ∙ ap (λ x. record a { ordered = b.ordered; lines = x }) lines
+    ∙ ap (λ x. record a { ordered = b.ordered; lines = b.lines; uses = x }) uses
+    ∙ ap (λ x. record a { ordered = b.ordered; lines = b.lines; uses = b.uses; events = x }) events
+    ∙ ap (λ x. record a { ordered = b.ordered; lines = b.lines; uses = b.uses; events = b.events; crossed = x }) crossed
+    ∙ ap (λ x. record a { ordered = b.ordered; lines = b.lines; uses = b.uses; events = b.events; crossed = b.crossed; known = x }) known
+    ∙ ap (λ x. record b { reported = x }) reported

@@ -64,10 +64,7 @@ fn unless(is_lost: bool, known: Known) -> Known
 fn is_report(events: &[u16], tag: Tag, mark: MarkSlice<'_>) -> bool
     ensures { result ≡ spec.is_report tag (signal_of (the_mark mark.entry)) events.now }
 {
-    match (tag, mark) {
-        (Tag::Event(number), MarkSlice::Given(_)) => events.contains(&number),
-        _ => false,
-    }
+    matches!((tag, mark), (Tag::Event(number), MarkSlice::Given(_)) if events.contains(&number))
 }
 
 fn add_reserved(reported: &mut Vec<Reported>, report: Option<Reported>)
@@ -128,15 +125,21 @@ impl Dialogue {
 
     // ---- a line of the client
 
-    fn send(&mut self, tag: Tag, command: SentCommand) -> Result<(), AllocError>
+    fn send(&mut self, line: &[u8], tag: Tag, command: SentCommand) -> Result<(), AllocError>
         requires { self.old.lines + 1 < 2 ^ 64 }
-        ensures { Leads result self.old self.new (spec.sending self.old tag command) }
+        ensures { Leads result self.old self.new (spec.sent_tagged self.old line.now tag command) }
     {
         let (rival, is_lost) = last_under(self.uses.as_slice(), tag);
         let standing = fresh(self.lines, rival, is_lost);
         let below = below(self.alloc, &self.known, standing, &command)?;
         self.uses.reserve(1)?;
         self.events.reserve(1)?;
+        let at_once = foreign_event(tag, &command);
+        if at_once {
+            let other = Text::new(self.alloc, line)?;
+            self.reported.push(Reported::Other(Side::Client, other))?;
+            forget(self.uses.as_mut_slice());
+        }
         let known = replace(&mut self.known, below);
         self.uses.push_reserved(Use {
             tag,
@@ -145,44 +148,10 @@ impl Dialogue {
             stage: Stage::Sent,
             has_failed: false,
             rival,
-            known: unless(is_lost, known),
+            known: unless(at_once | is_lost, known),
         });
         note_event(&mut self.events, tag);
-        self.crossed = self.crossed || (self.ordered && rival.is_some());
-        self.lines += 1;
-        Ok(())
-    }
-
-    #[tactic(auto, using(crate::proofs::AfterMarks::foreign_below, crate::proofs::AfterMarks::either_nothing))]
-    fn send_at_once(
-        &mut self,
-        line: &[u8],
-        tag: Tag,
-        command: SentCommand,
-    ) -> Result<(), AllocError>
-        requires room { self.old.lines + 1 < 2 ^ 64 }
-        requires foreign { is_foreign command ≡ true }
-        ensures { Leads result self.old self.new
-            (spec.sending (spec.at_once self.old line.now) tag command) }
-    {
-        let other = Text::new(self.alloc, line)?;
-        self.uses.reserve(1)?;
-        self.events.reserve(1)?;
-        self.reported.push(Reported::Other(Side::Client, other))?;
-        forget(self.uses.as_mut_slice());
-        let (rival, _) = last_under(self.uses.as_slice(), tag);
-        self.uses.push_reserved(Use {
-            tag,
-            command,
-            line: self.lines,
-            stage: Stage::Sent,
-            has_failed: false,
-            rival,
-            known: nothing(),
-        });
-        note_event(&mut self.events, tag);
-        self.crossed = self.crossed || (self.ordered && rival.is_some());
-        self.known = nothing();
+        self.crossed |= self.ordered & rival.is_some();
         self.lines += 1;
         Ok(())
     }
@@ -209,12 +178,7 @@ impl Dialogue {
             return Err(AllocError);
         }
         match sent(self.alloc, line)? {
-            Some((tag, command)) => {
-                if foreign_event(tag, &command) {
-                    return self.send_at_once(line, tag, command);
-                }
-                self.send(tag, command)
-            }
+            Some((tag, command)) => self.send(line, tag, command),
             None => self.send_untagged(line),
         }
     }
@@ -225,7 +189,8 @@ impl Dialogue {
         ensures { Leads result self.old self.new (spec.faulting self.old report) }
     {
         self.reported.push(report)?;
-        self.lose();
+        renew_all(self.uses.as_mut_slice(), &Renewal::Fault);
+        renew(&mut self.known, &Renewal::Fault);
         Ok(())
     }
 
@@ -247,86 +212,28 @@ impl Dialogue {
         self.fault(Reported::Unasked(line))
     }
 
-    fn report(&self, used: &Use, heard: &Heard, early: bool) -> Result<Option<Reported>, AllocError>
-        ensures { IfOk result (λ report. spec.listed report
-            ≡ spec.reported_by (spec.unless_crossed self.now.crossed
-            (spec.use_heard used.now.line heard.now (spec.if_early early used.now)).known)
-            used.now.tag used.now.command used.now.stage heard.now) }
-    {
-        let known = known_after(self.alloc, used, heard, early)?;
-        reported_by(self.alloc, unless(self.crossed, known), used, *heard)
-    }
-
-    fn settle(&mut self, at: usize, line: u64, heard: &Heard, is_end: bool)
-        requires { at < length self.old.uses }
-        ensures { self.new ≡ record self.old {
-          uses = spec.left_over (map (spec.use_heard line heard.now) self.old.uses) at is_end;
-          known = all_renewed (Renewal.Mark line heard.now) self.old.known;
-        } }
-    {
-        mark_all(self.uses.as_mut_slice(), line, heard);
-        remove_ended(&mut self.uses, at, is_end);
-        renew(&mut self.known, &Renewal::Mark(line, *heard));
-    }
-
     fn hear(&mut self, at: usize, heard: &Heard, is_end: bool) -> Result<(), AllocError>
-        requires { at < length self.old.uses }
-        ensures { (u : Use) → slice_get self.old.uses at ≡ Some u
-            → Leads result self.old self.new (spec.hearing self.old at u heard.now is_end) }
-    {
-        let line = self.uses[at].line;
-        let report = self.report(&self.uses[at], heard, false)?;
-        self.reported.reserve(1)?;
-        add_reserved(&mut self.reported, report);
-        self.settle(at, line, heard, is_end);
-        Ok(())
-    }
-
-    fn lose(&mut self)
-        ensures { self.new ≡ record self.old {
-          uses = map (spec.use_renewed (all_renewed Renewal.Fault)) self.old.uses;
-          known = all_renewed Renewal.Fault self.old.known;
-        } }
-    {
-        renew_all(self.uses.as_mut_slice(), &Renewal::Fault);
-        renew(&mut self.known, &Renewal::Fault);
-    }
-
-    fn hear_early(&mut self, at: usize, heard: &Heard, is_end: bool) -> Result<(), AllocError>
-        requires { at < length self.old.uses }
-        ensures { (u : Use) → slice_get self.old.uses at ≡ Some u
-            → Leads result self.old self.new (spec.hearing
-            (spec.faulting self.old (Reported.Broken Rule.NotInTurn u.tag)) at
-            (spec.use_renewed (all_renewed Renewal.Fault) u) heard.now is_end) }
-    {
-        let (line, tag) = (self.uses[at].line, self.uses[at].tag);
-        let report = self.report(&self.uses[at], heard, true)?;
-        self.reported.reserve(2)?;
-        self.reported
-            .push_reserved(Reported::Broken(Rule::NotInTurn, tag));
-        add_reserved(&mut self.reported, report);
-        self.lose();
-        self.settle(at, line, heard, is_end);
-        Ok(())
-    }
-
-    fn is_early(&self, at: usize, heard: &Heard) -> bool
-        requires { at < length self.now.uses }
-        ensures { (u : Use) → slice_get self.now.uses at ≡ Some u
-            → result ≡ spec.is_out_of_turn self.now.uses at u heard.now }
-    {
-        is_out_of_turn(self.uses.as_slice(), at, &self.uses[at], heard)
-    }
-
-    fn hear_either(&mut self, at: usize, heard: &Heard, is_end: bool) -> Result<(), AllocError>
         requires { at < length self.old.uses }
         ensures { (u : Use) → slice_get self.old.uses at ≡ Some u
             → Leads result self.old self.new (spec.heard_at self.old at u heard.now is_end) }
     {
-        if self.is_early(at, heard) {
-            return self.hear_early(at, heard, is_end);
+        let used = &self.uses[at];
+        let (line, tag) = (used.line, used.tag);
+        let early = is_out_of_turn(self.uses.as_slice(), at, used, heard);
+        let known = known_after(self.alloc, used, heard, early)?;
+        let report = reported_by(self.alloc, unless(self.crossed, known), used, *heard)?;
+        self.reported.reserve(2)?;
+        if early {
+            self.reported
+                .push_reserved(Reported::Broken(Rule::NotInTurn, tag));
+            renew_all(self.uses.as_mut_slice(), &Renewal::Fault);
+            renew(&mut self.known, &Renewal::Fault);
         }
-        self.hear(at, heard, is_end)
+        add_reserved(&mut self.reported, report);
+        mark_all(self.uses.as_mut_slice(), line, heard);
+        remove_ended(&mut self.uses, at, is_end);
+        renew(&mut self.known, &Renewal::Mark(line, *heard));
+        Ok(())
     }
 
     fn hear_at(&mut self, at: usize, mark: MarkSlice<'_>) -> Result<(), AllocError>
@@ -335,7 +242,7 @@ impl Dialogue {
             (spec.at_use self.old at (signal_of (the_mark mark.entry)) (slice_get self.old.uses at)) }
     {
         let heard = heard_as(&self.uses[at].command, mark);
-        self.hear_either(at, &heard, is_end(mark))
+        self.hear(at, &heard, is_end(mark))
     }
 
     /// A line of the server, given without its end. Fails only if out of memory, and then nothing has changed.

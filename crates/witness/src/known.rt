@@ -92,10 +92,7 @@ pub(crate) fn renew(known: &mut Known, by: &Renewal)
 pub(crate) fn fresh(line: u64, rival: Option<u64>, is_lost: bool) -> Option<Standing>
     ensures { result ≡ spec.fresh line rival is_lost }
 {
-    if is_lost {
-        return None;
-    }
-    Some(Standing {
+    (!is_lost).then_some(Standing {
         line,
         rival,
         progress: Progress::Sent,
@@ -152,10 +149,7 @@ pub(crate) fn done<A: Drop>(one: Option<(A, Standing)>) -> Option<A>
     ensures { result ≡ spec.done one }
 {
     let (to, standing) = one?;
-    match standing.progress {
-        Progress::Done => Some(to),
-        Progress::Sent | Progress::Begun => None,
-    }
+    matches!(standing.progress, Progress::Done).then_some(to)
 }
 
 pub(crate) fn frame_in(csy: Csy, zero: Option<Point>) -> Option<Frame>

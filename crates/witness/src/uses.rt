@@ -21,10 +21,7 @@ pub(crate) fn last_under(uses: &[Use], tag: Tag) -> (Option<u64>, bool)
             found = Some((used.line, used.has_failed));
         }
     }
-    match found {
-        Some((line, has_failed)) => (Some(line), has_failed),
-        None => (None, false),
-    }
+    found.map_or((None, false), |(line, has_failed)| (Some(line), has_failed))
 }
 
 pub(crate) fn forget(uses: &mut [Use])

@@ -8,4 +8,4 @@ returns c =
     (ap (λ (d : Dialogue). d.uses) c.self.view_is) c.index.ensures in
     let there : slice_get c.args.self.now.uses c.args.at ≡ Some c.index.result.now =
     slice_get_read c.args.self.now.uses (length c.args.self.now.uses) c.args.at c.index.result.now refl c.requires read in
-    rw there (rw (c.heard_as-heard.ensures, c.is_end.ensures) at (c.hear_either.ensures c.index.result.now there))
+    rw there (rw (c.heard_as-heard.ensures, c.is_end.ensures) at (c.hear.ensures c.index.result.now there))
