@@ -1,6 +1,6 @@
 -- The uses of each tag above a line of the client, with a line more.
 use Rattle.witness_judge.proofs.Names.{[], ◌+◌, ◌<◌, ◌∙◌, ◌∷◌, ◌≡◌, ◌≤◌, ap, arith, before_previous, Bool, false, found, IfSome, if◌then◌else◌}
-use Rattle.witness_judge.proofs.Names.{is_under, is_use, latest, length, List, None, none-some, Option, previous, refl, Sent, Some, subst, sym, Tag}
+use Rattle.witness_judge.proofs.Names.{is_under, is_use, length, List, None, none-some, Option, previous, refl, Sent, Some, subst, sym, Tag}
 use Rattle.witness_judge.proofs.Names.{tag_is, tag_of, true, ℕ}
 use Rattle.witness_judge.proofs.TagTables.{same_tag}
 

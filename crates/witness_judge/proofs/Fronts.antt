@@ -1,9 +1,9 @@
 -- The first lines of each sort that is looked for, with a line of the server more.
-use Rattle.witness_judge.proofs.Names.{[], ◌&&◌, ◌+◌, ◌-◌, ◌<◌, ◌==◌, ◌||◌, ◌∙◌, ◌∷◌, ◌≡◌, ◌≤◌, answers, ap, arith, Bool, drop, drop_all, eq-eqb}
-use Rattle.witness_judge.proofs.Names.{eqb-true, false, false≢true, first_from, front, get_or, has_come, Heard, if◌then◌else◌, is_clear, is_ended}
-use Rattle.witness_judge.proofs.Names.{is_open, is_queued, is_some, is_sought, is_sought_after, le-leb, leb-false, leb-true, length, List, lt-ltb}
-use Rattle.witness_judge.proofs.Names.{ltb-false, ltb-true, Mark, Moment, moment, nat_le, nat_lt, None, not, noted, Option, option_or, refl, Sent}
-use Rattle.witness_judge.proofs.Names.{Some, Sought, Stage, stage_by, stage_of, subst, suc, sym, true, zero, ℕ}
+use Rattle.witness_judge.proofs.Names.{[], ◌&&◌, ◌+◌, ◌-◌, ◌<◌, ◌∙◌, ◌∷◌, ◌≡◌, ◌≤◌, ap, arith, Bool, drop, drop_all}
+use Rattle.witness_judge.proofs.Names.{false, false≢true, first_from, front, get_or, has_come, Heard, if◌then◌else◌, is_clear, is_ended}
+use Rattle.witness_judge.proofs.Names.{is_open, is_queued, is_some, is_sought_after, length, List}
+use Rattle.witness_judge.proofs.Names.{Mark, None, not, noted, Option, option_or, refl, Sent}
+use Rattle.witness_judge.proofs.Names.{Some, Sought, stage_by, subst, suc, sym, true, zero, ℕ}
 
 -- ---- the first of some lines
 

@@ -1,6 +1,6 @@
 -- Which use of each tag is next, with a line of the server more.
-use Rattle.witness_judge.proofs.Names.{[], ◌&&◌, ◌+◌, ◌-◌, ◌==◌, ◌∙◌, ◌∷◌, ◌≡◌, ap, AreFirst, AreLinked, AreNext, arith, Bool, cond, false}
-use Rattle.witness_judge.proofs.Names.{false≢true, found, get_or, has_mark, Heard, if◌then◌else◌, is_use, last_end, length, List, Mark, marks_of}
+use Rattle.witness_judge.proofs.Names.{[], ◌&&◌, ◌+◌, ◌∙◌, ◌∷◌, ◌≡◌, ap, AreFirst, AreLinked, AreNext, Bool, false}
+use Rattle.witness_judge.proofs.Names.{false≢true, found, has_mark, Heard, if◌then◌else◌, is_use, last_end, length, List, Mark, marks_of}
 use Rattle.witness_judge.proofs.Names.{next_of, None, none-some, Option, place_from, place_of, refl, Reply, Sent, Some, suc, sym, Tag, tag_is, true}
 use Rattle.witness_judge.proofs.Names.{use_after, zero, ℕ}
 use Rattle.witness_judge.proofs.TagTables.{same_tag}

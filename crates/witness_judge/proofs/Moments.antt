@@ -1,6 +1,6 @@
 -- What a server has done is counted by its lines.
-use Rattle.witness_judge.proofs.Names.{[], ◌+◌, ◌-◌, ◌∷◌, ◌≡◌, ◌≤◌, arith, Bool, busy, busy_after, Event, false, Heard, if◌then◌else◌, length}
-use Rattle.witness_judge.proofs.Names.{length-reverse, List, refl, refusals, refuses, Reply, reverse, Std, suc, true, zero, ℕ}
+use Rattle.witness_judge.proofs.Names.{[], ◌+◌, ◌∷◌, ◌≤◌, arith, Bool, busy, busy_after, Event, false, Heard, if◌then◌else◌, length}
+use Rattle.witness_judge.proofs.Names.{length-reverse, List, refusals, refuses, Reply, reverse, Std, true, ℕ}
 
 busy_more : (n : ℕ) (h : Heard) → busy_after n h ≤ n + 1
 busy_more n Heard.Other = omega arith

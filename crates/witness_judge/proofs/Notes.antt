@@ -50,5 +50,23 @@ nothing zero (suc at) = refl
 nothing (suc n) zero = refl
 nothing (suc n) (suc at) = nothing n at
 
-pub none : (c m : Mark) (up : List Sent) (n : ℕ) → n ≡ length up → AreNoted c m up [] (replicate n None)
-none c m up n count = record { count = length-replicate n None ∙ count; each = λ at short. nothing n at }
+none_of : (c m : Mark) (up : List Sent) (n : ℕ) → n ≡ length up → AreNoted c m up [] (replicate n None)
+none_of c m up n count = record { count = length-replicate n None ∙ count; each = λ at short. nothing n at }
+
+pub none : (c m : Mark) (up : List Sent) (notes : List (Option Moment)) → notes ≡ replicate (length up) None → AreNoted c m up [] notes
+none c m up notes is = subst (λ (l : List (Option Moment)). AreNoted c m up [] l) (sym is) (none_of c m up (length up) refl)
+
+-- likewise of a line that is such a response
+pub other_of : (c m : Mark) (up : List Sent) (above : List Heard) (h : Heard) (t : Tag) (r : Reply) (notes : List (Option Moment)) → h ≡ Response t r
+    → AreNoted c m up above notes → has_mark m r ≡ false → AreNoted c m up (h ∷ above) notes
+other_of c m up above h t r notes heard are is =
+    subst (λ (k : Heard). AreNoted c m up (k ∷ above) notes) (sym heard) (other c m up above t r notes are is)
+
+pub own_of : (c m : Mark) (up : List Sent) (above : List Heard) (h : Heard) (t : Tag) (r : Reply) (old new : List (Option Moment)) (place : Option ℕ) (now : Moment)
+    → h ≡ Response t r → AreNoted c m up above old → has_mark m r ≡ true → place ≡ use_after c up above t
+    → now ≡ moment up (Response t r ∷ above) → length new ≡ length old
+    → ((at : ℕ) → at < length old → get_or new at None ≡ option_or (get_or old at None) (if is_at place at then Some now else None))
+    → AreNoted c m up (h ∷ above) new
+own_of c m up above h t r old new place now heard are is there is_now count each =
+    subst (λ (k : Heard). AreNoted c m up (k ∷ above) new) (sym heard)
+    (own c m up above t r old new place now are is there is_now count each)

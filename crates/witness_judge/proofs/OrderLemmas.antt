@@ -2,6 +2,12 @@
 use Rattle.witness_judge.proofs.Names.{[], ◌+◌, ◌-◌, ◌<◌, ◌∙◌, ◌∷◌, ◌≡◌, ◌≤◌, ap, arith, Bool, drop, drop_all, drop_more, false, get_or}
 use Rattle.witness_judge.proofs.Names.{if◌then◌else◌, IsAt, IsOn, le-leb, leb-true, length, List, nat_le, refl, subst, suc, sym, true, whole_in, zero}
 use Rattle.witness_judge.proofs.Names.{ℕ}
+use Rattle.witness_judge.proofs.Names.{◌++◌, append_assoc, bytes_of, replicate, seen_from, take}
+use Rattle.std.proofs.lemmas.List.{take_all}
+use Rattle.witness.specs.declared.lines.Side.{Side}
+use Rattle.witness.specs.declared.lines.Side.TheVariants.{Client, Server}
+use Rattle.witness_judge.specs.Orders.{count_of, Pieces}
+use Rattle.witness_judge.specs.declared.orders.Place.{Place}
 
 regroup : (a b n : ℕ) → a + b + n ≡ a + (b + n)
 regroup a b n = omega arith
@@ -94,3 +100,31 @@ pub same_line : (lines : List (List ℕ)) (at : ℕ) (d e : List ℕ) → at < l
 same_line [] at d e short = absurd (omega (arith, short))
 same_line (line ∷ lines) zero d e short = refl
 same_line (line ∷ lines) (suc at) d e short = same_line lines at d e (omega (arith, short))
+
+-- ---- a piece more
+
+-- what was seen, and what the pieces that follow add
+pub seen_more : (up down : List (List ℕ)) (seen new : List ℕ) (pieces rest : Pieces) (p : Side × ℕ) (c d c' d' : Place) → pieces ≡ p ∷ rest
+    → IsAt up c' → IsAt down d → IsAt down d' → c'.bytes ≡ c.bytes + count_of Client p → d'.bytes ≡ d.bytes + count_of Server p
+    → new ≡ seen ++ replicate (d'.at - d.at) c'.at
+    → new ++ seen_from c'.bytes d'.bytes rest up down ≡ seen ++ seen_from c.bytes d.bytes pieces up down
+seen_more up down seen new pieces rest p c d c' d' are one two next far wide is =
+    ap (λ (l : List ℕ). l ++ seen_from c'.bytes d'.bytes rest up down) is
+    ∙ append_assoc seen (replicate (d'.at - d.at) c'.at) (seen_from c'.bytes d'.bytes rest up down)
+    ∙ ap (λ (n : ℕ). seen ++ (replicate (d'.at - d.at) n ++ seen_from c'.bytes d'.bytes rest up down)) (sym one.whole)
+    ∙ ap (λ (n : ℕ). seen ++ (replicate (n - d.at) (whole_in c'.bytes up) ++ seen_from c'.bytes d'.bytes rest up down)) (sym next.whole)
+    ∙ ap (λ (n : ℕ). seen ++ (replicate (whole_in d'.bytes down - n) (whole_in c'.bytes up) ++ seen_from c'.bytes d'.bytes rest up down)) (sym two.whole)
+    ∙ ap (λ (n : ℕ). seen ++ (replicate (whole_in d'.bytes down - whole_in d.bytes down) (whole_in n up) ++ seen_from n d'.bytes rest up down)) far
+    ∙ ap (λ (n : ℕ). seen ++ (replicate (whole_in n down - whole_in d.bytes down) (whole_in (c.bytes + count_of Client p) up)
+    ++ seen_from (c.bytes + count_of Client p) n rest up down)) wide
+    ∙ ap (λ (l : Pieces). seen ++ seen_from c.bytes d.bytes l up down) (sym are)
+
+pub grown : (seen new : List ℕ) (n m k x : ℕ) → n ≡ length seen → m ≡ length seen → new ≡ take (n + k) seen ++ replicate (n + k - m) x
+    → new ≡ seen ++ replicate k x
+grown seen new n m k x one two is = is ∙ ap (λ (l : List ℕ). l ++ replicate (n + k - m) x) (take_all (n + k) seen (omega (arith, one)))
+    ∙ ap (λ (j : ℕ). seen ++ replicate j x) (omega (arith, one, two))
+
+pub bytes_more : (side : Side) (pieces rest : Pieces) (p : Side × ℕ) (n m : ℕ) → pieces ≡ p ∷ rest → m ≡ n + count_of side p
+    → m + bytes_of side rest ≡ n + bytes_of side pieces
+bytes_more side pieces rest p n m are is = ap (λ (k : ℕ). k + bytes_of side rest) is ∙ regroup n (count_of side p) (bytes_of side rest)
+    ∙ ap (λ (l : Pieces). n + bytes_of side l) (sym are)

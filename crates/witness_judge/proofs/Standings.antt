@@ -1,12 +1,15 @@
 -- How far all commands are, with a line more, and which rule the end of a command breaks.
-use Rattle.witness_judge.proofs.Names.{[], ◌&&◌, ◌+◌, ◌<◌, ◌==◌, ◌||◌, ◌∙◌, ◌∷◌, ◌≡◌, ◌≤◌, ap, arith, asks_data, asks_under, bars, Bool, command_rule}
+use Rattle.witness_judge.proofs.Names.{◌&&◌, ◌+◌, ◌<◌, ◌==◌, ◌||◌, ◌∙◌, ◌∷◌, ◌≡◌, ◌≤◌, ap, arith, asks_under, Bool, command_rule}
 use Rattle.witness_judge.proofs.Names.{complete_rule, end_rule, eq-eqb, eqb-true, false, false≢true, first_barred, front, get_or}
 use Rattle.witness_judge.proofs.Names.{get_or_from_slice_get, halts, has_refused, Heard, if◌then◌else◌, is_abort, is_barred, is_clear, is_doubtful}
-use Rattle.witness_judge.proofs.Names.{is_halted, is_in_turn, is_open, is_queued, is_sought_after, IsStanding, leaves_some, leb-false, leb-true}
-use Rattle.witness_judge.proofs.Names.{length, List, lt-ltb, ltb-false, ltb-true, mark_rule, nat_le, nat_lt, None, not, Option, reach_after, refl}
+use Rattle.witness_judge.proofs.Names.{is_halted, is_in_turn, is_open, is_queued, IsStanding, leaves_some, leb-false, leb-true}
+use Rattle.witness_judge.proofs.Names.{length, List, lt-ltb, ltb-false, ltb-true, mark_rule, nat_le, nat_lt, not, Option, reach_after, refl}
 use Rattle.witness_judge.proofs.Names.{Reply, Sent, slice_get, Some, Sought, Stage, stage_of, subst, sym, Tag, true, ℕ}
+use Rattle.witness_judge.proofs.Names.{found, is_some, Mark, Moment, use_after}
 use Rattle.witness_judge.proofs.Fronts.{front_grows, front_least}
-use Rattle.witness_judge.specs.ServerRules as rules
+use Rattle.witness_judge.specs.ServerRules.{AreKnown}
+use Rattle.witness_judge.specs.Uses.{has_end}
+use Rattle.witness_judge.specs.declared.course.Course.{Course}
 use Rattle.witness_judge.specs.declared.rules.Asks.{Asks}
 use Rattle.witness_judge.specs.declared.rules.Standing.{Standing}
 
@@ -60,6 +63,10 @@ first_is up h above s n reach are low is true same =
 first_is up h above s n reach are low is false same =
     ap (nat_lt n) is ∙ sym (barred_later up h above s n are (apart n s.waiting low (λ e. false≢true (sym same ∙ eq-eqb n s.waiting e))))
 
+pub other_first : (now before reach : ℕ) (barred : Bool) → (now ≡ before → ⊥) → nat_lt now reach ≡ first_barred now before reach barred
+other_first now before reach barred other =
+    ap (λ (b : Bool). if b then barred else nat_lt now reach) (sym (at_false (now == before) (λ e. other (eqb-true now before e))))
+
 later_than : (a b c : ℕ) → a ≤ b → b < c → a < c
 later_than a b c low short = omega (arith, low, short)
 
@@ -76,6 +83,17 @@ stands up h above s new are waits unended clearing reach barred =
       barred = barred ∙ first_is up h above s new.waiting new.reach are low reach (new.waiting == s.waiting) refl;
       after = λ at short. barred_later up h above s at are (later_than s.waiting new.waiting at low short) ∙ ap (nat_lt at) (sym reach);
     }
+
+-- ---- what is kept of the lines above
+
+pub known_place : (up : List Sent) (above : List Heard) (c : Course) (s : Standing) (t : Tag) → AreKnown up above c s
+    → found c.ends.items t ≡ use_after Mark.Complete up above t
+known_place up above c s t are = are.course.links.ends t
+
+pub known_doubt : (up : List Sent) (above : List Heard) (c : Course) (s : Standing) (t : Tag) → AreKnown up above c s
+    → (is_some (found c.closed.items t) && nat_lt 0 c.moment.refusals) ≡ is_doubtful above t
+known_doubt up above c s t are = ap (λ (o : Option ℕ). is_some o && nat_lt 0 c.moment.refusals) (are.course.links.closed t)
+    ∙ ap (λ (m : Moment). has_end t above && nat_lt 0 m.refusals) are.course.so_far
 
 -- ---- the end of a command
 

@@ -1,8 +1,8 @@
 -- Tables by tag.
-use Rattle.witness_judge.proofs.Names.{[], ◌+◌, ◌-◌, ◌<◌, ◌==◌, ◌∙◌, ◌∷◌, ◌≡◌, ◌≤◌, ap, AreFirst, AreNext, arith, Bool, code_of, drop, drop_all}
+use Rattle.witness_judge.proofs.Names.{[], ◌+◌, ◌<◌, ◌==◌, ◌∙◌, ◌∷◌, ◌≡◌, ◌≤◌, ap, AreFirst, AreNext, arith, Bool, code_of, drop, drop_all}
 use Rattle.witness_judge.proofs.Names.{drop_more, eq-eqb, eqb-true, Event, false, false≢true, found, get_or, if◌then◌else◌, is_under, is_use, length}
 use Rattle.std.specs.Option.{option_flatten}
-use Rattle.witness_judge.proofs.Names.{slice_get, List, None, none-some, Option, place_from, refl, Sent, Some, Std, subst, suc, sym, Tag, tag_is, tag_of, true}
+use Rattle.witness_judge.proofs.Names.{slice_get, List, None, none-some, Option, place_from, refl, Sent, Some, Std, suc, sym, Tag, tag_is, tag_of, true}
 use Rattle.witness_judge.proofs.Names.{zero, ℕ}
 
 pub same_tag : (t u : Tag) → tag_is t u ≡ true → t ≡ u

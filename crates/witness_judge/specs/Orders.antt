@@ -36,8 +36,8 @@ whole_in n (line ∷ lines) = if nat_le (length line + 2) n then suc (whole_in (
 
 -- for each line of the server that becomes whole with a piece: how many lines of the client are. The numbers: how many bytes of either end came before
 abbrev pub seen_with : ℕ → ℕ → Side × ℕ → List (List ℕ) → List (List ℕ) → List ℕ
-seen_with u d (Client, n) up down = []
-seen_with u d (Server, n) up down = replicate (whole_in (d + n) down - whole_in d down) (whole_in u up)
+seen_with u d p up down =
+    replicate (whole_in (d + count_of Server p) down - whole_in d down) (whole_in (u + count_of Client p) up)
 
 abbrev pub seen_from : ℕ → ℕ → Pieces → List (List ℕ) → List (List ℕ) → List ℕ
 seen_from u d [] up down = []

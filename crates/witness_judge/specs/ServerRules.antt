@@ -4,7 +4,8 @@ use Rattle.dme_line.specs.declared.tags.Tag.{Tag}
 use Rattle.dme_line.specs.declared.tags.Tag.TheVariants.{Std, Event}
 use Rattle.dme_line.specs.declared.commands.Kind.{Kind}
 use Rattle.dme_line.specs.declared.commands.Kind.TheVariants as kind
-use Rattle.witness_judge.specs.Uses.{has_end, use_after, has_refused, stage_of}
+use Rattle.witness_judge.specs.Uses.{has_end, use_after, has_refused, stage_of, IsCourse}
+use Rattle.witness_judge.specs.declared.course.Course.{Course}
 use Rattle.witness_judge.specs.declared.lines.Data.{Data}
 use Rattle.witness_judge.specs.declared.lines.Data.TheVariants as data_is
 use Rattle.witness_judge.specs.declared.lines.Heard.{Heard}
@@ -241,3 +242,8 @@ pub record IsStanding (up : List Sent) (above : List Heard) (s : Standing) : Typ
   pub clearing : s.clearing ≡ front sought.Clearing up above
   pub barred : s.barred ≡ is_barred up above s.waiting
   pub after : (at : ℕ) → s.waiting < at → is_barred up above at ≡ nat_lt at s.reach
+
+-- what is kept of the lines above is right
+pub record AreKnown (up : List Sent) (above : List Heard) (c : Course) (s : Standing) : Type 0 where
+  pub course : IsCourse up above c
+  pub standing : IsStanding up above s

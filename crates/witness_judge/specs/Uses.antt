@@ -1,11 +1,10 @@
 -- Which command a line of the server answers (this profile): the n-th end of a tag belongs to its n-th use. Lines above a line are listed with the
 -- nearest first.
-use Rattle.std.specs.Prelude.{◌≡◌, ◌<◌, length, get_or, ℕ, zero, suc, ◌+◌, ◌-◌, ◌==◌, Bool, true, false, not, ◌&&◌, ◌||◌, nat_lt, if◌then◌else◌, List, [], ◌∷◌, drop, Option, Some, None, is_some}
+use Rattle.std.specs.Prelude.{◌≡◌, ◌<◌, length, get_or, ℕ, zero, suc, ◌+◌, ◌-◌, ◌==◌, Bool, true, false, ◌&&◌, nat_lt, if◌then◌else◌, List, [], ◌∷◌, drop, Option, Some, None, is_some}
 use Rattle.std.specs.List.{list_any}
 use Rattle.std.specs.Option.{option_or}
 use Rattle.dme_line.specs.declared.tags.Tag.{Tag}
 use Rattle.dme_line.specs.declared.tags.Tag.TheVariants.{Std, Event}
-use Rattle.dme_line.specs.Tags.{is_event_tag}
 use Rattle.protocol_model.specs.Replies.{tag_is}
 use Rattle.witness_judge.specs.declared.lines.Heard.{Heard}
 use Rattle.witness_judge.specs.declared.lines.Heard.TheVariants as heard
@@ -16,7 +15,6 @@ use Rattle.witness_judge.specs.declared.lines.Reply.TheVariants as reply
 use Rattle.witness_judge.specs.declared.lines.Sent.{Sent}
 use Rattle.witness_judge.specs.declared.lines.Sent.TheVariants as sent
 use Rattle.witness_judge.specs.declared.course.Course.{Course}
-use Rattle.witness_judge.specs.declared.course.Links.{Links}
 use Rattle.witness_judge.specs.declared.course.Notes.{Notes}
 use Rattle.witness_judge.specs.declared.rules.Moment.{Moment}
 use Rattle.witness_judge.specs.declared.rules.Stage.{Stage}
@@ -218,7 +216,7 @@ pub record AreAllNoted (up : List Sent) (above : List Heard) (n : Notes) : Type 
   pub counted : AreNoted mark.Received mark.Received up above n.counted.items
 
 -- which use of each tag is next
-pub record AreAllLinked (up : List Sent) (above : List Heard) (l : Links) : Type 0 where
+pub record AreAllLinked (up : List Sent) (above : List Heard) (l : Course) : Type 0 where
   pub next : AreNext up 0 l.next.items
   pub ends : AreLinked mark.Complete up above l.ends.items
   pub receipts : AreLinked mark.Received up above l.receipts.items
@@ -226,7 +224,7 @@ pub record AreAllLinked (up : List Sent) (above : List Heard) (l : Links) : Type
 
 -- what a server has done in these lines
 pub record IsCourse (up : List Sent) (above : List Heard) (c : Course) : Type 0 where
-  pub links : AreAllLinked up above c.links
+  pub links : AreAllLinked up above c
   pub notes : AreAllNoted up above c.notes
   pub so_far : c.moment ≡ moment up above
   pub unclear : c.is_unclear ≡ list_any is_unclear above

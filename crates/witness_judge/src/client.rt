@@ -36,14 +36,6 @@ pub(crate) struct Both<'a> {
     pub(crate) course: &'a Course,
 }
 
-fn uses_above(above: &Above, tag: Tag) -> (Option<usize>, Option<usize>)
-    ensures one { result.0 ≡ said.found above.now.previous.items tag }
-    ensures two { result.1 ≡ said.found above.now.before.items tag }
-{
-    let one = look(above.previous.as_slice(), tag);
-    (one, look(above.before.as_slice(), tag))
-}
-
 fn own_rule(sent: Sent, above: &Above) -> Option<Rule>
     ensures { result ≡ spec.own_rule sent above.now.may above.now.must }
 {
@@ -91,7 +83,6 @@ fn is_used(both: Both<'_>, at: usize, uses: (Option<usize>, Option<usize>)) -> b
     }
 }
 
-#[tactic(auto, using(crate::proofs::AboveLemmas::previous_among, crate::proofs::AboveLemmas::before_among, crate::proofs::Lists::above_count))]
 fn rule_of(both: Both<'_>, lines: &[Sent], above: &Above, sent: Sent) -> Option<Rule>
     requires course { said.IsCourse both.up.now (reverse both.down.now) both.course.now }
     requires above { spec.AreAbove both.up.now (reverse both.down.now) (reverse lines.now)
@@ -104,7 +95,9 @@ fn rule_of(both: Both<'_>, lines: &[Sent], above: &Above, sent: Sent) -> Option<
     let Some(tag) = tag_of(sent) else {
         return Some(Rule::NoTag);
     };
-    if is_used(both, at, uses_above(above, tag)) {
+    let one = look(above.previous.as_slice(), tag);
+    let two = look(above.before.as_slice(), tag);
+    if is_used(both, at, (one, two)) {
         return Some(Rule::TagInUse);
     }
     let own = own_rule(sent, above);

@@ -26,34 +26,23 @@ pub const KINDS: [Kind; 12] = [
 fn names(kind: Kind, sent: &Sent) -> bool
     ensures { result ≡ spec.names kind sent.now }
 {
-    match sent {
-        Sent::Command(_, named) | Sent::Unread(_, named) => *named == kind,
-        _ => false,
-    }
-}
-
-fn names_none(sent: &Sent) -> bool
-    ensures { result ≡ spec.names_none sent.now }
-{
-    !matches!(sent, Sent::Command(_, _) | Sent::Unread(_, _))
-}
-
-fn named(up: &[Sent], kind: Kind) -> usize
-    ensures { result ≡ spec.named up.now kind }
-{
-    up.iter().filter(|sent| names(kind, sent)).count()
+    matches!(sent, Sent::Command(_, named) | Sent::Unread(_, named) if *named == kind)
 }
 
 fn named_none(up: &[Sent]) -> usize
     ensures { result ≡ count_by spec.names_none up.now }
 {
-    up.iter().filter(|sent| names_none(sent)).count()
+    let is_other = |sent: &&Sent| !matches!(sent, Sent::Command(_, _) | Sent::Unread(_, _));
+    up.iter().filter(is_other).count()
 }
 
 fn kind_counts(alloc: Global, up: &[Sent]) -> Result<Vec<usize>, AllocError>
     ensures { IfOk result (λ counts. counts.items ≡ map (spec.named up.now) spec.kinds) }
 {
-    KINDS.iter().map(|kind| named(up, *kind)).collect(alloc)
+    KINDS
+        .iter()
+        .map(|kind| up.iter().filter(|sent| names(*kind, sent)).count())
+        .collect(alloc)
 }
 
 /// Lines of the client by command, and last those of no command of this profile. Fails only if out of memory.

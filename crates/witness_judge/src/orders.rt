@@ -10,10 +10,7 @@ use witness::Side;
 fn count_of(side: Side, piece: (Side, u64)) -> u64
     ensures { result ≡ spec.count_of side piece }
 {
-    match (side, piece.0) {
-        (Side::Client, Side::Client) | (Side::Server, Side::Server) => piece.1,
-        (Side::Client, Side::Server) | (Side::Server, Side::Client) => 0,
-    }
+    if piece.0 == side { piece.1 } else { 0 }
 }
 
 /// How many bytes of an end pieces have; nothing if they are more than `most`.
@@ -54,7 +51,7 @@ pub fn first_bytes<'a>(
 }
 
 /// How far the bytes of an end have come.
-#[derive(Clone, Copy)]
+#[derive(Clone, Copy, Default)]
 pub struct Place {
     /// How many bytes came.
     pub bytes: usize,
@@ -84,40 +81,6 @@ fn advance(lines: &[Line], place: Place, count: usize) -> Place
     Place { bytes, at, left }
 }
 
-/// A piece of either end comes: how far each has come. Fails only if out of memory.
-fn see(
-    seen: &mut Vec<usize>,
-    up: &[Line],
-    down: &[Line],
-    client: Place,
-    server: Place,
-    piece: (Side, u64),
-) -> Result<(Place, Place), AllocError>
-    requires client { spec.IsAt up.now client }
-    requires server { spec.IsAt down.now server }
-    requires client_room { client.bytes + spec.count_of Side.Client piece < 2 ^ 63 }
-    requires server_room { server.bytes + spec.count_of Side.Server piece < 2 ^ 63 }
-    ensures client { IfOk result (λ r. spec.IsAt up.now r.0) }
-    ensures server { IfOk result (λ r. spec.IsAt down.now r.1) }
-    ensures client_bytes { IfOk result (λ r. r.0.bytes
-        ≡ client.bytes + spec.count_of Side.Client piece) }
-    ensures server_bytes { IfOk result (λ r. r.1.bytes
-        ≡ server.bytes + spec.count_of Side.Server piece) }
-    ensures seen { OnOk result (seen.new.items ≡ seen.old.items
-        ++ spec.seen_with client.bytes server.bytes piece up.now down.now) }
-{
-    let (side, count) = piece;
-    let count = count as usize;
-    match side {
-        Side::Client => Ok((advance(up, client, count), server)),
-        Side::Server => {
-            let next = advance(down, server, count);
-            seen.resize(seen.len() + (next.at - server.at), client.at)?;
-            Ok((client, next))
-        }
-    }
-}
-
 /// For each line of the server, how many lines of the client were whole when it was. Fails only if out of memory.
 #[tactic(auto, using(crate::proofs::OrderLemmas::at_start))]
 pub(crate) fn seen_lines(
@@ -131,16 +94,13 @@ pub(crate) fn seen_lines(
     ensures { IfOk result (λ seen. seen.items ≡ spec.seen_lines pieces.now up.now down.now) }
 {
     let mut seen = Vec::new(alloc);
-    let mut client = Place {
-        bytes: 0,
-        at: 0,
-        left: 0,
-    };
+    let mut client = Place::default();
     let mut server = client;
     for piece in pieces {
-        let (next_client, next_server) = see(&mut seen, up, down, client, server, *piece)?;
-        client = next_client;
-        server = next_server;
+        client = advance(up, client, count_of(Side::Client, *piece) as usize);
+        let before = server.at;
+        server = advance(down, server, count_of(Side::Server, *piece) as usize);
+        seen.resize(seen.len() + (server.at - before), client.at)?;
     }
     Ok(seen)
 }

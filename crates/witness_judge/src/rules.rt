@@ -77,7 +77,7 @@ pub enum Asks {
 }
 
 /// What a server had done when a line came, the line among it.
-#[derive(Clone, Copy)]
+#[derive(Clone, Copy, Default)]
 pub struct Moment {
     /// How many lines there were.
     pub number: usize,

@@ -7,6 +7,7 @@ ghost use Rattle.witness_judge.specs.ServerRules as spec;
 use crate::course::{Course, Notes};
 use crate::lines::{Data, Heard, Reply, Sent, Severity};
 use crate::rules::{Asks, Found, Rule, Sought, Stage, Standing};
+use crate::tables::look;
 use dme_line::{Kind, Tag};
 use std::alloc::{AllocError, Global};
 
@@ -100,111 +101,64 @@ struct SoFar<'a> {
     standing: Standing,
 }
 
-fn is_doubtful(so: SoFar<'_>, tag: Tag) -> bool
-    requires { IsCourse so.up.now (reverse so.above.now) so.course.now }
-    ensures { result ≡ spec.is_doubtful (reverse so.entry.above.now) tag }
-{
-    so.course.has_end(so.up, so.above, tag) && so.course.moment.refusals > 0
-}
-
 /// The rule that the end of a command breaks.
 fn ending_rule(so: SoFar<'_>, at: usize, sent: Sent) -> Option<Rule>
-    requires course { IsCourse so.up.now (reverse so.above.now) so.course.now }
-    requires standing { spec.IsStanding so.up.now (reverse so.above.now) so.standing }
+    requires { spec.AreKnown so.up.now (reverse so.above.now) so.course.now so.standing }
     ensures { result ≡ spec.end_rule (spec.is_in_turn so.entry.up.now (reverse so.entry.above.now)
         at sent) (spec.is_halted so.entry.up.now (reverse so.entry.above.now)
         (spec.front Sought.Open so.entry.up.now (reverse so.entry.above.now)) sent)
         (spec.leaves_some so.entry.up.now (reverse so.entry.above.now) at sent) }
 {
-    let standing = so.standing;
     if so.course.moment.refusals > 0 {
         return None;
     }
     match sent {
         Sent::Command(Tag::Std(_), _) | Sent::Command(Tag::Event(_), Kind::AbortE)
-            if standing.waiting < at => Some(Rule::NotInTurn),
+            if so.standing.waiting < at => Some(Rule::NotInTurn),
         Sent::Command(_, Kind::ClearAllErrors) => None,
-        Sent::Command(Tag::Std(_), _) if standing.barred => Some(Rule::NotCleared),
-        Sent::Command(_, Kind::EndSession) if standing.unended < at => Some(Rule::NoEnd),
+        Sent::Command(Tag::Std(_), _) if so.standing.barred => Some(Rule::NotCleared),
+        Sent::Command(_, Kind::EndSession) if so.standing.unended < at => Some(Rule::NoEnd),
         _ => None,
     }
 }
 
-#[tactic(auto, using(crate::proofs::Standings::first_ends))]
 fn command_rule(so: SoFar<'_>, tag: Tag, reply: Reply, at: usize, sent: Sent) -> Option<Rule>
-    requires course { IsCourse so.up.now (reverse so.above.now) so.course.now }
-    requires standing { spec.IsStanding so.up.now (reverse so.above.now) so.standing }
+    requires known { spec.AreKnown so.up.now (reverse so.above.now) so.course.now so.standing }
     requires within { at < length so.up.now }
     requires there { slice_get so.up.now at ≡ Some sent }
     ensures { result ≡ spec.command_rule so.entry.up.now (reverse so.entry.above.now) tag reply
         at sent }
 {
     let stage = stage_at(so.up, so.above, &so.course.notes, at);
-    let asks = asks_under(is_doubtful(so, tag), sent);
+    let doubtful = look(so.course.closed.as_slice(), tag).is_some()
+        && so.course.moment.refusals > 0;
+    let asks = asks_under(doubtful, sent);
     mark_rule(stage, asks, ending_rule(so, at, sent), reply)
 }
 
-fn was_later(count: Option<usize>, at: usize) -> bool
-    ensures { result ≡ spec.was_later count at }
-{
-    match count {
-        Some(count) => count <= at,
-        None => false,
-    }
-}
-
+#[tactic(auto, using(crate::proofs::Standings::known_place))]
 fn rule_of(seen: &[usize], so: SoFar<'_>, heard: Heard) -> Option<Rule>
-    requires course { IsCourse so.up.now (reverse so.above.now) so.course.now }
-    requires standing { spec.IsStanding so.up.now (reverse so.above.now) so.standing }
+    requires { spec.AreKnown so.up.now (reverse so.above.now) so.course.now so.standing }
     ensures { result ≡ spec.server_rule seen.now so.entry.up.now (reverse so.entry.above.now)
         heard }
 {
     let Heard::Response(tag, reply) = heard else {
         return Some(Rule::NotResponse);
     };
-    let Some(at) = so.course.place(so.up, so.above, tag) else {
+    let Some(at) = look(so.course.ends.as_slice(), tag) else {
         return match tag {
             Tag::Event(0) => None,
             _ => Some(Rule::UnknownTag),
         };
     };
-    if was_later(seen.get(so.above.len()).copied(), at) {
+    if seen.get(so.above.len()).map_or(false, |count| *count <= at) {
         return Some(Rule::NotSent);
     }
-    match so.up.get(at) {
-        Some(sent) => command_rule(so, tag, reply, at, *sent),
-        None => None,
-    }
-}
-
-fn is_halt(heard: Heard) -> bool
-    ensures { result ≡ spec.halts heard }
-{
-    matches!(
-        heard,
-        Heard::Response(Tag::Std(_), Reply::Error(Severity::Three))
-    )
-}
-
-fn reach_after(halts: bool, clearing: usize, reach: usize) -> usize
-    requires { clearing < 2 ^ 63 }
-    ensures { result ≡ spec.reach_after halts clearing reach }
-{
-    if halts && reach <= clearing {
-        clearing + 1
-    } else {
-        reach
-    }
-}
-
-fn first_barred(now: usize, before: usize, reach: usize, barred: bool) -> bool
-    ensures { result ≡ spec.first_barred now before reach barred }
-{
-    if now == before { barred } else { now < reach }
+    command_rule(so, tag, reply, at, *so.up.get(at)?)
 }
 
 /// How far all commands are, after one line more, which stands last in `heard`.
-#[tactic(auto, using(crate::proofs::Fronts::front_moves, crate::proofs::Fronts::front_within, crate::proofs::Standings::stands))]
+#[tactic(auto, using(crate::proofs::Fronts::front_moves, crate::proofs::Fronts::front_within, crate::proofs::Standings::stands, crate::proofs::Standings::other_first))]
 fn stand(
     up: &[Sent],
     above: &[Heard],
@@ -220,12 +174,20 @@ fn stand(
     ensures { spec.IsStanding up.now (heard ∷ reverse above.now) result }
 {
     let waiting = front(Sought::Open, up, lines, notes, before.waiting);
-    let reach = reach_after(is_halt(heard), before.clearing, before.reach);
+    let reach = match heard {
+        Heard::Response(Tag::Std(_), Reply::Error(Severity::Three))
+            if before.reach <= before.clearing => before.clearing + 1,
+        _ => before.reach,
+    };
     Standing {
         waiting,
         unended: front(Sought::Unended, up, lines, notes, before.unended),
         clearing: front(Sought::Clearing, up, lines, notes, before.clearing),
-        barred: first_barred(waiting, before.waiting, reach, before.barred),
+        barred: if waiting == before.waiting {
+            before.barred
+        } else {
+            waiting < reach
+        },
         reach,
     }
 }
@@ -242,20 +204,6 @@ fn at_first(up: &[Sent], none: &[Heard], notes: &Notes) -> Standing
         barred: false,
         reach: 0,
     }
-}
-
-fn found_or(found: Option<Found>, at: usize, rule: Option<Rule>) -> Option<Found>
-    requires { at < 2 ^ 63 }
-    ensures { result ≡ option_or found (found_at (at + 1) rule None) }
-{
-    if found.is_some() {
-        return found;
-    }
-    let rule = rule?;
-    Some(Found {
-        number: at + 1,
-        rule,
-    })
 }
 
 /// What the server has done and the first line of it that breaks a rule. Fails only if out of memory.
@@ -284,7 +232,8 @@ pub(crate) fn server_break(
             course: &course,
             standing,
         };
-        found = found_or(found, at, rule_of(seen, so, heard));
+        let number = at + 1;
+        found = found.or(rule_of(seen, so, heard).map(|rule| Found { number, rule }));
         course.hear(up, above, heard)?;
         standing = stand(up, above, lines, heard, &course.notes, standing);
     }

@@ -58,53 +58,24 @@ pub(crate) fn next_of(next: &[Option<usize>], place: Option<usize>) -> Option<us
     next.get(place?).copied().flatten()
 }
 
-/// The uses of each tag, from a place on.
-#[derive(Drop)]
-pub(crate) struct Later {
-    /// The first use of each tag.
-    pub(crate) first: Vec<Option<usize>>,
-    /// For each line of the client, the next use of its tag.
-    pub(crate) next: Vec<Option<usize>>,
-}
-
-fn change(table: &mut Vec<Option<usize>>, code: usize, place: Option<usize>)
-    requires { code < length table.old.items }
-    ensures count { length table.new.items ≡ length table.old.items }
-    ensures own { get_or table.new.items code None ≡ place }
-    ensures others { (at : ℕ) → (at ≡ code → ⊥)
-        → get_or table.new.items at None ≡ get_or table.old.items at None }
+/// The first use of each tag, and for each line of the client the next use of its tag. Fails only if out of memory.
+#[tactic(auto, using(crate::proofs::TagTables::first_more, crate::proofs::TagTables::next_more, crate::proofs::TagTables::first_untagged, crate::proofs::TagTables::next_untagged, crate::proofs::TagTables::next_none))]
+pub(crate) fn later_uses(
+    alloc: Global,
+    up: &[Sent],
+) -> Result<(Vec<Option<usize>>, Vec<Option<usize>>), AllocError>
+    ensures first { IfOk result (λ l. spec.AreFirst up.now 0 l.0.items) }
+    ensures next { IfOk result (λ l. spec.AreNext up.now 0 l.1.items) }
 {
-    table[code] = place;
-}
-
-/// The line at a place, before those that are noted. Fails only if out of memory.
-#[tactic(auto, using(crate::proofs::TagTables::first_more, crate::proofs::TagTables::next_more, crate::proofs::TagTables::first_untagged, crate::proofs::TagTables::next_untagged))]
-fn note_use(later: &mut Later, up: &[Sent], at: usize) -> Result<(), AllocError>
-    requires within { at < length up.now }
-    requires first { spec.AreFirst up.now (at + 1) later.old.first.items }
-    requires next { spec.AreNext up.now (at + 1) later.old.next.items }
-    ensures first { OnOk result (spec.AreFirst up.now at later.new.first.items) }
-    ensures next { OnOk result (spec.AreNext up.now at later.new.next.items) }
-{
-    let Some(tag) = tag_of(up[at]) else {
-        return Ok(());
-    };
-    let place = look(later.first.as_slice(), tag);
-    change(&mut later.next, at, place);
-    put(&mut later.first, tag, Some(at))
-}
-
-#[tactic(auto, using(crate::proofs::TagTables::next_none))]
-pub(crate) fn later_uses(alloc: Global, up: &[Sent]) -> Result<Later, AllocError>
-    ensures first { IfOk result (λ l. spec.AreFirst up.now 0 l.first.items) }
-    ensures next { IfOk result (λ l. spec.AreNext up.now 0 l.next.items) }
-{
-    let mut later = Later {
-        first: Vec::new(alloc),
-        next: vec![in alloc; None; up.len()]?,
-    };
+    let mut first = Vec::new(alloc);
+    let mut next = vec![in alloc; None; up.len()]?;
     for passed in 0..up.len() {
-        note_use(&mut later, up, up.len() - 1 - passed)?;
+        let at = up.len() - 1 - passed;
+        let Some(tag) = tag_of(up[at]) else {
+            continue;
+        };
+        next[at] = look(first.as_slice(), tag);
+        put(&mut first, tag, Some(at))?;
     }
-    Ok(later)
+    Ok((first, next))
 }

@@ -82,21 +82,13 @@ fn push_count(text: &mut String, word: &str, count: usize) -> Result<(), AllocEr
     writeln!(text, "{word} {count}")
 }
 
-fn word_at(at: usize) -> &'static str
-    ensures { result.now ≡ spec.word_of (slice_get kinds at) }
-{
-    match KINDS.get(at) {
-        Some(kind) => kind_word(*kind),
-        None => "other",
-    }
-}
-
 fn push_commands(text: &mut String, counts: &[usize]) -> Result<(), AllocError>
     ensures { OnOk result (string_bytes text.new ≡ string_bytes text.old
         ++ spec.commands_text 0 counts.now) }
 {
     for at in 0..counts.len() {
-        push_count(text, word_at(at), counts[at])?;
+        let word = KINDS.get(at).map_or("other", |kind| kind_word(*kind));
+        push_count(text, word, counts[at])?;
     }
     Ok(())
 }
@@ -122,10 +114,10 @@ fn text_of(alloc: Global, judgement: &Judgement) -> Result<String, AllocError>
         text.push_str("dme: no line breaks the rules\n")?;
         push_commands(&mut text, judgement.commands.as_slice())?;
         push_marks(&mut text, judgement.marks.as_slice())?;
-        return Ok(text);
+    } else {
+        push_break(&mut text, "CLIENT", &judgement.client)?;
+        push_break(&mut text, "SERVER", &judgement.server)?;
     }
-    push_break(&mut text, "CLIENT", &judgement.client)?;
-    push_break(&mut text, "SERVER", &judgement.server)?;
     Ok(text)
 }
 

@@ -1,4 +1,4 @@
-use Rattle.std.proofs.Common.{[], get_or, sym, ◌∙◌}
+use Rattle.std.proofs.Common.{[], sym, ◌∙◌}
 use Rattle.witness_judge.proofs.OrderLemmas.{on_start, on_next, stays_at, ends_whole, same_line}
 use Rattle.witness_judge.proofs.orders.advance.Goals as goal
 
