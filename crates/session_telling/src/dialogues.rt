@@ -74,9 +74,7 @@ fn cut(bytes: &[u8]) -> Option<(&[u8], &[u8])>
     ensures none { IfNone result (IsUnended bytes.now) }
     ensures shorter { IfSome result (λ p. length p.1.now < length bytes.now) }
 {
-    let Some(at) = end_of(bytes) else {
-        return None;
-    };
+    let at = end_of(bytes)?;
     let (line, _) = bytes.split_at(at);
     let (_, rest) = bytes.split_at(at + 1);
     Some((line, rest))

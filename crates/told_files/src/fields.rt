@@ -42,24 +42,16 @@ pub(crate) fn read_frame<'a>(forms: &mut Forms, rest: &'a [u8]) -> Option<(Optio
 pub(crate) fn read_rule(field: &[u8]) -> Option<Rule>
     ensures { Finds result (λ rule. field.now ≡ rule_name rule) }
 {
-    if field == b"UnknownTag".as_slice() {
-        Some(Rule::UnknownTag)
-    } else if field == b"OutOfOrder".as_slice() {
-        Some(Rule::OutOfOrder)
-    } else if field == b"NoData".as_slice() {
-        Some(Rule::NoData)
-    } else if field == b"SecondData".as_slice() {
-        Some(Rule::SecondData)
-    } else if field == b"OtherData".as_slice() {
-        Some(Rule::OtherData)
-    } else if field == b"TagInUse".as_slice() {
-        Some(Rule::TagInUse)
-    } else if field == b"NotInTurn".as_slice() {
-        Some(Rule::NotInTurn)
-    } else if field == b"TooMany".as_slice() {
-        Some(Rule::TooMany)
-    } else {
-        None
+    match field {
+        b"UnknownTag" => Some(Rule::UnknownTag),
+        b"OutOfOrder" => Some(Rule::OutOfOrder),
+        b"NoData" => Some(Rule::NoData),
+        b"SecondData" => Some(Rule::SecondData),
+        b"OtherData" => Some(Rule::OtherData),
+        b"TagInUse" => Some(Rule::TagInUse),
+        b"NotInTurn" => Some(Rule::NotInTurn),
+        b"TooMany" => Some(Rule::TooMany),
+        _ => None,
     }
 }
 
@@ -137,6 +129,5 @@ pub(crate) fn read_line_text(alloc: Global, rest: &[u8]) -> Result<Option<Text>,
     if !is_line_text(line) {
         return Ok(None);
     }
-    let text = Text::new(alloc, line)?;
-    Ok(Some(text))
+    Ok(Some(Text::new(alloc, line)?))
 }

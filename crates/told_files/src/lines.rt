@@ -89,10 +89,7 @@ fn read_other(alloc: Global, rest: &[u8]) -> Result<Option<Reported>, AllocError
         [b'<'] => Side::Server,
         _ => return Ok(None),
     };
-    let Some(line) = read_line_text(alloc, rest)? else {
-        return Ok(None);
-    };
-    Ok(Some(Reported::Other(side, line)))
+    Ok(read_line_text(alloc, rest)?.map(|line| Reported::Other(side, line)))
 }
 
 fn read_broken(rest: &[u8]) -> Option<Reported>
@@ -104,9 +101,7 @@ fn read_broken(rest: &[u8]) -> Option<Reported>
     let None = next_field(rest) else {
         return None;
     };
-    let rule = read_rule(rule)?;
-    let tag = read_tag(tag)?;
-    Some(Reported::Broken(rule, tag))
+    Some(Reported::Broken(read_rule(rule)?, read_tag(tag)?))
 }
 
 /// What the fields after a connection's number are, if they are not those of an act. Fails only if out of memory.
