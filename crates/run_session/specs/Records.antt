@@ -12,7 +12,7 @@ use Rattle.record_text.specs.Growths.{Growth, with_errors}
 use Rattle.record_laws.specs.Recordings.{Pair, told_unless}
 use Rattle.effects.specs.declared.vocabulary.Growth.TheVariants as growth
 use Rattle.effects.specs.declared.vocabulary.Peer.TheVariants.{Server}
-use Rattle.effects.specs.Effects.{Ask, Append, Keep, Send, Replace, Print, Exit, Reply, Done, Bytes}
+use Rattle.effects.specs.Effects.{Ask, Byte, Append, Keep, Send, Replace, Print, Exit, Reply, Done, Bytes}
 use Rattle.dme_orders.specs.Ends.{end_shown}
 use Rattle.dme_orders.specs.OfRecords.{IsFeaturesText}
 use Rattle.run_session.specs.declared.stages.Stage.{Stage}
@@ -196,7 +196,7 @@ abbrev pub IsReplace : List ℕ → Ask → Type 0
 IsReplace text (Replace name beside whole) = whole ≡ text
 IsReplace text ask = ⊥
 
--- what is asked: of the effects on the record's file, only what its stage says
+-- what is asked: of the effects on the record's file, only what its stage says; and at a pause what the operator types
 abbrev pub IsQuietAsk : Ask → Type 0
 IsQuietAsk (Append growth.Record text) = ⊥
 IsQuietAsk (Keep growth.Record text) = ⊥
@@ -211,6 +211,8 @@ abbrev pub AsksAt : Stage → State → Ask → Type 0
 AsksAt stage.Recording s ask = ask ≡ Append growth.Record (lacking s)
 AsksAt stage.Settling s ask = ask ≡ Keep growth.Record (lacking s)
 AsksAt stage.Sending s ask = ask ≡ Send Server s.pair.end.out
+AsksAt stage.Awaiting s ask = ask ≡ Byte
+AsksAt stage.Returning s ask = ask ≡ Byte
 AsksAt stage.ReplacingRecord s ask = IsReplace s.pair.recording.text ask
 AsksAt stage.ReplacingFeatures s ask = IsReplace s.list ask
 AsksAt stage.Printing s ask = ask ≡ Print s.text
@@ -220,17 +222,24 @@ AsksAt st s ask = IsQuietAsk ask
 abbrev pub Asks : State → Ask → Type 0
 Asks s ask = AsksAt s.stage s ask
 
+-- a pause is to come, and all that stands above it is counted
+abbrev pub IsPaused : State → Type 0
+IsPaused s = (1 ≤ length s.book.pauses) × (length s.pair.end.client.table.tally.todo ≤ held s.book.pauses)
+
 -- what holds besides before an effect is asked for: what is printed is the client's report; what replaces the features file are the features
--- that the client holds; and what is added to the record without being forced completes no feature
+-- that the client holds; what is added to the record without being forced completes no feature; and the operator is asked at a pause
 pub data Want : Type 0 where
   Report : Want
   Features : Want
   Unforced : Want
+  Pause : Want
 
 abbrev pub wants : Stage → Option Want
 wants stage.Printing = Some Report
 wants stage.ReplacingFeatures = Some Features
 wants stage.Recording = Some Unforced
+wants stage.Awaiting = Some Pause
+wants stage.Returning = Some Pause
 wants s = None
 
 abbrev pub IsDueBy : Option Want → State → Type 0
@@ -238,6 +247,7 @@ IsDueBy None s = ⊤
 IsDueBy (Some Report) s = s.text ≡ report_text (end_shown s.pair.end)
 IsDueBy (Some Features) s = IsFeaturesText s.pair.end.client.table.tally.features s.list
 IsDueBy (Some Unforced) s = s.pair.recording.telling.counted.features ≤ s.book.settled
+IsDueBy (Some Pause) s = IsPaused s
 
 abbrev pub IsDue : State → Type 0
 IsDue s = IsDueBy (wants s.stage) s

@@ -1,11 +1,12 @@
 // Examples: what is asked and what comes of it. Each function has laws for its contract and does nothing.
 
 ghost use Rattle.std.specs.Prelude.{◌≡◌, ℕ, [], ◌∷◌, true, false, length, Some};
-ghost use Rattle.effects.specs.Effects.{Append, Keep, Exit, Done, Short};
+ghost use Rattle.effects.specs.Effects.{Append, Keep, Byte, Receive, Exit, Done, Bytes, Short};
+ghost use Rattle.effects.specs.declared.vocabulary.Peer.TheVariants.{Server};
 ghost use Rattle.protocol_model.specs.declared.states.State.TheVariants.{Running};
 ghost use Rattle.effects.specs.declared.vocabulary.Growth.TheVariants.{Record, Features};
-ghost use Rattle.run_session.specs.Records.{State, Outside, IsQuietAsk, AsksAt, IsDueBy, Unforced, HasTold, HasFollowed, appended, kept, filed_by, lacking};
-ghost use Rattle.run_session.specs.declared.stages.Stage.TheVariants.{Recording, Settling, Sending, Receiving, Telling, Exiting};
+ghost use Rattle.run_session.specs.Records.{State, Outside, IsQuietAsk, AsksAt, IsDue, IsDueBy, Unforced, HasTold, HasFollowed, appended, kept, filed_by, lacking, confirms_pause};
+ghost use Rattle.run_session.specs.declared.stages.Stage.TheVariants.{Recording, Settling, Sending, Receiving, Awaiting, Returning, Telling, Exiting};
 
 /// What was added is in the file, and on the device only if it was forced there; of what was not written the file has the first bytes, and
 /// what was safe stays so.
@@ -43,4 +44,19 @@ pub fn follow_rows()
     ensures without { (s : State) → s.stage ≡ Sending → s.book.keeps ≡ false → lacking s ≡ []
         → HasFollowed s }
     ensures last { (s : State) → s.stage ≡ Telling → HasFollowed s }
+{}
+
+/// A pause ends by an LF that the operator types, and by nothing else; he is asked only while a pause is to come, above which all is counted,
+/// and what the server sends is no answer.
+pub fn pause_rows()
+    ensures line { confirms_pause Awaiting (Bytes (10 ∷ [])) ≡ true }
+    ensures after_return { confirms_pause Returning (Bytes (10 ∷ [])) ≡ true }
+    ensures other { confirms_pause Awaiting (Bytes (32 ∷ [])) ≡ false }
+    ensures longer { confirms_pause Returning (Bytes (10 ∷ 10 ∷ [])) ≡ false }
+    ensures unasked { confirms_pause Receiving (Bytes (10 ∷ [])) ≡ false }
+    ensures typed { (s : State) → AsksAt Awaiting s Byte }
+    ensures received { (s : State) → AsksAt Returning s (Receive Server) → ⊥ }
+    ensures none { (s : State) → s.stage ≡ Awaiting → s.book.pauses ≡ [] → IsDue s → ⊥ }
+    ensures uncounted { (s : State) → s.stage ≡ Returning → s.book.pauses ≡ 1 ∷ []
+        → length s.pair.end.client.table.tally.todo ≡ 2 → IsDue s → ⊥ }
 {}

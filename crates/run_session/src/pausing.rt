@@ -1,6 +1,6 @@
 // Texts for the operator are shown in their place, and the run waits there until he has confirmed it.
 
-ghost use Rattle.std.specs.Prelude.{◌≡◌, false, OnOk};
+ghost use Rattle.std.specs.Prelude.{◌≡◌, true, false, drop, OnOk};
 ghost use Rattle.effects.specs.Effects.{the_reply};
 ghost use Rattle.run_session.specs.Records as spec;
 
@@ -24,7 +24,9 @@ impl Session {
     }
 
     /// Whether all is counted that stands above the next pause.
-    pub(crate) fn is_paused(&self) -> bool {
+    pub(crate) fn is_paused(&self) -> bool
+        ensures { result ≡ true → spec.IsPaused self.now }
+    {
         !self.pauses.is_empty()
             && matches!(self.client.state(), State::Running)
             && self.client.uncounted() <= self.held()
@@ -76,6 +78,8 @@ impl Session {
         ensures short { self.new.book.short ≡ self.old.book.short }
         ensures told { spec.StaysTold self.old self.new }
         ensures lacks { spec.lacking self.new ≡ spec.lacking self.old }
+        ensures ends { spec.IsPaused self.old
+            → self.new.book.pauses ≡ drop 1 self.old.book.pauses }
     {
         if !self.pauses.is_empty() && self.client.uncounted() <= self.held() {
             self.pauses.remove(0);
@@ -89,11 +93,13 @@ impl Session {
         ensures short { self.new.book.short ≡ self.old.book.short }
         ensures due { spec.IsDue self.new }
         ensures followed { spec.Follows self.old self.new }
+        ensures ends { spec.IsPaused self.old
+            → self.new.book.pauses ≡ drop 1 self.old.book.pauses }
     {
         self.is_asked = false;
         self.wait = Wait::new(self.wait.limit);
         self.end_pause();
-        self.stage = self.await_bytes();
+        self.await_bytes();
     }
 
     /// The operator has not confirmed a pause: the run ends as by a stop file.
@@ -116,10 +122,15 @@ impl Session {
             → self.new.book.pauses ≡ self.old.book.pauses }
         ensures due { OnOk result (spec.IsDue self.new) }
         ensures followed { OnOk result (spec.Follows self.old self.new) }
+        ensures ends { spec.IsPaused self.old
+            → spec.confirms_pause self.old.stage (the_reply answer.entry) ≡ true
+            → self.new.book.pauses ≡ drop 1 self.old.book.pauses }
     {
         match (self.stage, answer) {
             (Stage::Awaiting | Stage::Returning, Answer::Bytes([b'\n'])) => self.confirm(),
-            (Stage::Awaiting, Answer::Bytes([b'\r'])) => self.stage = Stage::Returning,
+            (Stage::Awaiting, Answer::Bytes([b'\r'])) if self.is_paused() => {
+                self.stage = Stage::Returning;
+            }
             (_, Answer::Short) => return Err(AllocError),
             _ => return self.decline(),
         }

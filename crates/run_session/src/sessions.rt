@@ -1,6 +1,6 @@
 // A session: what it asks, and what it does with an answer.
 
-ghost use Rattle.std.specs.Prelude.{◌≡◌, true, false, length, map, is_some, None, OnOk, IfOk};
+ghost use Rattle.std.specs.Prelude.{◌≡◌, true, false, length, drop, map, is_some, None, OnOk, IfOk};
 ghost use Rattle.effects.specs.Effects.{the_ask, the_reply};
 ghost use Rattle.protocol_model.specs.Ends.{end_connected};
 ghost use Rattle.program_review.specs.Texts.{pauses_of, place_seen};
@@ -423,6 +423,9 @@ impl Session {
             → self.new.book.pauses ≡ self.old.book.pauses }
         ensures due { spec.IsDue self.new }
         ensures followed { spec.HasFollowed self.old → spec.HasFollowed self.new }
+        ensures ends { spec.IsDue self.old
+            → spec.confirms_pause self.old.stage (the_reply answer.entry) ≡ true
+            → self.new.book.pauses ≡ drop 1 self.old.book.pauses }
     {
         if self.step(answer).is_err() {
             self.run_short();
@@ -435,6 +438,9 @@ impl Session {
             → self.new.book.pauses ≡ self.old.book.pauses }
         ensures due { OnOk result (spec.IsDue self.new) }
         ensures followed { OnOk result (spec.HasFollowed self.old → spec.HasFollowed self.new) }
+        ensures ends { spec.IsDue self.old
+            → spec.confirms_pause self.old.stage (the_reply answer.entry) ≡ true
+            → self.new.book.pauses ≡ drop 1 self.old.book.pauses }
     {
         match self.stage {
             Stage::Logged | Stage::Beginning | Stage::Peeking | Stage::Connecting => {

@@ -140,40 +140,51 @@ impl Session {
         if self.is_over() {
             return self.end();
         }
+        self.ask_more()
+    }
+
+    /// What is written is sent, the operator is asked, or bytes are awaited.
+    fn ask_more(&mut self) -> Result<(), AllocError>
+        ensures quiet { spec.IsQuiet self.old self.new }
+        ensures due { OnOk result (spec.IsDue self.new) }
+        ensures followed { OnOk result (spec.Follows self.old self.new) }
+    {
         if !self.client.out().is_empty() {
             self.stage = Stage::Sending;
         } else if self.is_paused() && !self.is_asked {
             return self.ask();
         } else {
-            self.stage = self.await_bytes();
+            self.await_bytes();
         }
         Ok(())
     }
 
     /// What comes before bytes are received.
-    pub(crate) fn await_bytes(&self) -> Stage
-        ensures plain { spec.wants result ≡ None }
-        ensures paced { spec.pace result ≡ spec.Filed }
+    pub(crate) fn await_bytes(&mut self)
+        ensures quiet { spec.IsQuiet self.old self.new }
+        ensures due { spec.IsDue self.new }
+        ensures followed { spec.Follows self.old self.new }
     {
         if self.run.stop.is_some() && !self.is_stopped {
-            Stage::Checking
+            self.stage = Stage::Checking;
         } else {
-            self.await_unstopped()
+            self.await_unstopped();
         }
     }
 
     /// Likewise, once the stop file was looked for.
-    fn await_unstopped(&self) -> Stage
-        ensures plain { spec.wants result ≡ None }
-        ensures paced { spec.pace result ≡ spec.Filed }
+    fn await_unstopped(&mut self)
+        ensures quiet { spec.IsQuiet self.old self.new }
+        ensures due { spec.IsDue self.new }
+        ensures followed { spec.Follows self.old self.new }
     {
-        if self.is_asked {
+        self.stage = if self.is_asked && self.is_paused() {
             Stage::Awaiting
         } else if self.wait.limit.is_some() {
             Stage::Timing
         } else {
             Stage::Receiving
-        }
+        };
     }
 
     /// The stop file is there, or the operator has not confirmed a pause: the client aborts, if it can.
@@ -229,7 +240,7 @@ impl Session {
     {
         match (self.stage, answer) {
             (Stage::Checking, Answer::Found) => return self.stop(),
-            (Stage::Checking, _) => self.stage = self.await_unstopped(),
+            (Stage::Checking, _) => self.await_unstopped(),
             (Stage::Timing, Answer::At(now)) => match self.wait.lapse(now) {
                 Some(lapse) => return self.lapsed(lapse, PumpFault::ReadFailed),
                 None => self.stage = Stage::Receiving,
