@@ -16,20 +16,19 @@ use Rattle.refusal_guide.specs.declared.causes.Cause.TheVariants as cause
 use Rattle.refusal_guide.specs.Words.{Named, Caused, caused}
 use Rattle.refusal_guide.specs.Spots.{param_spot}
 use Rattle.refusal_guide.specs.Blocks.{in_64_bits}
-use Rattle.refusal_guide.specs.Lengths.{fault_in, length_fault, is_no_length}
+use Rattle.refusal_guide.specs.Lengths.{fault_in, length_fault}
 
 -- why a text is no component of a direction
 unfoldable pub component_fault : List ℕ → Option NumeralFault
 component_fault text = fault_in (value_of 6 component_limit text)
 
--- a text is no such component
-abbrev pub is_no_component : List ℕ → Bool
-is_no_component text = is_some (component_fault text)
-
 -- why a text is not read as what it is to be
 abbrev pub measure_fault : Measure → List ℕ → Option NumeralFault
 measure_fault Length text = length_fault text
 measure_fault Component text = component_fault text
+
+abbrev pub is_no : Measure → List ℕ → Bool
+is_no measure text = is_some (measure_fault measure text)
 
 -- how many digits are before the exponent, which begins with E or e
 abbrev pub is_exponent : ℕ → Bool
@@ -65,11 +64,11 @@ count_before params = if has_cart params then 1 else 0
 
 -- the leftmost of the components, which follow three lengths, that does not read
 abbrev pub leftmost_component : List (List ℕ) → Option (ℕ × Measure)
-leftmost_component numerals = option_map (λ n. (n + 3, Component)) (position is_no_component (drop 3 numerals))
+leftmost_component numerals = option_map (λ n. (n + 3, Component)) (position (is_no Component) (drop 3 numerals))
 
 -- the leftmost numeral that does not read, and what it is to be
 abbrev pub leftmost : List (List ℕ) → Option (ℕ × Measure)
-leftmost numerals = option_or (option_map (λ n. (n, Length)) (position is_no_length (take 3 numerals))) (leftmost_component numerals)
+leftmost numerals = option_or (option_map (λ n. (n, Length)) (position (is_no Length) (take 3 numerals))) (leftmost_component numerals)
 
 abbrev pub numeral_at : List ℕ → Statement → ℕ → List (List ℕ) → ℕ × Measure → Option Caused
 numeral_at rest s before numerals p = option_and_then (parameter_cause rest s (before + p.0) p.1) (slice_get numerals p.0)

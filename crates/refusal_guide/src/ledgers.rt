@@ -109,22 +109,13 @@ fn act_reason(alloc: Global, place: Place) -> Explained {
     act.reason(alloc, "", words)
 }
 
-/// That a line ends with CR LF; none if it does not.
-pub(crate) fn return_reason(alloc: Global, place: Place) -> Explained {
-    match place.rest.get(first_line(place.rest).len()) {
-        Some(b'\r') => Reason::of_text(
-            alloc,
-            "The line ends with CR LF, and the lines of this file end with LF only.",
-        ),
-        _ => Ok(None),
-    }
+/// Whether a line ends with CR LF.
+pub(crate) fn has_return(place: Place) -> bool {
+    matches!(place.rest.get(first_line(place.rest).len()), Some(b'\r'))
 }
 
 /// Why a line of features is unexpected.
 pub(crate) fn feature_reason(alloc: Global, place: Place) -> Explained {
-    if let Some(reason) = return_reason(alloc, place)? {
-        return Ok(Some(reason));
-    }
     if place.number == 1 {
         return Reason::of_text(
             alloc,
@@ -136,9 +127,6 @@ pub(crate) fn feature_reason(alloc: Global, place: Place) -> Explained {
 
 /// Why a line of contacts, or of reports, is unexpected.
 pub(crate) fn contact_reason(alloc: Global, place: Place) -> Explained {
-    if let Some(reason) = return_reason(alloc, place)? {
-        return Ok(Some(reason));
-    }
     if place.number != 1 {
         return act_reason(alloc, place);
     }

@@ -2,8 +2,8 @@
 
 ghost use Rattle.std.specs.Prelude.{◌≡◌, ◌<◌, length, IfSome};
 ghost use Rattle.std.specs.List.{position};
-ghost use Rattle.refusal_guide.specs.Lengths.{length_fault, is_no_length};
-ghost use Rattle.refusal_guide.specs.Numerals.{component_fault, is_no_component, measure_fault, is_exponent, digits_before, numeral_cause};
+ghost use Rattle.refusal_guide.specs.Lengths.{length_fault};
+ghost use Rattle.refusal_guide.specs.Numerals.{component_fault, measure_fault, is_no, is_exponent, digits_before, numeral_cause};
 
 use crate::causes::Cause;
 use crate::words::{Explained, Word};
@@ -28,12 +28,6 @@ fn length_fault(text: &[u8]) -> Option<NumeralFault>
     }
 }
 
-fn is_no_length(text: &[u8]) -> bool
-    ensures { result ≡ is_no_length text.now }
-{
-    length_fault(text).is_some()
-}
-
 fn component_fault(text: &[u8]) -> Option<NumeralFault>
     ensures { result ≡ component_fault text.now }
 {
@@ -41,12 +35,6 @@ fn component_fault(text: &[u8]) -> Option<NumeralFault>
         Ok(_) => None,
         Err(fault) => Some(fault),
     }
-}
-
-fn is_no_component(text: &[u8]) -> bool
-    ensures { result ≡ is_no_component text.now }
-{
-    component_fault(text).is_some()
 }
 
 /// Why a text is not read as what it should be; none if it is.
@@ -59,18 +47,18 @@ pub(crate) fn measure_fault(text: &[u8], measure: Measure) -> Option<NumeralFaul
     }
 }
 
-pub(crate) fn leftmost_length(params: &[Text]) -> Option<usize>
-    ensures leftmost { result ≡ position is_no_length params.now }
-    ensures within { IfSome result (λ index. index < length params.now) }
+fn is_no(text: &[u8], measure: Measure) -> bool
+    ensures { result ≡ is_no measure text.now }
 {
-    params.iter().position(|p| is_no_length(p))
+    measure_fault(text, measure).is_some()
 }
 
-pub(crate) fn leftmost_component(params: &[Text]) -> Option<usize>
-    ensures leftmost { result ≡ position is_no_component params.now }
+/// The number of the leftmost parameter that is not read as what it should be.
+pub(crate) fn leftmost_of(params: &[Text], measure: Measure) -> Option<usize>
+    ensures leftmost { result ≡ position (is_no measure) params.now }
     ensures within { IfSome result (λ index. index < length params.now) }
 {
-    params.iter().position(|p| is_no_component(p))
+    params.iter().position(|p| is_no(p, measure))
 }
 
 fn is_exponent(byte: u8) -> bool

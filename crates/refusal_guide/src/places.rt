@@ -5,7 +5,7 @@ ghost use Rattle.refusal_guide.specs.Words.{caused_by};
 ghost use Rattle.refusal_guide.specs.Places.{number_of, place_text, IsReason, IsPlace, IsPlaceOf, Places};
 
 use crate::fields::{Form, range_reason, twice_reason};
-use crate::ledgers::{contact_reason, feature_reason};
+use crate::ledgers::{contact_reason, feature_reason, has_return};
 use crate::lines::{Place, first_line, from_line, shown_line, shown_start};
 use crate::programs::program_reason;
 use crate::records::record_reason;
@@ -68,6 +68,10 @@ fn other_reason(alloc: Global, refused: Refused, place: Place) -> Result<Reason,
         }
         Refused::Setup(_) => (Form::Setup.line_reason(alloc, place)?, Topic::SetupLine),
         Refused::Schedule(_) => (schedule_reason(alloc, place)?, Topic::ScheduleLine),
+        Refused::Features(_) | Refused::Contacts(_) | Refused::Record(_) if has_return(place) => {
+            let said = "The line ends with CR LF, and the lines of this file end with LF only.";
+            (Reason::of_text(alloc, said)?, Topic::Damaged)
+        }
         Refused::Features(_) => (feature_reason(alloc, place)?, Topic::Damaged),
         Refused::Contacts(_) => (contact_reason(alloc, place)?, Topic::Damaged),
         Refused::Record(_) => (record_reason(alloc, place)?, Topic::RecordDamaged),

@@ -16,7 +16,7 @@ use crate::bad_bytes::bad_byte;
 use crate::blocks::{last_statement, open_block};
 use crate::causes::{Cause, sentence_of};
 use crate::lines::{Place, first_line};
-use crate::numerals::{Measure, leftmost_component, leftmost_length, measure_fault, numeral_cause};
+use crate::numerals::{Measure, leftmost_of, measure_fault, numeral_cause};
 use crate::statements::{Found, first_statement};
 use crate::topics::Topic;
 use crate::words::{Explained, Reason, Word};
@@ -100,10 +100,10 @@ fn leftmost(numerals: &[Text]) -> Option<(usize, Measure)>
     ensures { result ≡ leftmost numerals.now }
 {
     let (lengths, components) = numerals.split_at(numerals.len().min(3));
-    if let Some(index) = leftmost_length(lengths) {
+    if let Some(index) = leftmost_of(lengths, Measure::Length) {
         return Some((index, Measure::Length));
     }
-    let index = leftmost_component(components)?;
+    let index = leftmost_of(components, Measure::Component)?;
     Some((index + 3, Measure::Component))
 }
 

@@ -2,7 +2,7 @@
 
 use crate::causes::Cause;
 use crate::contacts::Contacts;
-use crate::ledgers::{connection_reason, form_reason, return_reason};
+use crate::ledgers::{connection_reason, form_reason};
 use crate::lines::{Place, first_line};
 use crate::touches::Request;
 use crate::words::{Explained, Reason, Word};
@@ -176,9 +176,6 @@ fn entry_reason(alloc: Global, record: &Record, above: &[u8], line: &[u8]) -> Ex
 
 /// Why a line of a record is unexpected.
 pub(crate) fn record_reason(alloc: Global, place: Place) -> Explained {
-    if let Some(reason) = return_reason(alloc, place)? {
-        return Ok(Some(reason));
-    }
     let line = first_line(place.rest);
     if place.number == 1 {
         if line == b"DME-RECORD 1".as_slice() {
