@@ -1,21 +1,19 @@
 // Programs in inches.
 
-ghost use Rattle.std.specs.Prelude.{◌≡◌, ◌≢◌, ◌≤◌, codes, slice_index, unsigned_abs};
-ghost use Rattle.std.specs.Str.{bytes_eq};
+ghost use Rattle.std.specs.Prelude.{◌≡◌, ◌≢◌, ◌≤◌, slice_index, unsigned_abs};
 ghost use Rattle.std.specs.Char.{is_ascii_alphabetic};
 ghost use Rattle.fixed_um.specs.Limits.{component_limit};
 ghost use Rattle.dmis_program.specs.Keywords.{keyword_of};
 ghost use Rattle.dmis_program.specs.Outcomes.{Gives};
-ghost use Rattle.dmis_program.specs.Parameters.{is_other_coordinates, without_cart};
+ghost use Rattle.dmis_program.specs.Parameters.{is_other_coordinates};
 ghost use Rattle.dmis_program.specs.Positions.{direction_of};
 ghost use Rattle.dmis_program.specs.Sayings.{is_badly_formed};
 ghost use Rattle.program_lowering.specs.Inches as spec;
 
-use crate::lines::begins_with;
-use crate::words::is_text;
 use dmis_program::{Keyword, Refusal, StatementFault, StatementMeaning, said_of};
 use dmis_text::{Statement, Text};
 use fixed_um::{Dir, Point, Um, read_dir};
+use program_review::{begins_with, is_text, without_cart};
 use std::alloc::Global;
 
 /// The length of that many millionths of an inch.
@@ -64,12 +62,6 @@ fn direction(i: &[u8], j: &[u8], k: &[u8]) -> Result<Dir, Refusal>
     }
 }
 
-fn is_cart(text: &[u8]) -> bool
-    ensures { result ≡ bytes_eq text.now (codes "CART") }
-{
-    is_text(text, "CART")
-}
-
 fn begins_with_letter(text: &[u8]) -> bool
     ensures { result ≡ is_ascii_alphabetic (slice_index text.now 0) }
 {
@@ -83,22 +75,7 @@ fn begins_with_letter(text: &[u8]) -> bool
 fn is_other_coordinates(params: &[Text]) -> bool
     ensures { result ≡ is_other_coordinates params.now }
 {
-    match params.split_first() {
-        Some((first, _)) => begins_with_letter(first) && !is_cart(first),
-        None => false,
-    }
-}
-
-/// The parameters after a first `CART`.
-fn without_cart<'p, 'a>(params: &'p [Text<'a>]) -> &'p [Text<'a>]
-    ensures { result.now ≡ without_cart params.now }
-{
-    let count = match params.split_first() {
-        Some((first, _)) if is_cart(first) => 1,
-        _ => 0,
-    };
-    let (_, rest) = params.split_at(count);
-    rest
+    params.first().is_some_and(|first| begins_with_letter(first) && !is_text(first, "CART"))
 }
 
 /// `GOTO/x,y,z` in inches.
@@ -134,7 +111,7 @@ fn touches(params: &[Text]) -> Result<StatementMeaning, Refusal>
     ensures { result ≡ spec.touches_after params.now }
 {
     match params.split_first() {
-        Some((first, rest)) if is_cart(first) => touches_at(rest),
+        Some((first, rest)) if is_text(first, "CART") => touches_at(rest),
         _ => Err(Refusal::BadArguments),
     }
 }

@@ -7,38 +7,15 @@ ghost use Rattle.dmis_program.specs.Keywords.{keyword_of};
 ghost use Rattle.program_lowering.specs.Flats.{flat_line, flat_text, line_end};
 ghost use Rattle.program_lowering.specs.Lowering.{ended_lines, line_for};
 ghost use Rattle.program_lowering.specs.OperatorTexts as spec;
-ghost use Rattle.program_review.specs.Notices.{begins_with};
-ghost use Rattle.program_review.specs.Texts.{is_operator_text};
 
 use crate::flats::{is_written, push_number, push_text};
-use crate::words::is_text;
 use dmis_program::{Keyword, Refusal, StatementMeaning};
 use dmis_text::{Statement, Text};
+use program_review::is_operator_text;
 use std::alloc::{AllocError, Global};
 
 /// The most bytes of a line without its end (this profile).
 const LONGEST_LINE: usize = 4096;
-
-/// Whether the first parameter is this text.
-pub(crate) fn begins_with(other: &str, params: &[Text]) -> bool
-    ensures { result ≡ begins_with other.now params.now }
-{
-    match params.split_first() {
-        Some((first, _)) => is_text(first, other),
-        None => false,
-    }
-}
-
-/// Whether a statement is a text for the operator.
-pub(crate) fn is_operator_text(statement: &Statement) -> bool
-    ensures { result ≡ is_operator_text statement.now }
-{
-    if statement.label.is_some() || statement.is_open() {
-        return false;
-    }
-    is_text(&statement.word, "TEXT")
-        && (begins_with("OPER", &statement.params) || begins_with("MAN", &statement.params))
-}
 
 /// Whether a byte outside texts may be in a parameter.
 fn is_outer(byte: u8) -> bool

@@ -15,13 +15,14 @@ use crate::above::Above;
 use crate::flats::{push_named, push_number};
 use crate::heads::{SourceNames, with_head};
 use crate::inches::inches_after;
-use crate::lines::{is_operator_text, push_line, text_refusal};
+use crate::lines::{push_line, text_refusal};
 use crate::manual::{is_skipped, manual_after};
 use crate::words::{Choices, Reason, left_out, passed_reason, reason_text};
 use dmis_program::{
     Frames, Keyword, ProgramFault, Refusal, StatementFault, StatementMeaning, keyword_of_word,
 };
 use dmis_text::{Statement, Statements};
+use program_review::is_operator_text;
 use std::alloc::{AllocError, Global};
 use std::marker::Model;
 

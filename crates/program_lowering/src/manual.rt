@@ -4,9 +4,9 @@ ghost use Rattle.std.specs.Prelude.{◌≡◌};
 ghost use Rattle.dmis_program.specs.Keywords.{is_among, keyword_of};
 ghost use Rattle.program_lowering.specs.Manual as spec;
 
-use crate::words::is_text;
 use dmis_program::Keyword;
 use dmis_text::{Statement, Text};
+use program_review::{is_among, is_text};
 
 /// Whether the words of a `MODE` leave measuring to the operator.
 fn is_manual(params: &[Text]) -> bool
@@ -33,14 +33,12 @@ pub(crate) fn manual_after(manual: bool, keyword: Keyword, statement: &Statement
 fn is_manual_word(word: &[u8]) -> bool
     ensures { result ≡ is_among word.now spec.manual_words }
 {
-    is_text(word, "GOHOME")
-        || is_text(word, "GOTARG")
-        || is_text(word, "ENDGO")
-        || is_text(word, "FROM")
-        || is_text(word, "PAMEAS")
-        || is_text(word, "PATH")
-        || is_text(word, "RMEAS")
-        || is_text(word, "SCAN")
+    is_among(
+        word,
+        &[
+            "GOHOME", "GOTARG", "ENDGO", "FROM", "PAMEAS", "PATH", "RMEAS", "SCAN",
+        ],
+    )
 }
 
 /// Whether a word measures or moves, or is a `MODE`.

@@ -1,7 +1,6 @@
 // The words that a flat program does not have.
 
 ghost use Rattle.std.specs.Prelude.{◌≡◌};
-ghost use Rattle.std.specs.Str.{bytes_eq};
 ghost use Rattle.dmis_program.specs.Keywords.{is_among, keyword_of};
 ghost use Rattle.program_lowering.specs.Words.{clearing, compensation, left_out, naming, passed_motion};
 ghost use Rattle.program_lowering.specs.Words.{passed_reason, printing, reason_of};
@@ -9,6 +8,7 @@ ghost use Rattle.program_lowering.specs.Reasons.{reason_text};
 
 use dmis_program::Keyword;
 use dmis_text::{Statement, Text};
+use program_review::{is_among, is_text};
 
 /// What is left out besides what measures and moves nothing.
 #[derive(Clone, Copy, Debug)]
@@ -44,52 +44,34 @@ pub enum Reason {
     Passed,
 }
 
-/// Whether two texts are the same.
-pub(crate) fn is_text(text: &[u8], other: &str) -> bool
-    ensures { result ≡ bytes_eq text.now other.now }
-{
-    text == other.as_bytes()
-}
-
 /// How results are printed, and where.
 fn is_printing(word: &[u8]) -> bool
     ensures { result ≡ is_among word.now printing }
 {
-    is_text(word, "VFORM")
-        || is_text(word, "DECPL")
-        || is_text(word, "DEVICE")
-        || is_text(word, "OPEN")
-        || is_text(word, "CLOSE")
-        || is_text(word, "REPORT")
+    is_among(
+        word,
+        &["VFORM", "DECPL", "DEVICE", "OPEN", "CLOSE", "REPORT"],
+    )
 }
 
 /// What is measured, by whom, by which plan, and on what it is clamped.
 fn is_naming(word: &[u8]) -> bool
     ensures { result ≡ is_among word.now naming }
 {
-    is_text(word, "PARTID")
-        || is_text(word, "PARTRV")
-        || is_text(word, "PARTSN")
-        || is_text(word, "LOTID")
-        || is_text(word, "OPERID")
-        || is_text(word, "PLANID")
-        || is_text(word, "PREVOP")
-        || is_text(word, "PROCID")
-        || is_text(word, "MFGDEV")
-        || is_text(word, "CLMPID")
-        || is_text(word, "CLMPSN")
-        || is_text(word, "FIXTID")
-        || is_text(word, "FIXTSN")
+    is_among(
+        word,
+        &[
+            "PARTID", "PARTRV", "PARTSN", "LOTID", "OPERID", "PLANID", "PREVOP", "PROCID",
+            "MFGDEV", "CLMPID", "CLMPSN", "FIXTID", "FIXTSN",
+        ],
+    )
 }
 
 /// Where the machine clears the part.
 fn is_clearing(word: &[u8]) -> bool
     ensures { result ≡ is_among word.now clearing }
 {
-    is_text(word, "CLRSRF")
-        || is_text(word, "CLRPLN")
-        || is_text(word, "CZONE")
-        || is_text(word, "CZSLCT")
+    is_among(word, &["CLRSRF", "CLRPLN", "CZONE", "CZSLCT"])
 }
 
 /// `TECOMP`.
@@ -150,11 +132,7 @@ pub(crate) fn left_out(choices: Choices, keyword: Keyword, statement: &Statement
 fn is_passed_motion(word: &[u8]) -> bool
     ensures { result ≡ is_among word.now passed_motion }
 {
-    is_text(word, "FEDRAT")
-        || is_text(word, "ACLRAT")
-        || is_text(word, "SNSET")
-        || is_text(word, "FINPOS")
-        || is_text(word, "PRCOMP")
+    is_among(word, &["FEDRAT", "ACLRAT", "SNSET", "FINPOS", "PRCOMP"])
 }
 
 /// Why a flat program's word that commands nothing is not written out.

@@ -1,6 +1,7 @@
 // What refused statements are for.
 
 ghost use Rattle.std.specs.Prelude.{◌≡◌};
+ghost use Rattle.std.specs.List.{list_any};
 ghost use Rattle.std.specs.Str.{bytes_eq};
 ghost use Rattle.dmis_program.specs.Keywords.{keyword_of, is_among};
 ghost use Rattle.program_review.specs.Groups.{identifying, reporting, coordinates, measuring, branching, calling, moving, compensating};
@@ -31,152 +32,112 @@ pub enum Group {
     Other,
 }
 
-pub(crate) fn is_text(text: &[u8], other: &str) -> bool
+/// Whether a text has these characters.
+pub fn is_text(text: &[u8], other: &str) -> bool
     ensures { result ≡ bytes_eq text.now other.now }
 {
     text == other.as_bytes()
 }
 
+/// Whether a text is one of these.
+pub fn is_among(text: &[u8], others: &[&str]) -> bool
+    ensures { result ≡ list_any (λ other. bytes_eq text.now other.now) others.now }
+{
+    others.iter().any(|other| is_text(text, other))
+}
+
 fn is_identifying(word: &[u8]) -> bool
     ensures { result ≡ is_among word.now identifying }
 {
-    is_text(word, "CLMPID")
-        || is_text(word, "CLMPSN")
-        || is_text(word, "DMEID")
-        || is_text(word, "FIXTID")
-        || is_text(word, "FIXTSN")
-        || is_text(word, "LOTID")
-        || is_text(word, "MFGDEV")
-        || is_text(word, "OPERID")
-        || is_text(word, "PARTID")
-        || is_text(word, "PARTRV")
-        || is_text(word, "PARTSN")
-        || is_text(word, "PLANID")
-        || is_text(word, "PREVOP")
-        || is_text(word, "PROCID")
-        || is_text(word, "QISDEF")
+    is_among(
+        word,
+        &[
+            "CLMPID", "CLMPSN", "DMEID", "FIXTID", "FIXTSN", "LOTID", "MFGDEV", "OPERID", "PARTID",
+            "PARTRV", "PARTSN", "PLANID", "PREVOP", "PROCID", "QISDEF",
+        ],
+    )
 }
 
 /// Whether a word prints, keeps or evaluates.
 fn is_reporting(word: &[u8]) -> bool
     ensures { result ≡ is_among word.now reporting }
 {
-    is_text(word, "BOUND")
-        || is_text(word, "CLOSE")
-        || is_text(word, "CONST")
-        || is_text(word, "DECPL")
-        || is_text(word, "DEVICE")
-        || is_text(word, "EVAL")
-        || is_text(word, "GEOALG")
-        || is_text(word, "KEYCHAR")
-        || is_text(word, "OPEN")
-        || is_text(word, "RAWDAT")
-        || is_text(word, "REPORT")
-        || is_text(word, "VFORM")
-        || is_text(word, "WRITE")
+    is_among(
+        word,
+        &[
+            "BOUND", "CLOSE", "CONST", "DECPL", "DEVICE", "EVAL", "GEOALG", "KEYCHAR", "OPEN",
+            "RAWDAT", "REPORT", "VFORM", "WRITE",
+        ],
+    )
 }
 
 /// Whether a word sets up, keeps or changes a coordinate system, or selects another carriage, or turns the part.
 pub(crate) fn is_of_coordinates(word: &[u8]) -> bool
     ensures { result ≡ is_among word.now coordinates }
 {
-    is_text(word, "CRSLCT")
-        || is_text(word, "DATDEF")
-        || is_text(word, "DATSET")
-        || is_text(word, "EQUATE")
-        || is_text(word, "ITERAT")
-        || is_text(word, "LOCATE")
-        || is_text(word, "MATDEF")
-        || is_text(word, "ROTAB")
-        || is_text(word, "ROTATE")
-        || is_text(word, "ROTDEF")
-        || is_text(word, "ROTSET")
-        || is_text(word, "SAVE")
-        || is_text(word, "TRANS")
+    is_among(
+        word,
+        &[
+            "CRSLCT", "DATDEF", "DATSET", "EQUATE", "ITERAT", "LOCATE", "MATDEF", "ROTAB",
+            "ROTATE", "ROTDEF", "ROTSET", "SAVE", "TRANS",
+        ],
+    )
 }
 
 fn is_measuring(word: &[u8]) -> bool
     ensures { result ≡ is_among word.now measuring }
 {
-    is_text(word, "ALGDEF")
-        || is_text(word, "CALIB")
-        || is_text(word, "FILDEF")
-        || is_text(word, "LITDEF")
-        || is_text(word, "PAMEAS")
-        || is_text(word, "PATH")
-        || is_text(word, "PTBUFF")
-        || is_text(word, "RMEAS")
-        || is_text(word, "SCAN")
-        || is_text(word, "SCNMOD")
-        || is_text(word, "SCNPLN")
-        || is_text(word, "SCNSET")
-        || is_text(word, "THLDEF")
-        || is_text(word, "WINDEF")
-        || is_text(word, "XTRACT")
+    is_among(
+        word,
+        &[
+            "ALGDEF", "CALIB", "FILDEF", "LITDEF", "PAMEAS", "PATH", "PTBUFF", "RMEAS", "SCAN",
+            "SCNMOD", "SCNPLN", "SCNSET", "THLDEF", "WINDEF", "XTRACT",
+        ],
+    )
 }
 
 /// Whether a word decides which statements come next.
 fn is_branching(word: &[u8]) -> bool
     ensures { result ≡ is_among word.now branching }
 {
-    is_text(word, "BADTST")
-        || is_text(word, "CASE")
-        || is_text(word, "DFTCAS")
-        || is_text(word, "DMIS")
-        || is_text(word, "DO")
-        || is_text(word, "ELSE")
-        || is_text(word, "ENDCAS")
-        || is_text(word, "ENDDO")
-        || is_text(word, "ENDIF")
-        || is_text(word, "ENDSEL")
-        || is_text(word, "IF")
-        || is_text(word, "JUMPTO")
-        || is_text(word, "RESUME")
-        || is_text(word, "SELECT")
+    is_among(
+        word,
+        &[
+            "BADTST", "CASE", "DFTCAS", "DMIS", "DO", "ELSE", "ENDCAS", "ENDDO", "ENDIF", "ENDSEL",
+            "IF", "JUMPTO", "RESUME", "SELECT",
+        ],
+    )
 }
 
 fn is_calling(word: &[u8]) -> bool
     ensures { result ≡ is_among word.now calling }
 {
-    is_text(word, "ASSIGN")
-        || is_text(word, "CALL")
-        || is_text(word, "DECL")
-        || is_text(word, "DMISMD")
-        || is_text(word, "ENDMAC")
-        || is_text(word, "ENDXTN")
-        || is_text(word, "ERROR")
-        || is_text(word, "EXTFIL")
-        || is_text(word, "INCLUD")
-        || is_text(word, "MACRO")
-        || is_text(word, "OBTAIN")
-        || is_text(word, "PROMPT")
-        || is_text(word, "READ")
-        || is_text(word, "VALUE")
-        || is_text(word, "XTERN")
+    is_among(
+        word,
+        &[
+            "ASSIGN", "CALL", "DECL", "DMISMD", "ENDMAC", "ENDXTN", "ERROR", "EXTFIL", "INCLUD",
+            "MACRO", "OBTAIN", "PROMPT", "READ", "VALUE", "XTERN",
+        ],
+    )
 }
 
 fn is_moving(word: &[u8]) -> bool
     ensures { result ≡ is_among word.now moving }
 {
-    is_text(word, "CLRSRF")
-        || is_text(word, "CRMODE")
-        || is_text(word, "CROSCL")
-        || is_text(word, "CZONE")
-        || is_text(word, "CZSLCT")
-        || is_text(word, "ENDGO")
-        || is_text(word, "FLY")
-        || is_text(word, "FROM")
-        || is_text(word, "GOHOME")
-        || is_text(word, "GOTARG")
-        || is_text(word, "RAPID")
-        || is_text(word, "WRIST")
+    is_among(
+        word,
+        &[
+            "CLRSRF", "CRMODE", "CROSCL", "CZONE", "CZSLCT", "ENDGO", "FLY", "FROM", "GOHOME",
+            "GOTARG", "RAPID", "WRIST",
+        ],
+    )
 }
 
 /// Whether a word changes measured lengths.
 fn is_compensating(word: &[u8]) -> bool
     ensures { result ≡ is_among word.now compensating }
 {
-    is_text(word, "GECOMP") || is_text(word, "TECOMP")
+    is_among(word, &["GECOMP", "TECOMP"])
 }
 
 fn is_jump_label(word: &[u8]) -> bool

@@ -41,13 +41,16 @@ mod under_setup;
 mod variables;
 mod walking;
 
-pub use groups::Group;
+pub use groups::{Group, is_among, is_text};
 pub use lacking::lacking_for;
-pub use notices::Passed;
+pub use notices::{Passed, begins_with};
 pub use odd::Odd;
 pub use printing::{FindingForm, FindingStyle};
 pub use remarks::{Remark, What};
 pub use reports::{Report, ReviewTexts, review_report};
 pub use tasks::{Task, TaskLine, command_lines, task_lines};
-pub use texts::{OperatorText, TextPlace, Waits, operator_texts, pauses, text_places};
+pub use texts::{
+    OperatorText, TextPlace, Waits, is_operator_text, operator_texts, pauses, text_places,
+};
 pub use under_setup::Lack;
+pub use variables::without_cart;

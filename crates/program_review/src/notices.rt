@@ -77,22 +77,20 @@ impl Passed {
     }
 }
 
-pub(crate) fn begins_with(other: &str, params: &[Text]) -> bool
+/// Whether the first of these is this text.
+pub fn begins_with(other: &str, params: &[Text]) -> bool
     ensures { result ≡ begins_with other.now params.now }
 {
-    match params.split_first() {
-        Some((first, _)) => is_text(first, other),
-        None => false,
-    }
+    params.first().is_some_and(|first| is_text(first, other))
 }
 
 /// Whether the parameter after the first is `OFF`.
 fn is_off(params: &[Text]) -> bool
     ensures { result ≡ is_off params.now }
 {
-    match params.split_first() {
-        Some((_, rest)) => begins_with("OFF", rest),
-        None => false,
+    match params {
+        [_, second, ..] => is_text(second, "OFF"),
+        _ => false,
     }
 }
 

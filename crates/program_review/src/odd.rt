@@ -38,55 +38,31 @@ const WORDS: [&str; 23] = [
     "TEXT", "DISPLY", "OUTPUT",
 ];
 
-/// Whether two words have the same byte in these places.
-fn is_same_byte(word: &[u8], at: usize, other: &[u8], other_at: usize) -> bool {
-    match (word.get(at), other.get(other_at)) {
-        (Some(byte), Some(other_byte)) => *byte == *other_byte,
-        _ => false,
-    }
-}
-
-/// How many bytes two words begin with alike.
-fn alike(word: &[u8], other: &[u8]) -> usize {
-    let mut count = 0;
-    for at in 0..word.len().min(other.len()) {
-        if !is_same_byte(word, at, other, at) {
-            return count;
+/// Whether two texts are the same once the first two bytes of one are exchanged.
+fn is_exchanged(word: &[u8], other: &[u8]) -> bool {
+    match (word, other) {
+        ([first, second, rest @ ..], [one, two, others @ ..]) => {
+            *first == *two && *second == *one && rest == others
         }
-        count = at + 1;
-    }
-    count
-}
-
-/// The bytes after the first `count`; none if there are fewer.
-fn behind(word: &[u8], count: usize) -> Option<&[u8]> {
-    if count > word.len() {
-        return None;
-    }
-    let (_, rest) = word.split_at(count);
-    Some(rest)
-}
-
-/// Whether what is left of two words after different counts of bytes is there and the same.
-fn same_behind(word: &[u8], count: usize, other: &[u8], other_count: usize) -> bool {
-    match (behind(word, count), behind(other, other_count)) {
-        (Some(rest), Some(other_rest)) => rest == other_rest,
         _ => false,
     }
 }
 
 /// Whether two different words differ in one letter, which is another, lacking or added, or in two next to each other that are exchanged.
 fn is_near(word: &[u8], other: &[u8]) -> bool {
-    let at = alike(word, other).min(1_000);
-    if same_behind(word, at, other, at) {
-        return false;
+    let mut word = word;
+    let mut other = other;
+    for _ in 0..word.len() {
+        let ([first, rest @ ..], [one, others @ ..]) = (word, other) else {
+            break;
+        };
+        if *first != *one {
+            return rest == others || rest == other || word == others || is_exchanged(word, other);
+        }
+        word = rest;
+        other = others;
     }
-    let is_exchanged = is_same_byte(word, at, other, at + 1)
-        && is_same_byte(word, at + 1, other, at);
-    same_behind(word, at + 1, other, at + 1)
-        || same_behind(word, at, other, at + 1)
-        || same_behind(word, at + 1, other, at)
-        || (is_exchanged && same_behind(word, at + 2, other, at + 2))
+    word.len().saturating_add(other.len()) == 1
 }
 
 /// The first word of those that a program may have that is one letter away from this one; none if there is none, and for a word of less than
@@ -95,12 +71,10 @@ pub(crate) fn near_word(word: &[u8]) -> Option<&'static str> {
     if word.len() < 4 {
         return None;
     }
-    for other in WORDS.iter() {
-        if is_near(word, other.as_bytes()) {
-            return Some(*other);
-        }
-    }
-    None
+    WORDS
+        .iter()
+        .find(|other| is_near(word, other.as_bytes()))
+        .copied()
 }
 
 fn square(component: i64) -> u64 {

@@ -50,26 +50,23 @@ fn recalled_names(alloc: Global, statements: &[Statement]) -> Result<Vec<Name>, 
 fn frame_in(alloc: Global, line: &[u8]) -> Result<Option<Name>, AllocError>
     ensures { IfOk result (λ name. name ≡ frame_in (fields_of line.now)) }
 {
-    let Some((word, values)) = cut_field(line) else {
-        return Ok(None);
-    };
-    let Some((name, _)) = cut_field(values) else {
-        return Ok(None);
-    };
-    if is_word(b"FRAME", word) {
-        Name::new(alloc, name)
-    } else {
-        Ok(None)
+    if let Some((word, values)) = cut_field(line)
+        && let Some((name, _)) = cut_field(values)
+        && is_word(b"FRAME", word)
+    {
+        return Name::new(alloc, name);
     }
+    Ok(None)
 }
 
 fn stored_frame(alloc: Global, line: &[u8]) -> Result<Option<Name>, AllocError>
     ensures { IfOk result (λ name. name ≡ stored_on line.now) }
 {
     if is_dropped(line) {
-        return Ok(None);
+        Ok(None)
+    } else {
+        frame_in(alloc, line)
     }
-    frame_in(alloc, line)
 }
 
 /// Adds the frame that is stored on a line, if its name is not one of these.

@@ -60,15 +60,6 @@ pub(crate) fn statement_text(alloc: Global, statement: &Statement) -> Result<Vec
     Ok(text)
 }
 
-/// Appends the word that a statement's word is near to, as a question; nothing if there is none.
-fn push_near(out: &mut Vec<u8>, word: &[u8]) -> Result<(), AllocError> {
-    let Some(near) = near_word(word) else {
-        return Ok(());
-    };
-    let asked = format!(in *out.allocator(); ": {near}?")?;
-    out.extend_from_slice(asked.as_bytes())
-}
-
 /// The sentence on this statement: the statement, and this end.
 pub(crate) fn sentence_on(
     alloc: Global,
@@ -101,10 +92,8 @@ pub(crate) fn clearing_sentence(
 /// A length in micrometres, in millimetres.
 fn length_text(alloc: Global, micrometres: u128) -> Result<String, AllocError> {
     let whole = micrometres / 1000;
-    let tenths = micrometres / 100 % 10;
-    let hundredths = micrometres / 10 % 10;
-    let thousandths = micrometres % 10;
-    format!(in alloc; "{whole}.{tenths}{hundredths}{thousandths} mm")
+    let rest = micrometres % 1000;
+    format!(in alloc; "{whole}.{rest:03} mm")
 }
 
 /// The sentence on the straight travel to the touch of a line, which is one of these.
@@ -144,7 +133,10 @@ pub(crate) fn odd_sentence(
         (Odd::NearWord, Some(statement)) => {
             let mut said = Vec::new(alloc);
             push_front(&mut said, &statement.word)?;
-            push_near(&mut said, &statement.word)?;
+            if let Some(near) = near_word(&statement.word) {
+                let asked = format!(in alloc; ": {near}?")?;
+                said.extend_from_slice(asked.as_bytes())?;
+            }
             Ok(said)
         }
         _ => sentence_on(alloc, statement, odd_meaning(odd)),

@@ -28,12 +28,6 @@ pub(crate) struct Standing {
     pub(crate) lacking: Option<u64>,
 }
 
-fn is_start(keyword: Keyword) -> bool
-    ensures { result ≡ is_start keyword }
-{
-    matches!(keyword, Keyword::Dmismn)
-}
-
 /// One more statement, where one too many is enough.
 fn one_more(number: u64) -> u64
     ensures { result ≡ one_more number }
@@ -49,10 +43,7 @@ fn one_more(number: u64) -> u64
 fn one_less(lacking: Option<u64>) -> Option<u64>
     ensures { result ≡ one_less lacking }
 {
-    match lacking {
-        Some(count) => Some(count.saturating_sub(1)),
-        None => None,
-    }
+    lacking.map(|count| count.saturating_sub(1))
 }
 
 fn lacking_said(meaning: &StatementMeaning, lacking: Option<u64>) -> Option<u64>
@@ -64,12 +55,6 @@ fn lacking_said(meaning: &StatementMeaning, lacking: Option<u64>) -> Option<u64>
         StatementMeaning::Ends => None,
         _ => lacking,
     }
-}
-
-fn is_selection(meaning: &StatementMeaning) -> bool
-    ensures { result ≡ is_selection meaning.now }
-{
-    matches!(meaning, StatementMeaning::Selects(_))
 }
 
 /// What the open block lacks after a refused statement of this word.
@@ -84,32 +69,13 @@ fn lacking_passed(keyword: Keyword, lacking: Option<u64>) -> Option<u64>
     }
 }
 
-fn is_tool_word(keyword: Keyword) -> bool
-    ensures { result ≡ is_tool_word keyword }
-{
-    matches!(keyword, Keyword::Snslct)
-}
-
-fn is_not_dmis(refusal: Refusal) -> bool
-    ensures { result ≡ is_not_dmis refusal }
-{
-    matches!(refusal, Refusal::NotDmis)
-}
-
-fn is_no_tool(refusal: Refusal) -> bool
-    ensures { result ≡ is_no_tool refusal }
-{
-    matches!(refusal, Refusal::NoTool)
-}
-
 /// How many statements count after a refused one.
 fn number_passed(refusal: Refusal, number: u64) -> u64
     ensures { result ≡ number_passed refusal number }
 {
     match refusal {
-        Refusal::NotDmis => one_more(number),
-        Refusal::TooLarge => one_more(number),
-        _ => { if number == 0 { 1 } else { number } }
+        Refusal::NotDmis | Refusal::TooLarge => one_more(number),
+        _ => number.max(1),
     }
 }
 
@@ -130,7 +96,7 @@ impl Standing {
     fn number_at(self, keyword: Keyword) -> u64
         ensures { result ≡ number_at self keyword }
     {
-        if self.lacks_start && is_start(keyword) {
+        if self.lacks_start && matches!(keyword, Keyword::Dmismn) {
             return 0;
         }
         if self.number > MOST_STATEMENTS {
@@ -148,24 +114,14 @@ impl Standing {
         ensures { result ≡ settled frames.now (some_tool self.has_tool) self.lacking 0 meaning }
     {
         match meaning {
-            StatementMeaning::Touches(target, dir) => {
-                if self.has_tool {
-                    Ok(StatementMeaning::Touches(target, dir))
-                } else {
-                    Err(Refusal::NoTool)
-                }
+            StatementMeaning::Touches(_, _) if !self.has_tool => Err(Refusal::NoTool),
+            StatementMeaning::Ends if self.lacking.is_some_and(|count| count > 0) => {
+                Err(Refusal::TooFewPoints)
             }
-            StatementMeaning::Ends => match self.lacking {
-                Some(count) if count > 0 => Err(Refusal::TooFewPoints),
-                _ => Ok(StatementMeaning::Ends),
-            },
-            StatementMeaning::Recalls(name) => {
-                if frames.get(&name).is_none() {
-                    return Err(Refusal::UnknownFrame);
-                }
-                Ok(StatementMeaning::Recalls(name))
+            StatementMeaning::Recalls(ref name) if frames.get(name).is_none() => {
+                Err(Refusal::UnknownFrame)
             }
-            other => Ok(other),
+            _ => Ok(meaning),
         }
     }
 
@@ -197,8 +153,8 @@ impl Standing {
     {
         Standing {
             number: one_more(self.number),
-            lacks_start: self.lacks_start && !is_start(keyword),
-            has_tool: self.has_tool || is_selection(meaning),
+            lacks_start: self.lacks_start && !matches!(keyword, Keyword::Dmismn),
+            has_tool: self.has_tool || matches!(meaning, StatementMeaning::Selects(_)),
             lacking: lacking_said(meaning, self.lacking),
         }
     }
@@ -208,8 +164,11 @@ impl Standing {
     {
         Standing {
             number: number_passed(refusal, self.number),
-            lacks_start: is_not_dmis(refusal) || (self.lacks_start && !is_start(keyword)),
-            has_tool: self.has_tool || is_tool_word(keyword) || is_no_tool(refusal),
+            lacks_start: matches!(refusal, Refusal::NotDmis)
+                || (self.lacks_start && !matches!(keyword, Keyword::Dmismn)),
+            has_tool: self.has_tool
+                || matches!(keyword, Keyword::Snslct)
+                || matches!(refusal, Refusal::NoTool),
             lacking: lacking_passed(keyword, self.lacking),
         }
     }

@@ -85,13 +85,7 @@ impl Aim {
         ensures { result ≡ aim_passed self keyword word.now }
     {
         match keyword {
-            Keyword::Unknown => {
-                if is_of_coordinates(word) {
-                    self.astray()
-                } else {
-                    self
-                }
-            }
+            Keyword::Unknown if is_of_coordinates(word) => self.astray(),
             Keyword::Recall => self.astray(),
             Keyword::Mode => self.by_hand(true),
             _ => self,

@@ -12,29 +12,10 @@ use dmis_program::Refusal;
 use std::alloc::{AllocError, Global};
 
 /// The most numbers of lines that a group shows.
-const MOST_LINES: u64 = 20;
-
-/// The lines of a group: how many, and their numbers as text.
-#[derive(Drop)]
-struct Lines {
-    count: u64,
-    numbers: Vec<u8>,
-}
-
-fn lines_of(alloc: Global, found: &[Remark], group: Group) -> Result<Lines, AllocError> {
-    let mut count: u64 = 0;
-    let mut numbers = Vec::new(alloc);
-    for one in found {
-        if is_of(group, one.what) {
-            push_number(&mut numbers, count, one.line)?;
-            count = count.saturating_add(1);
-        }
-    }
-    Ok(Lines { count, numbers })
-}
+const MOST_LINES: usize = 20;
 
 /// Appends the number of a line after those of that many; `..` in place of the first that is too many.
-fn push_number(numbers: &mut Vec<u8>, count: u64, line: u64) -> Result<(), AllocError> {
+fn push_number(numbers: &mut Vec<u8>, count: usize, line: u64) -> Result<(), AllocError> {
     if count > MOST_LINES {
         return Ok(());
     }
@@ -49,17 +30,11 @@ fn push_number(numbers: &mut Vec<u8>, count: u64, line: u64) -> Result<(), Alloc
 }
 
 /// How many touches would be measured there.
-fn strays_in(strays: &[Stray], place: Stray) -> u64 {
-    let mut count: u64 = 0;
-    for stray in strays {
-        if *stray == place {
-            count = count.saturating_add(1);
-        }
-    }
-    count
+fn strays_in(strays: &[Stray], place: Stray) -> usize {
+    strays.iter().filter(|stray| **stray == place).count()
 }
 
-fn counted(alloc: Global, count: u64, one: &str, many: &str) -> Result<String, AllocError> {
+fn counted(alloc: Global, count: usize, one: &str, many: &str) -> Result<String, AllocError> {
     if count == 1 {
         format!(in alloc; "1 {one}")
     } else {
@@ -169,10 +144,7 @@ fn number_of(group: Group) -> u8
 fn is_of(group: Group, what: What) -> bool
     ensures { result ≡ is_of group what }
 {
-    match what {
-        What::Refused(_, own) => number_of(own) == number_of(group),
-        _ => false,
-    }
+    matches!(what, What::Refused(_, own) if number_of(own) == number_of(group))
 }
 
 fn has_lines(found: &[Remark], group: Group) -> bool
@@ -188,13 +160,19 @@ fn group_sentence(
     group: Group,
     change: &str,
 ) -> Result<Vec<u8>, AllocError> {
-    let lines = lines_of(alloc, found, group)?;
+    let mut numbers = Vec::new(alloc);
+    let mut count: usize = 0;
+    for one in found {
+        if is_of(group, one.what) {
+            push_number(&mut numbers, count, one.line)?;
+            count = count.saturating_add(1);
+        }
+    }
     let name = group_name(group);
-    let count = counted(alloc, lines.count, "line", "lines")?;
-    let mut said = Vec::new(alloc);
+    let count = counted(alloc, count, "line", "lines")?;
     let front = format!(in alloc; "{name}: {count} (")?;
-    said.extend_from_slice(front.as_bytes())?;
-    said.extend_from_slice(lines.numbers.as_slice())?;
+    let mut said = Vec::from_slice(alloc, front.as_bytes())?;
+    said.extend_from_slice(numbers.as_slice())?;
     let behind = format!(in alloc; "): {change}")?;
     said.extend_from_slice(behind.as_bytes())?;
     Ok(said)

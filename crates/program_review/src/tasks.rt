@@ -118,9 +118,8 @@ fn push_lines(lines: &mut Vec<Option<u64>>, task: TaskLine) -> Result<(), AllocE
     ensures { OnOk result (lines.new.items ≡ lines.old.items ++ lines_of task) }
 {
     lines.push(Some(task.line))?;
-    match task.task {
-        Task::Frame => lines.push(Some(task.line))?,
-        Task::Move | Task::Touch | Task::Tool => {}
+    if let Task::Frame = task.task {
+        lines.push(Some(task.line))?;
     }
     Ok(())
 }

@@ -36,7 +36,7 @@ pub struct TextPlace {
 }
 
 /// Whether a statement is a text for the operator.
-fn is_operator_text(statement: &Statement) -> bool
+pub fn is_operator_text(statement: &Statement) -> bool
     ensures { result ≡ spec.is_operator_text statement.now }
 {
     if statement.label.is_some() || statement.is_open() {
@@ -128,20 +128,14 @@ fn last_done(tasks: &[TaskLine], touches: usize) -> Option<u64>
 fn is_left(last: Option<u64>, line: u64) -> bool
     ensures { result ≡ spec.is_left last line }
 {
-    match last {
-        Some(last) => last < line,
-        None => true,
-    }
+    last.is_none_or(|last| last < line)
 }
 
 /// Whether the line of a command is below this line.
 fn is_below(line: u64, other: Option<u64>) -> bool
     ensures { result ≡ spec.is_below line other }
 {
-    match other {
-        Some(other) => line < other,
-        None => false,
-    }
+    other.is_some_and(|other| line < other)
 }
 
 /// How many of a plan's last commands a text on this line holds back.

@@ -3,7 +3,7 @@
 ghost use Rattle.std.specs.Prelude.{◌≡◌, ◌≤◌, ◌++◌, ◌∷◌, [], ◌*◌, ◌^◌, ◌+ℤ◌, ◌-ℤ◌, unsigned_abs, IfOk, OnOk};
 ghost use Rattle.dmis_program.specs.Offsets.{offset_of};
 ghost use Rattle.fixed_um.specs.Points.{point_sum};
-ghost use Rattle.program_review.specs.Travels.{at_home, way_selected, way_recalled, way_begun, way_ended, way_touched, touched_at, way_after};
+ghost use Rattle.program_review.specs.Travels.{at_home, way_selected, way_recalled, way_touched, touched_at, way_after};
 ghost use Rattle.program_review.specs.Travels.{legs_to, legs_on, legs_from, next_stop};
 ghost use Rattle.program_review.specs.Travels.{travel_to, travels_in, travels_of, zeros, squared, squared_distance, squared_length, IsLength};
 ghost use Rattle.program_review.specs.Travels.{is_clearing, is_above, is_replaced, replaced};
@@ -98,25 +98,6 @@ impl Way {
         }
     }
 
-    fn begun(&self) -> Way
-        ensures { result ≡ way_begun self.now }
-    {
-        Way {
-            is_open: true,
-            has_begun: true,
-            ..*self
-        }
-    }
-
-    fn ended(&self) -> Way
-        ensures { result ≡ way_ended self.now }
-    {
-        Way {
-            is_open: false,
-            ..*self
-        }
-    }
-
     /// After a touch whose place is known, or a move or a touch whose place is not.
     fn touched(&self, is_clear: bool) -> Way
         ensures { result ≡ way_touched self.now is_clear }
@@ -152,8 +133,15 @@ impl Way {
             Keyword::Unknown if is_of_coordinates(&statement.word) => {
                 self.selected(None, statement.line)
             }
-            Keyword::Meas => self.begun(),
-            Keyword::Endmes => self.ended(),
+            Keyword::Meas => Way {
+                is_open: true,
+                has_begun: true,
+                ..*self
+            },
+            Keyword::Endmes => Way {
+                is_open: false,
+                ..*self
+            },
             Keyword::Goto => self.touched(false),
             Keyword::Ptmeas => self.touched(self.touched_at(meaning).is_some()),
             _ => *self,
@@ -349,10 +337,7 @@ impl Travel {
 fn is_clearing(what: What) -> bool
     ensures { result ≡ is_clearing what }
 {
-    match what {
-        What::Passed(Passed::Clearing | Passed::ClearingOff) => true,
-        _ => false,
-    }
+    matches!(what, What::Passed(Passed::Clearing | Passed::ClearingOff))
 }
 
 /// Whether a line is above the first of these statements that speaks of clearing.

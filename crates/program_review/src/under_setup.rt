@@ -3,7 +3,7 @@
 ghost use Rattle.std.specs.Prelude.{◌≡◌, ◌++◌, IfOk, IfSome, OnOk};
 ghost use Rattle.dmis_program.specs.Keywords.{keyword_of};
 ghost use Rattle.dmis_program.specs.Offsets.{offset_of};
-ghost use Rattle.program_review.specs.UnderSetup.{recalls_other, meaning_with, recalled, selected_after, is_within, is_outside, when, lack_of, lack_on, is_end, lacks_of};
+ghost use Rattle.program_review.specs.UnderSetup.{recalls_other, meaning_with, selected_after, is_outside, when, lack_of, lack_on, is_end, lacks_of};
 
 use crate::remarks::{Remark, What};
 use dmis_program::{
@@ -59,21 +59,6 @@ pub(crate) fn meaning_of(
     }
 }
 
-fn recalled(offset: Option<Point>) -> Selected
-    ensures { result ≡ recalled offset }
-{
-    match offset {
-        Some(offset) => Selected::Stored(offset),
-        None => Selected::Unknown,
-    }
-}
-
-fn is_within(position: Point) -> bool
-    ensures { result ≡ is_within position }
-{
-    position.is_in_volume()
-}
-
 impl Selected {
     fn after(
         &self,
@@ -84,12 +69,12 @@ impl Selected {
         ensures { result ≡ selected_after frames.now self.now meaning.now keyword }
     {
         match meaning {
-            Some(StatementMeaning::Recalls(name)) => recalled(frames.get(name)),
-            Some(_) => *self,
-            None => match keyword {
-                Keyword::Recall => Selected::Unknown,
-                _ => *self,
+            Some(StatementMeaning::Recalls(name)) => match frames.get(name) {
+                Some(offset) => Selected::Stored(offset),
+                None => Selected::Unknown,
             },
+            None if keyword == Keyword::Recall => Selected::Unknown,
+            _ => *self,
         }
     }
 
@@ -98,7 +83,7 @@ impl Selected {
         ensures { result ≡ is_outside self.now target }
     {
         match self {
-            Selected::Machine => !is_within(target),
+            Selected::Machine => !target.is_in_volume(),
             Selected::Stored(offset) => target.shifted(*offset).is_none(),
             Selected::Unknown => false,
         }
@@ -116,8 +101,7 @@ fn lack_of(rack: &Rack, selected: &Selected, meaning: &Option<StatementMeaning>)
 {
     match meaning {
         Some(StatementMeaning::Selects(name)) => when(!rack.has(name), Lack::Tool),
-        Some(StatementMeaning::Goes(target)) => when(selected.is_outside(*target), Lack::Volume),
-        Some(StatementMeaning::Touches(target, _)) => {
+        Some(StatementMeaning::Goes(target) | StatementMeaning::Touches(target, _)) => {
             when(selected.is_outside(*target), Lack::Volume)
         }
         _ => None,

@@ -5,9 +5,9 @@ ghost use Rattle.dmis_program.specs.Keywords.{keyword_of, is_among};
 ghost use Rattle.dmis_program.specs.Parameters.{name_of, without_cart};
 ghost use Rattle.tool_rack.specs.Setups.{has_name};
 ghost use Rattle.program_review.specs.Variables.{declaring, assigning, as_list, names_in, names_by, is_no_length, refused_argument};
-ghost use Rattle.program_review.specs.Variables.{is_named, is_move, is_computed_move, group_below};
+ghost use Rattle.program_review.specs.Variables.{is_named, is_computed_move, group_below};
 
-use crate::groups::{Group, group_of, is_text};
+use crate::groups::{Group, group_of, is_among, is_text};
 use dmis_program::{Keyword, Refusal};
 use dmis_text::{Statement, Text};
 use fixed_um::{Name, Um, read_um};
@@ -16,17 +16,14 @@ use std::alloc::AllocError;
 fn is_declaring(word: &[u8]) -> bool
     ensures { result ≡ is_among word.now declaring }
 {
-    is_text(word, "DECL") || is_text(word, "DO") || is_text(word, "MACRO") || is_text(word, "READ")
+    is_among(word, &["DECL", "DO", "MACRO", "READ"])
 }
 
 /// Whether the label of a word is the name that it gives a value.
 fn is_assigning(word: &[u8]) -> bool
     ensures { result ≡ is_among word.now assigning }
 {
-    is_text(word, "ASSIGN")
-        || is_text(word, "OBTAIN")
-        || is_text(word, "PROMPT")
-        || is_text(word, "VALUE")
+    is_among(word, &["ASSIGN", "OBTAIN", "PROMPT", "VALUE"])
 }
 
 fn push_name(names: &mut Vec<Name>, text: &[u8]) -> Result<(), AllocError>
@@ -73,7 +70,7 @@ fn is_no_length(text: &[u8]) -> bool
 }
 
 /// The parameters after a first `CART`.
-fn without_cart<'p, 'a>(params: &'p [Text<'a>]) -> &'p [Text<'a>]
+pub fn without_cart<'p, 'a>(params: &'p [Text<'a>]) -> &'p [Text<'a>]
     ensures { result.now ≡ without_cart params.now }
 {
     match params {
@@ -107,19 +104,10 @@ fn is_refused_for(names: &[Name], refusal: Refusal, params: &[Text]) -> bool
     ensures { result ≡ is_named names.now (refused_argument refusal params.now) }
 {
     match refusal {
-        Refusal::Unsupported => match params.first() {
-            Some(text) => has_name(names, text),
-            None => false,
-        },
+        Refusal::Unsupported => params.first().is_some_and(|text| has_name(names, text)),
         Refusal::BadNumeral(_) => is_refused_numeral(names, without_cart(params)),
         _ => false,
     }
-}
-
-fn is_move(keyword: Keyword) -> bool
-    ensures { result ≡ is_move keyword }
-{
-    matches!(keyword, Keyword::Goto)
 }
 
 /// What a refused statement of this keyword is for, below those that declare or assign these names. Does not allocate.
@@ -132,7 +120,7 @@ pub(crate) fn group_below(
     requires { keyword ≡ keyword_of statement.now.word }
     ensures { result ≡ group_below names.now refusal statement.now }
 {
-    if is_move(keyword) && is_refused_for(names, refusal, &statement.params) {
+    if keyword == Keyword::Goto && is_refused_for(names, refusal, &statement.params) {
         return Group::Flow;
     }
     group_of(refusal, &statement.word)
