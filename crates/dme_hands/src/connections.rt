@@ -3,9 +3,8 @@
 use effects::{Came, Cause, Peer};
 use mio::net::TcpStream as Socket;
 use mio::{Events, Interest, Poll, Token};
-use std::alloc::Global;
 use std::io::{self, ErrorKind, Read, Write};
-use std::net::{Net, Shutdown, TcpListener, TcpStream, ToSocketAddrs};
+use std::net::{Shutdown, TcpListener, TcpStream, ToSocketAddrs};
 use std::time::Duration;
 
 /// The most bytes that are read at once of a connection that is waited for alone, and together with another.
@@ -13,37 +12,30 @@ const PIECE: usize = 4_096;
 
 const POLLED_PIECE: usize = 65_536;
 
-/// A connection with a peer.
+/// What waits for both peers together: it has handles of its own of their sockets, and room for what they send.
 #[derive(Drop)]
-enum Link {
-    None,
-    Plain(TcpStream),
-    Polled(Socket),
+struct Joined {
+    poll: Poll,
+    events: Events,
+    client: Socket,
+    server: Socket,
+    room: Vec<u8>,
 }
 
 /// A port and its connections, as far as there are.
 #[derive(Drop)]
 pub struct Connections {
     listener: Option<TcpListener>,
-    client: Link,
-    server: Link,
-    polled: Option<(Poll, Events)>,
-    room: Vec<u8>,
+    client: Option<TcpStream>,
+    server: Option<TcpStream>,
+    joined: Option<Joined>,
 }
 
-/// Why nothing can be done: there is no connection.
-fn none() -> io::Error {
-    io::Error::from(ErrorKind::NotConnected)
-}
-
-/// A socket that is not waited for.
-fn socket_of(link: &mut Link) -> io::Result<Socket> {
-    let Link::Plain(stream) = std::mem::replace(link, Link::None) else {
-        return Err(none());
-    };
+/// Another handle of a socket, which is not waited for from now on.
+fn watched(stream: &TcpStream) -> io::Result<Socket> {
     stream.set_nodelay(true)?;
     stream.set_nonblocking(true)?;
-    Ok(Socket::from_std(stream))
+    Ok(Socket::from_std(stream.try_clone()?))
 }
 
 /// Reads what has come, again if that is interrupted.
@@ -64,28 +56,36 @@ fn limit(stream: &TcpStream, ms: Option<u64>, seconds: Option<u32>) -> io::Resul
     stream.set_write_timeout(seconds.map(|seconds| Duration::from_secs(u64::from(seconds))))
 }
 
+/// The one of both connections that is with a peer; it fails if there is none.
+fn stream_of<'a>(
+    client: &'a Option<TcpStream>,
+    server: &'a Option<TcpStream>,
+    peer: Peer,
+) -> io::Result<&'a TcpStream> {
+    match (peer, client, server) {
+        (Peer::Client, Some(stream), _) | (Peer::Server, _, Some(stream)) => Ok(stream),
+        _ => Err(io::Error::from(ErrorKind::NotConnected)),
+    }
+}
+
 impl Connections {
-    pub fn new(alloc: Global) -> Connections {
+    pub fn new() -> Connections {
         Connections {
             listener: None,
-            client: Link::None,
-            server: Link::None,
-            polled: None,
-            room: Vec::new(alloc),
+            client: None,
+            server: None,
+            joined: None,
         }
     }
 
-    fn link(&mut self, peer: Peer) -> &mut Link {
-        match peer {
-            Peer::Client => &mut self.client,
-            Peer::Server => &mut self.server,
-        }
+    fn stream(&self, peer: Peer) -> io::Result<&TcpStream> {
+        stream_of(&self.client, &self.server, peer)
     }
 
     /// Listens on a port, whose connections are waited for unless it is polled.
-    pub fn listen<R: Net<Listener = TcpListener, Stream = TcpStream>>(
+    pub fn listen(
         &mut self,
-        rt: &R,
+        rt: &HostRuntime,
         address: &str,
         port: u16,
         is_polled: bool,
@@ -99,26 +99,26 @@ impl Connections {
     /// Takes the next client.
     pub fn accept(&mut self, ms: Option<u64>, seconds: Option<u32>) -> io::Result<()> {
         let Some(listener) = &self.listener else {
-            return Err(none());
+            return Err(io::Error::from(ErrorKind::NotConnected));
         };
         let (stream, _) = listener.accept()?;
         limit(&stream, ms, seconds)?;
-        self.client = Link::Plain(stream);
+        self.client = Some(stream);
         Ok(())
     }
 
     /// Limits how long the reads and the writes of a peer wait. One that is waited for together with another does not wait alone.
-    pub fn limit(&mut self, peer: Peer, ms: Option<u64>, seconds: Option<u32>) -> io::Result<()> {
-        match self.link(peer) {
-            Link::Plain(stream) => limit(stream, ms, seconds),
-            _ => Ok(()),
+    pub fn limit(&self, peer: Peer, ms: Option<u64>, seconds: Option<u32>) -> io::Result<()> {
+        match self.stream(peer) {
+            Ok(stream) => limit(stream, ms, seconds),
+            Err(_) => Ok(()),
         }
     }
 
     /// Calls a server at each address of a host in turn.
-    pub fn connect<R: Net<Listener = TcpListener, Stream = TcpStream>>(
+    pub fn connect(
         &mut self,
-        rt: &R,
+        rt: &HostRuntime,
         host: &str,
         port: u16,
         ms: Option<u64>,
@@ -137,7 +137,7 @@ impl Connections {
             };
             match made {
                 Ok(stream) => {
-                    self.server = Link::Plain(stream);
+                    self.server = Some(stream);
                     return came.ended(Ok(()));
                 }
                 Err(error) => came.unreached(error),
@@ -146,91 +146,77 @@ impl Connections {
     }
 
     /// From now on both peers are waited for together.
-    pub fn join<R: Net + AllocGlobal>(&mut self, rt: &R) -> io::Result<()> {
-        let mut client = socket_of(&mut self.client)?;
-        let mut server = socket_of(&mut self.server)?;
+    pub fn join(&mut self, rt: &HostRuntime) -> io::Result<()> {
+        let mut client = watched(self.stream(Peer::Client)?)?;
+        let mut server = watched(self.stream(Peer::Server)?)?;
         let mut poll = Poll::new(rt)?;
         let both = Interest::READABLE | Interest::WRITABLE;
         poll.registry().register(&mut client, Token(0), both)?;
         poll.registry().register(&mut server, Token(1), both)?;
-        self.client = Link::Polled(client);
-        self.server = Link::Polled(server);
-        let events = Events::with_capacity(rt.alloc(), 4)?;
-        self.polled = Some((poll, events));
-        if self.room.is_empty() {
-            self.room = vec![in rt.alloc(); 0u8; POLLED_PIECE]?;
-        }
+        self.joined = Some(Joined {
+            poll,
+            events: Events::with_capacity(rt.alloc(), 4)?,
+            client,
+            server,
+            room: vec![in rt.alloc(); 0u8; POLLED_PIECE]?,
+        });
         Ok(())
     }
 
     /// Waits until something may have moved.
     pub fn wait(&mut self, ms: Option<u64>) -> io::Result<()> {
-        let Some((poll, events)) = &mut self.polled else {
+        let Some(joined) = &mut self.joined else {
             return Ok(());
         };
-        poll.poll(events, ms.map(Duration::from_millis))
+        joined
+            .poll
+            .poll(&mut joined.events, ms.map(Duration::from_millis))
     }
 
     /// Reads what has come from a peer.
     pub fn receive(&mut self, peer: Peer, came: &mut Came) {
-        let Connections {
-            client,
-            server,
-            room,
-            ..
-        } = self;
-        let link = match peer {
-            Peer::Client => client,
-            Peer::Server => server,
+        let stream = match stream_of(&self.client, &self.server, peer) {
+            Ok(stream) => stream,
+            Err(error) => return came.ended(Err(error)),
         };
-        match link {
-            Link::Plain(stream) => {
+        match &mut self.joined {
+            None => {
                 let mut room = [0u8; PIECE];
                 let count = read_all(stream, &mut room);
                 came.read(&room, count);
             }
-            Link::Polled(stream) => {
-                let count = stream.read(room.as_mut_slice());
-                came.read(room.as_slice(), count);
+            Some(joined) => {
+                let count = read_all(stream, joined.room.as_mut_slice());
+                came.read(joined.room.as_slice(), count);
             }
-            Link::None => came.ended(Err(none())),
         }
     }
 
     /// Sends all of these bytes to a peer.
-    pub fn send(&mut self, peer: Peer, bytes: &[u8]) -> io::Result<()> {
-        match self.link(peer) {
-            Link::Plain(stream) => stream.write_all(bytes),
-            Link::Polled(stream) => stream.write_all(bytes),
-            Link::None => Err(none()),
-        }
+    pub fn send(&self, peer: Peer, bytes: &[u8]) -> io::Result<()> {
+        let mut stream = self.stream(peer)?;
+        stream.write_all(bytes)
     }
 
     /// Sends as many of these bytes to a peer as it takes at once.
-    pub fn pass(&mut self, peer: Peer, bytes: &[u8]) -> io::Result<usize> {
-        if bytes.is_empty() {
-            return Ok(0);
-        }
-        match self.link(peer) {
-            Link::Plain(stream) => stream.write(bytes),
-            Link::Polled(stream) => stream.write(bytes),
-            Link::None => Err(none()),
-        }
+    pub fn pass(&self, peer: Peer, bytes: &[u8]) -> io::Result<usize> {
+        let mut stream = self.stream(peer)?;
+        stream.write(bytes)
     }
 
     /// Sends nothing more to a peer.
-    pub fn close(&mut self, peer: Peer) -> io::Result<()> {
-        match self.link(peer) {
-            Link::Plain(stream) => stream.shutdown(Shutdown::Write),
-            Link::Polled(stream) => stream.shutdown(Shutdown::Write),
-            Link::None => Ok(()),
+    pub fn close(&self, peer: Peer) -> io::Result<()> {
+        match self.stream(peer) {
+            Ok(stream) => stream.shutdown(Shutdown::Write),
+            Err(_) => Ok(()),
         }
     }
 
     /// Leaves both peers.
     pub fn leave(&mut self) {
-        self.polled = None;
-        self.client = Link::None;
-        self.server = Link::None;
+        *self = Connections {
+            listener: self.listener.take(),
+            ..Connections::new()
+        };
     }
 }

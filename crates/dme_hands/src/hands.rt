@@ -1,32 +1,30 @@
 // What carries effects out.
 
 use crate::connections::Connections;
-use crate::files::Reader;
-use crate::growing::{Growing, GrowingFiles};
-use crate::names::place_of;
+use crate::growing::Growing;
+use crate::names::{names_in, place_of};
+use crate::slots::Open;
 use crate::text_files::{is_plain, replace_file};
-use crate::written::{Written, names_in};
-use effects::{Answer, Came, Effect, Growth, Hands, Peer, Place, Slot};
+use effects::{Answer, Came, Effect, Growth, Hands, Slot};
 use jiff::Timestamp;
-use std::alloc::AllocError;
-use std::fs::{self, File};
+use std::fs::{self, File, OpenOptions};
 use std::io::{self, ErrorKind, Read, Write};
-use std::net::{Net, TcpListener, TcpStream};
 use std::os::unix::fs::MetadataExt;
-use std::rt::{Clock, Files};
 use std::thread;
 use std::time::{Duration, Instant};
 
 /// What carries out the effects of one command. It does not report what it did.
 #[derive(Drop)]
-pub struct RealHands<R: Files + Input + Drop> {
-    rt: R,
-    up: Reader<R>,
-    down: Reader<R>,
-    order: Reader<R>,
-    files: GrowingFiles,
-    written: Written,
-    log: Option<File>,
+pub struct RealHands {
+    rt: HostRuntime,
+    up: Open,
+    down: Open,
+    order: Open,
+    contacts: Growing,
+    told: Growing,
+    record: Growing,
+    features: Growing,
+    log: Open,
     connections: Connections,
     began: Option<Instant>,
     came: Came,
@@ -34,38 +32,28 @@ pub struct RealHands<R: Files + Input + Drop> {
     is_short: bool,
 }
 
-impl<
-    R: Files<File = File>
-        + Input
-        + Print
-        + Eprint
-        + Clock
-        + Net<Listener = TcpListener, Stream = TcpStream>
-        + AllocGlobal
-        + Clone
-        + Drop,
-> RealHands<R> {
+impl RealHands {
     /// Hands that have done nothing.
-    pub fn new(rt: R) -> Self {
-        let came = Came::new(rt.alloc());
-        let connections = Connections::new(rt.alloc());
+    pub fn new(rt: HostRuntime) -> Self {
         RealHands {
             rt,
-            up: Reader::nothing(),
-            down: Reader::nothing(),
-            order: Reader::nothing(),
-            files: GrowingFiles::new(),
-            written: Written::new(),
-            log: None,
-            connections,
+            up: Open::Nothing,
+            down: Open::Nothing,
+            order: Open::Nothing,
+            contacts: Growing::None,
+            told: Growing::None,
+            record: Growing::None,
+            features: Growing::None,
+            log: Open::Nothing,
+            connections: Connections::new(),
             began: None,
-            came,
+            came: Came::new(rt.alloc()),
             is_short: false,
         }
     }
 
-    /// The file of a slot that is read.
-    fn file(&mut self, slot: Slot) -> &mut Reader<R> {
+    /// The file of a slot.
+    fn file(&mut self, slot: Slot) -> &mut Open {
         match slot {
             Slot::Up => &mut self.up,
             Slot::Down => &mut self.down,
@@ -73,16 +61,14 @@ impl<
         }
     }
 
-    fn open(&mut self, slot: Slot, place: Place<'_>) {
-        let opened = Reader::open(&self.rt, place);
-        let done = match opened {
-            Ok(file) => {
-                *self.file(slot) = file;
-                Ok(())
-            }
-            Err(error) => Err(error),
-        };
-        self.came.ended(done);
+    /// A file that grows.
+    fn growing(&mut self, growth: Growth) -> &mut Growing {
+        match growth {
+            Growth::Contacts => &mut self.contacts,
+            Growth::Told => &mut self.told,
+            Growth::Record => &mut self.record,
+            Growth::Features => &mut self.features,
+        }
     }
 
     fn read(&mut self, slot: Slot) {
@@ -98,7 +84,6 @@ impl<
         self.came.read(&room, count);
     }
 
-    /// The names in a folder.
     fn names(&mut self, folder: &str) {
         match names_in(&self.rt, folder) {
             Ok(names) => self.came.text(names.as_slice()),
@@ -106,16 +91,14 @@ impl<
         }
     }
 
-    /// The place that a file of this name has or would have.
     fn place(&mut self, name: &str) {
         match place_of(&self.rt, name) {
-            Ok(Some(place)) => self.came.text(place.as_bytes()),
+            Ok(Some(place)) => self.came.text(place.as_str().as_bytes()),
             Ok(None) => self.came.looked(Ok(true)),
-            Err(AllocError) => self.is_short = true,
+            Err(_) => self.is_short = true,
         }
     }
 
-    /// The device and the number of a file.
     fn node(&mut self, name: &str) {
         match fs::metadata(&self.rt, name) {
             Ok(found) => {
@@ -126,49 +109,34 @@ impl<
         }
     }
 
-    fn extend(&mut self, name: &str) -> io::Result<()> {
-        let mut how = fs::OpenOptions::new();
-        how.append(true).create(true);
-        self.log = Some(how.open(&self.rt, name)?);
-        Ok(())
-    }
-
-    fn add(&mut self, text: &[u8]) -> io::Result<()> {
-        match &mut self.log {
-            Some(file) => file.write_all(text),
-            None => Ok(()),
-        }
-    }
-
     fn stamp(&mut self) {
-        let text = match Timestamp::now(&self.rt) {
-            Ok(now) => format!(in self.rt.alloc(); "{now:.3}"),
-            Err(_) => return self.came.timed(None),
+        let Ok(now) = Timestamp::now(&self.rt) else {
+            return self.came.timed(None);
         };
-        match text {
+        match format!(in self.rt.alloc(); "{now:.3}") {
             Ok(text) => self.came.text(text.as_bytes()),
             Err(_) => self.came.timed(None),
         }
     }
 
-    /// The milliseconds since this was called first.
-    fn now(&mut self) -> Option<u64> {
-        let now = Instant::now(&self.rt).ok()?;
+    fn now(&mut self) {
+        let Ok(now) = Instant::now(&self.rt) else {
+            return self.came.timed(None);
+        };
         let began = *self.began.get_or_insert(now);
-        let passed = now.saturating_duration_since(began);
-        let ms = passed.as_secs().saturating_mul(1000);
-        Some(ms.saturating_add(u64::from(passed.subsec_millis())))
+        let ms = now.saturating_duration_since(began).as_millis();
+        self.came.timed(Some(u64::try_from(ms).unwrap_or(u64::MAX)));
     }
 
-    /// A file is locked, and its next text is made.
-    fn make(&mut self, growth: Growth, names: (&str, &str), text: &[u8]) {
-        match self.files.growing(growth).make(&self.rt, names, text) {
+    fn make(&mut self, growth: Growth, name: &str, beside: &str, text: &[u8]) {
+        let rt = self.rt;
+        match self.growing(growth).make(&rt, name, beside, text) {
             Err(error) if error.kind() == ErrorKind::OutOfMemory => self.is_short = true,
             made => self.came.looked(made),
         }
     }
 
-    /// Effects that make connections.
+    /// Effects on connections.
     fn on_connections(&mut self, effect: Effect<'_>) {
         let RealHands {
             rt,
@@ -182,21 +150,11 @@ impl<
             }
             Effect::Accept(ms, seconds) => came.waited(connections.accept(ms, seconds)),
             Effect::Connect(host, port, ms) => connections.connect(rt, host, port, ms, came),
-            _ => came.ended(connections.join(rt)),
-        }
-    }
-
-    /// Effects on connections.
-    fn on_peers(&mut self, effect: Effect<'_>) {
-        let RealHands {
-            connections,
-            came,
-            ..
-        } = self;
-        match effect {
+            Effect::Join => came.ended(connections.join(rt)),
             Effect::Wait(ms) => came.ended(connections.wait(ms)),
             Effect::Receive(peer) => connections.receive(peer, came),
             Effect::Send(peer, bytes) => came.waited(connections.send(peer, bytes)),
+            Effect::Pass(_, []) => came.took(Ok(0)),
             Effect::Pass(peer, bytes) => came.took(connections.pass(peer, bytes)),
             Effect::Close(peer) => came.ended(connections.close(peer)),
             Effect::Limit(peer, ms, seconds) => came.ended(connections.limit(peer, ms, seconds)),
@@ -209,49 +167,50 @@ impl<
 
     /// Effects on files that grow, and then on others, whose answer is only whether they were carried out.
     fn on_files(&mut self, effect: Effect<'_>) -> io::Result<()> {
-        let RealHands { rt, files, .. } = self;
+        let rt = self.rt;
         match effect {
-            Effect::Hold(growth, name) => files.growing(growth).hold(rt, name),
+            Effect::Hold(growth, name) => self.growing(growth).hold(&rt, name),
             Effect::Fill(growth, text, held, length) => {
-                files.growing(growth).fill(rt, text, held, length)
+                self.growing(growth).fill(&rt, text, held, length)
             }
-            Effect::Discard(growth) => files.growing(growth).discard(rt),
-            Effect::SetAside(growth, old) => files.growing(growth).set_aside(rt, old),
-            Effect::Begin(growth) => files.growing(growth).begin(rt),
-            Effect::Append(growth, text) => files.growing(growth).append(rt, text),
-            Effect::Keep(growth, text) => files.growing(growth).keep(rt, text),
-            Effect::Stands(growth, length) => files.growing(growth).stands(rt, length),
+            Effect::Discard(growth) => self.growing(growth).discard(&rt),
+            Effect::SetAside(growth, old) => self.growing(growth).set_aside(&rt, old),
+            Effect::Begin(growth) => self.growing(growth).begin(&rt),
+            Effect::Append(growth, text) => self.growing(growth).append(&rt, text),
+            Effect::Keep(growth, text) => self.growing(growth).keep(&rt, text),
+            Effect::Stands(growth, length) => self.growing(growth).stands(&rt, length),
             _ => self.on_others(effect),
         }
     }
 
     fn on_others(&mut self, effect: Effect<'_>) -> io::Result<()> {
+        let rt = self.rt;
         match effect {
-            Effect::Replace(name, beside, text) => replace_file(&self.rt, text, beside, name),
-            Effect::Create(slot, name) => self.written.create(&self.rt, slot, name),
-            Effect::Save(slot, bytes) => self.written.save(slot, bytes),
-            Effect::Settle(slot) => self.written.settle(slot),
-            Effect::Remove(name) => fs::remove_file(&self.rt, name),
-            Effect::Extend(name) => self.extend(name),
-            Effect::Add(text) => self.add(text),
-            Effect::Print(bytes) => io::writer(&self.rt).write_all(bytes),
-            Effect::Say(text) => eprint!(&self.rt; "{text}"),
-            _ => Ok(()),
+            Effect::Open(slot, place) => *self.file(slot) = Open::read_from(&rt, place)?,
+            Effect::Look(name) => drop(is_plain(&rt, name)?),
+            Effect::Replace(name, beside, text) => replace_file(&rt, text, beside, name)?,
+            Effect::Create(slot, name) => {
+                *self.file(slot) = Open::File(File::create_new(&rt, name)?);
+            }
+            Effect::Save(slot, bytes) => self.file(slot).save(bytes)?,
+            Effect::Settle(slot) => self.file(slot).settle()?,
+            Effect::Remove(name) => fs::remove_file(&rt, name)?,
+            Effect::Extend(name) => {
+                let mut how = OpenOptions::new();
+                how.append(true).create(true);
+                self.log = Open::File(how.open(&rt, name)?);
+            }
+            Effect::Add(text) => self.log.save(text)?,
+            Effect::Sleep(ms) => thread::sleep(&rt, Duration::from_millis(ms)),
+            Effect::Print(bytes) => io::writer(&rt).write_all(bytes)?,
+            Effect::Say(text) => eprint!(&rt; "{text}")?,
+            _ => {}
         }
+        Ok(())
     }
 }
 
-impl<
-    R: Files<File = File>
-        + Input
-        + Print
-        + Eprint
-        + Clock
-        + Net<Listener = TcpListener, Stream = TcpStream>
-        + AllocGlobal
-        + Clone
-        + Drop,
-> Hands for RealHands<R> {
+impl Hands for RealHands {
     ghost use Rattle.std.specs.Prelude.{None, if◌then◌else◌};
     ghost use Rattle.effects.specs.Effects.{Short};
 
@@ -262,31 +221,22 @@ impl<
     fn carry_out(&mut self, effect: Effect<'_>) {
         self.is_short = false;
         match effect {
-            Effect::Open(slot, place) => self.open(slot, place),
             Effect::Read(slot) => self.read(slot),
             Effect::Byte => self.byte(),
             Effect::Names(folder) => self.names(folder),
             Effect::Exists(name) => self.came.looked(fs::exists(&self.rt, name)),
-            Effect::Look(name) => self.came.ended(is_plain(&self.rt, name).map(|_| ())),
-            Effect::Make(growth, name, beside, text) => self.make(growth, (name, beside), text),
+            Effect::Make(growth, name, beside, text) => self.make(growth, name, beside, text),
             Effect::Place(name) => self.place(name),
             Effect::Node(name) => self.node(name),
             Effect::Stamp => self.stamp(),
-            Effect::Now => {
-                let now = self.now();
-                self.came.timed(now);
-            }
-            Effect::Sleep(ms) => {
-                thread::sleep(&self.rt, Duration::from_millis(ms));
-                self.came.ended(Ok(()));
-            }
+            Effect::Now => self.now(),
             Effect::Listen(..) | Effect::Accept(..) | Effect::Connect(..) | Effect::Join => {
                 self.on_connections(effect);
             }
             Effect::Wait(..) | Effect::Receive(..) | Effect::Send(..) | Effect::Pass(..) => {
-                self.on_peers(effect);
+                self.on_connections(effect);
             }
-            Effect::Close(..) | Effect::Limit(..) | Effect::Leave => self.on_peers(effect),
+            Effect::Close(..) | Effect::Limit(..) | Effect::Leave => self.on_connections(effect),
             _ => {
                 let done = self.on_files(effect);
                 self.came.ended(done);

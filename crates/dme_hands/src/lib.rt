@@ -1,17 +1,16 @@
 //! What carries the effects of `dme` out on files, sockets and the standard streams (this profile). It decides nothing.
 //!
-//! - `hands`: one function an effect; `files`: files that are read; `written`: those of a recording; `connections`: those of a port
-//! - `growing`: one that grows; `locked_files`: it is locked, so that no other run shares it
-//! - `text_files`: files that are replaced as a whole; `names`: the places of files
+//! - `hands`: one function an effect; `connections`: those of a port; `slots`: files that are read from, or written to, their beginning
+//! - `growing`: one that grows is locked, so that no other run shares it
+//! - `text_files`: files that are replaced as a whole; `names`: the places of files, and what is in a folder
 #![tactic(auto)]
 
 mod connections;
-mod files;
 mod growing;
 mod hands;
-mod locked_files;
 mod names;
+mod slots;
 mod text_files;
-mod written;
 
 pub use hands::RealHands;
+pub use slots::Open;

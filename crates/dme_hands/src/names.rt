@@ -1,16 +1,15 @@
-// The places of files.
+// The places of files, and what is in a folder.
 
 use crate::text_files::folder_of;
 use std::alloc::AllocError;
 use std::fs;
-use std::io::ErrorKind;
-use std::path::Path;
-use std::rt::Files;
+use std::io::{self, ErrorKind};
+use std::path::{Path, PathBuf};
 
 /// The place of what has this name, without links; none if nothing has. Fails only if out of memory.
-fn real_place<R: Files + AllocGlobal>(rt: &R, name: &str) -> Result<Option<String>, AllocError> {
+fn real_place(rt: &HostRuntime, name: &str) -> Result<Option<PathBuf>, AllocError> {
     match fs::canonicalize(rt, name) {
-        Ok(place) => Ok(Some(place.into_string())),
+        Ok(place) => Ok(Some(place)),
         Err(error) if error.kind() == ErrorKind::OutOfMemory => Err(AllocError),
         Err(_) => Ok(None),
     }
@@ -18,23 +17,36 @@ fn real_place<R: Files + AllocGlobal>(rt: &R, name: &str) -> Result<Option<Strin
 
 /// The place that a file of this name has or would have; none of a folder, a device or a pipe, in whose place nothing is put. Fails only if out
 /// of memory.
-pub fn place_of<R: Files + AllocGlobal>(rt: &R, name: &str) -> Result<Option<String>, AllocError> {
+pub fn place_of(rt: &HostRuntime, name: &str) -> Result<Option<PathBuf>, AllocError> {
     match fs::metadata(rt, name) {
-        Ok(found) if !found.is_file() => Ok(None),
-        _ => Ok(Some(written_place(rt, name)?)),
+        Ok(found) if !found.is_file() => return Ok(None),
+        _ => {}
     }
-}
-
-/// The place that a file of this name has or would have. Fails only if out of memory.
-fn written_place<R: Files + AllocGlobal>(rt: &R, name: &str) -> Result<String, AllocError> {
     if let Some(place) = real_place(rt, name)? {
-        return Ok(place);
+        return Ok(Some(place));
     }
-    match (
+    let place = match (
         real_place(rt, folder_of(name))?,
         Path::new(name).file_name(),
     ) {
-        (Some(folder), Some(last)) => format!(in rt.alloc(); "{folder}/{last}"),
-        _ => String::from_str(rt.alloc(), name),
+        (Some(folder), Some(last)) => folder.join(rt.alloc(), last)?,
+        _ => PathBuf::from_str(rt.alloc(), name)?,
+    };
+    Ok(Some(place))
+}
+
+/// The names of what is in a folder, each with a `/` after it. Names that are not UTF-8 are left out.
+pub fn names_in(rt: &HostRuntime, folder: &str) -> io::Result<Vec<u8>> {
+    let mut names = Vec::new(rt.alloc());
+    for entry in fs::read_dir(rt, folder)? {
+        match entry {
+            Ok(entry) => {
+                names.extend_from_slice(entry.file_name().as_bytes())?;
+                names.push(b'/')?;
+            }
+            Err(error) if error.kind() == ErrorKind::InvalidFilename => {}
+            Err(error) => return Err(error),
+        }
     }
+    Ok(names)
 }

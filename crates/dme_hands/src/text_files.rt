@@ -1,10 +1,9 @@
 // Files of the file system that are replaced as a whole.
 
-use std::fs::{self, OpenFile, OpenOptions};
+use std::fs::{self, File, OpenFile, OpenOptions};
 use std::io::{self, ErrorKind, Write};
 use std::os::unix::fs::{OpenOptionsExt, PermissionsExt};
 use std::path::Path;
-use std::rt::Files;
 
 /// The name of the folder that a file of this name is in.
 pub fn folder_of(name: &str) -> &str {
@@ -15,7 +14,7 @@ pub fn folder_of(name: &str) -> &str {
 }
 
 /// Forces to the device that a file of this name was made, if its folder can be opened.
-pub fn settle_name<R: Files>(rt: &R, name: &str) -> io::Result<()> {
+pub fn settle_name(rt: &HostRuntime, name: &str) -> io::Result<()> {
     match fs::open(rt, folder_of(name)) {
         Ok(folder) => folder.sync_all(),
         Err(_) => Ok(()),
@@ -23,7 +22,7 @@ pub fn settle_name<R: Files>(rt: &R, name: &str) -> io::Result<()> {
 }
 
 /// Whether a new file may take this name: nothing has it, or a plain file, which is no link, no device and no pipe.
-fn may_be_replaced<R: Files>(rt: &R, name: &str) -> bool {
+fn may_be_replaced(rt: &HostRuntime, name: &str) -> bool {
     match fs::symlink_metadata(rt, name) {
         Ok(found) => found.is_file(),
         Err(_) => true,
@@ -31,7 +30,7 @@ fn may_be_replaced<R: Files>(rt: &R, name: &str) -> bool {
 }
 
 /// Whether a plain file has this name, or else nothing has. It fails for anything else: for a link as `FilesystemLoop`.
-pub fn is_plain<R: Files>(rt: &R, name: &str) -> io::Result<bool> {
+pub fn is_plain(rt: &HostRuntime, name: &str) -> io::Result<bool> {
     match fs::symlink_metadata(rt, name) {
         Ok(found) if found.is_file() => Ok(true),
         Ok(found) if found.is_symlink() => Err(io::Error::from(ErrorKind::FilesystemLoop)),
@@ -44,7 +43,7 @@ pub fn is_plain<R: Files>(rt: &R, name: &str) -> io::Result<bool> {
 
 /// Makes a new file next to the one of this name, with its mode. A plain file that an earlier run has left there is removed first; with
 /// anything else there it fails as `AlreadyExists`.
-pub fn make_beside<R: Files>(rt: &R, name: &str, beside: &str) -> io::Result<R::File> {
+pub fn make_beside(rt: &HostRuntime, name: &str, beside: &str) -> io::Result<File> {
     if let Ok(true) = is_plain(rt, beside) {
         fs::remove_file(rt, beside)?;
     }
@@ -60,20 +59,13 @@ pub fn make_beside<R: Files>(rt: &R, name: &str, beside: &str) -> io::Result<R::
     Ok(file)
 }
 
-/// Whether the file of this name has that many bytes: one that was removed or cut during a run has not.
-pub fn is_whole<R: Files>(rt: &R, name: &str, length: usize) -> bool {
-    match fs::metadata(rt, name) {
-        Ok(found) => found.len() == length as u64,
-        Err(_) => false,
-    }
-}
-
 /// Writes all of a text to a new file, forces it to the device, and only then gives the file its name, which is forced there too.
-fn settle<R: Files>(
-    rt: &R,
-    file: &mut R::File,
+fn settle(
+    rt: &HostRuntime,
+    file: &mut File,
     text: &[u8],
-    (beside, name): (&str, &str),
+    beside: &str,
+    name: &str,
 ) -> io::Result<()> {
     file.write_all(text)?;
     file.sync_all()?;
@@ -81,21 +73,16 @@ fn settle<R: Files>(
     settle_name(rt, name)
 }
 
-/// Puts a new file in the place of the one of this name. What was begun and could not be put there is removed.
-fn put<R: Files>(rt: &R, text: &[u8], beside: &str, name: &str) -> io::Result<()> {
+/// Writes a text to the file of this name. If that may be replaced, a new file is put in its place; what was begun and could not be put there
+/// is removed.
+pub fn replace_file(rt: &HostRuntime, text: &[u8], beside: &str, name: &str) -> io::Result<()> {
+    if !may_be_replaced(rt, name) {
+        return fs::write(rt, name, text);
+    }
     let mut file = make_beside(rt, name, beside)?;
-    let result = settle(rt, &mut file, text, (beside, name));
+    let result = settle(rt, &mut file, text, beside, name);
     if result.is_err() {
         let _ = fs::remove_file(rt, beside);
     }
     result
-}
-
-/// Writes a text to the file of this name, which is replaced if it may be.
-pub fn replace_file<R: Files>(rt: &R, text: &[u8], beside: &str, name: &str) -> io::Result<()> {
-    if may_be_replaced(rt, name) {
-        put(rt, text, beside, name)
-    } else {
-        fs::write(rt, name, text)
-    }
 }

@@ -21,4 +21,3 @@ abbrev pub exit_status : Fault → ℕ
 exit_status (fault.Words refusal) = 2
 exit_status fault.NotUtf8 = 2
 exit_status (fault.Order cause) = status_of cause
-exit_status (fault.Explained cause place) = status_of cause

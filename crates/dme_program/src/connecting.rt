@@ -3,7 +3,7 @@
 ghost use Rattle.std.specs.Prelude.{◌≡◌, true};
 ghost use Rattle.client_core.specs.Clients.{is_window};
 
-use crate::explaining::{of_output, refused};
+use crate::explaining::refused;
 use crate::faults::Fault;
 use crate::files::Sources;
 use crate::progress::Progress;
@@ -16,18 +16,14 @@ use dme_words::Loop;
 use effects::Cause;
 use link_world::LoopPorts;
 use run_opening::lacking_lines;
-use session_parts::why_unconnected;
+use session_parts::{Side, why_unconnected};
 use std::io::{self, ErrorKind};
-use std::net::{Net, TcpListener, TcpStream};
-use std::rt::Files;
+use std::net::{TcpListener, TcpStream};
 
 /// A connection of this process to itself, both ends.
-fn own_connection<R: Net<Listener = TcpListener, Stream = TcpStream>>(
-    rt: &R,
-) -> io::Result<(TcpStream, TcpStream)> {
-    let listener = TcpListener::bind(rt, "127.0.0.1:0")?;
-    let port = listener.local_addr()?.port();
-    let near = TcpStream::connect(rt, ("127.0.0.1", port))?;
+fn own_connection(rt: HostRuntime) -> io::Result<(TcpStream, TcpStream)> {
+    let listener = TcpListener::bind(&rt, "127.0.0.1:0")?;
+    let near = TcpStream::connect(&rt, listener.local_addr()?)?;
     let (far, _) = listener.accept()?;
     Ok((near, far))
 }
@@ -42,79 +38,69 @@ fn no_connection(error: &io::Error, is_told: bool) -> OrderFault {
     OrderFault::ConnectionFailed(if is_told { why_unconnected(cause) } else { "" })
 }
 
-/// What is run over one connection, and what is shown of it.
-#[derive(Drop)]
-struct Task {
-    run: LoopTask,
-    progress: bool,
-    trace: bool,
-}
-
 /// Both ends of a program over this connection, and their report on standard output. (The connection is made
 /// elsewhere, since the ports of both ends have one lifetime.)
-fn loop_ends<'a, R: Print + Eprint + Net<Listener = TcpListener, Stream = TcpStream> + AllocGlobal>(
-    rt: &'a R,
-    near: &'a TcpStream,
-    far: &'a TcpStream,
-    task: Task,
+fn loop_ends(
+    rt: HostRuntime,
+    near: &TcpStream,
+    far: &TcpStream,
+    task: LoopTask,
+    is_told: bool,
+    is_traced: bool,
 ) -> Result<ConnectionEnd, FilesFault>
-    requires { is_window task.run.window ≡ true }
+    requires { is_window task.window ≡ true }
 {
-    let mut watcher = Progress::new(rt, task.progress, task.run.program.features().len());
+    let mut watcher = Progress::new(rt, is_told, task.program.features().len());
     let mut ports = LoopPorts {
         client: Ports {
             source: Reading::new(near),
-            sink: TracingPort::new(rt, Writing::new(near), ">", task.trace),
+            sink: TracingPort::new(rt, near, Side::Client, ">", is_traced),
         },
         server: Ports {
             source: Reading::new(far),
-            sink: TracingPort::new(rt, Writing::new(far), "<", task.trace),
+            sink: TracingPort::new(rt, far, Side::Server, "<", is_traced),
         },
     };
-    let mut sink = Writing::new(io::writer(rt));
-    loop_over(rt.alloc(), task.run, &mut ports, &mut watcher, &mut sink)
+    let mut sink = Writing::new(io::writer(&rt));
+    loop_over(rt.alloc(), task, &mut ports, &mut watcher, &mut sink)
 }
 
 /// Both ends of a program over a connection of this process to itself.
-fn loop_task<R: Print + Eprint + Net<Listener = TcpListener, Stream = TcpStream> + AllocGlobal>(
-    rt: &R,
-    task: Task,
+fn loop_task(
+    rt: HostRuntime,
+    task: LoopTask,
+    is_told: bool,
+    is_traced: bool,
 ) -> Result<u8, OrderFault>
-    requires { is_window task.run.window ≡ true }
+    requires { is_window task.window ≡ true }
 {
-    let is_told = task.progress;
     let (near, far) = match own_connection(rt) {
         Ok(ends) => ends,
         Err(error) => return Err(no_connection(&error, is_told)),
     };
-    match loop_ends(rt, &near, &far, task) {
+    match loop_ends(rt, &near, &far, task, is_told, is_traced) {
         Ok(ended) => ended.verdict(is_told),
-        Err(fault) => Err(of_output(rt, fault)),
+        Err(fault) => Ok(refused(rt, fault, InputFiles::unnamed(rt.alloc()), false)),
     }
 }
 
 /// The order `loop`: its exit status.
 #[inline(never)]
-pub fn loop_program<
-    R: Files
-        + Input
-        + Print
-        + Eprint
-        + Net<Listener = TcpListener, Stream = TcpStream>
-        + AllocGlobal,
->(rt: &R, order: Loop) -> Result<u8, Fault>
+pub fn loop_program(rt: HostRuntime, order: Loop) -> Result<u8, Fault>
     requires { is_window order.window ≡ true }
 {
-    let mut sources = Sources::new(rt, order.explain);
-    let mut setup = sources.file(order.setup).keeping();
-    let mut program = sources.file(order.program).keeping();
+    let mut sources = Sources::new(rt, true);
+    let mut setup = sources.file(order.setup);
+    let mut program = sources.file(order.program);
     let read = setup_and_program(rt.alloc(), &mut setup, &mut program);
-    let mut files = InputFiles::unnamed(rt.alloc());
-    files.setup = setup.into_file();
-    files.program = program.into_file();
+    let files = InputFiles {
+        setup: setup.into_file(),
+        program: program.into_file(),
+        ..InputFiles::unnamed(rt.alloc())
+    };
     let (setup, program) = match read {
         Ok(read) => read,
-        Err(fault) => return Err(refused(rt.alloc(), fault, files, order.explain)),
+        Err(fault) => return Ok(refused(rt, fault, files, order.explain)),
     };
     let text = files.program.text.as_slice();
     let lacking = lacking_lines(
@@ -125,14 +111,10 @@ pub fn loop_program<
         files.setup.name.as_str(),
     )?;
     let _ = eprint!(rt; "{lacking}");
-    let task = Task {
-        run: LoopTask {
-            setup,
-            program,
-            window: order.window,
-        },
-        progress: order.progress,
-        trace: order.trace,
+    let task = LoopTask {
+        setup,
+        program,
+        window: order.window,
     };
-    Ok(loop_task(rt, task)?)
+    Ok(loop_task(rt, task, order.progress, order.trace)?)
 }

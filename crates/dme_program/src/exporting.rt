@@ -1,45 +1,35 @@
 // The orders `export` and `explain`, on files and the standard streams.
 
-use crate::explaining::{of_output, refused};
-use crate::faults::Fault;
-use crate::files::{NamedSource, Sources};
+use crate::explaining::refused;
+use crate::files::{NamedSource, Sources, file_of};
 use byte_ports::Writing;
 use dme_orders::{
-    ExportFiles, Exported, InputFiles, Missing, RecordFiles, RecordNotes, RecordText, explain,
-    export_files, export_record,
+    ExportFiles, Exported, FilesFault, InputFiles, RecordFiles, RecordText, explain, export_files,
+    export_record,
 };
 use dme_words::{Export, RecordExport, RecordForm};
 use refusal_guide::Topic;
 use std::io;
-use std::rt::Files;
 
-/// Says on standard error which features are missing, if any are. A line that cannot be written changes nothing.
-fn tell_missing<R: Eprint>(rt: &R, missing: &Missing) {
-    let sentence = &missing.sentence;
-    let _ = eprint!(rt; "{sentence}");
-}
-
-/// Says on standard error what an audit of a record names besides. A line that cannot be written changes nothing.
-pub fn tell_notes<R: Eprint>(rt: &R, notes: &RecordNotes) {
-    tell_missing(rt, &notes.missing);
-    let errors = &notes.errors;
-    let _ = eprint!(rt; "{errors}");
-}
-
-/// Says on standard error what an export says besides what it prints. A line that cannot be written changes nothing.
-fn tell_exported<R: Eprint>(rt: &R, exported: &Exported) -> u8 {
-    tell_missing(rt, &exported.missing);
-    let compared = &exported.compared;
-    let _ = eprint!(rt; "{compared}");
+/// The exit status of an export, after which standard error shows what it says besides what it prints, or why it was not carried out.
+fn export_end(
+    rt: HostRuntime,
+    exported: Result<Exported, FilesFault>,
+    files: InputFiles,
+    is_explained: bool,
+) -> u8 {
+    let exported = match exported {
+        Ok(exported) => exported,
+        Err(fault) => return refused(rt, fault, files, is_explained),
+    };
+    let (missing, compared) = (&exported.missing.sentence, &exported.compared);
+    let _ = eprint!(rt; "{missing}{compared}");
     exported.missing.status()
 }
 
 /// The order `export`: its exit status.
 #[inline(never)]
-pub fn export<R: Files + Input + Print + Eprint + AllocGlobal>(
-    rt: &R,
-    order: Export,
-) -> Result<u8, Fault> {
+pub fn export(rt: HostRuntime, order: Export) -> u8 {
     let mut sources = Sources::new(rt, order.explain);
     let mut sought = ExportFiles {
         setup: sources.maybe(order.setup),
@@ -47,26 +37,16 @@ pub fn export<R: Files + Input + Print + Eprint + AllocGlobal>(
         program: sources.file(order.program),
     };
     let mut limits = sources.maybe(order.limits);
-    let mut sink = Writing::new(io::writer(rt));
-    let fault = match export_files(rt.alloc(), order.form, &mut limits, &mut sought, &mut sink) {
-        Ok(exported) => return Ok(tell_exported(rt, &exported)),
-        Err(fault) => fault,
+    let mut sink = Writing::new(io::writer(&rt));
+    let exported = export_files(rt.alloc(), order.form, &mut limits, &mut sought, &mut sink);
+    let files = InputFiles {
+        setup: file_of(rt, sought.setup),
+        features: sought.features.into_file(),
+        program: sought.program.into_file(),
+        limits: file_of(rt, limits),
+        ..InputFiles::unnamed(rt.alloc())
     };
-    let ExportFiles {
-        setup,
-        features,
-        program,
-    } = sought;
-    let mut files = InputFiles::unnamed(rt.alloc());
-    if let Some(setup) = setup {
-        files.setup = setup.into_file();
-    }
-    files.features = features.into_file();
-    files.program = program.into_file();
-    if let Some(limits) = limits {
-        files.limits = limits.into_file();
-    }
-    Err(refused(rt.alloc(), fault, files, order.explain))
+    export_end(rt, exported, files, order.explain)
 }
 
 /// What is printed of a record in a form.
@@ -78,12 +58,22 @@ fn text_of(form: RecordForm) -> RecordText {
     }
 }
 
+/// The files of an order over a record, as far as they were read.
+pub fn record_files(
+    rt: HostRuntime,
+    sought: RecordFiles<NamedSource, NamedSource, NamedSource>,
+) -> InputFiles {
+    InputFiles {
+        setup: file_of(rt, sought.setup),
+        record: sought.record.into_file(),
+        program: sought.program.into_file(),
+        ..InputFiles::unnamed(rt.alloc())
+    }
+}
+
 /// The order `export` for a record: its exit status.
 #[inline(never)]
-pub fn export_of_record<R: Files + Input + Print + Eprint + AllocGlobal>(
-    rt: &R,
-    order: RecordExport,
-) -> Result<u8, Fault> {
+pub fn export_of_record(rt: HostRuntime, order: RecordExport) -> u8 {
     let mut sources = Sources::new(rt, order.explain);
     let mut sought = RecordFiles {
         setup: sources.maybe(order.setup),
@@ -91,43 +81,21 @@ pub fn export_of_record<R: Files + Input + Print + Eprint + AllocGlobal>(
         program: sources.file(order.program),
     };
     let mut limits = sources.maybe(order.limits);
-    let mut sink = Writing::new(io::writer(rt));
+    let mut sink = Writing::new(io::writer(&rt));
     let form = text_of(order.form);
-    let fault = match export_record(rt.alloc(), form, &mut limits, &mut sought, &mut sink) {
-        Ok(exported) => return Ok(tell_exported(rt, &exported)),
-        Err(fault) => fault,
+    let exported = export_record(rt.alloc(), form, &mut limits, &mut sought, &mut sink);
+    let files = InputFiles {
+        limits: file_of(rt, limits),
+        ..record_files(rt, sought)
     };
-    let mut files = record_files(rt, sought);
-    if let Some(limits) = limits {
-        files.limits = limits.into_file();
-    }
-    Err(refused(rt.alloc(), fault, files, order.explain))
-}
-
-/// The files of an order over a record, as far as they were read.
-pub fn record_files<'a, R: Files + Input + AllocGlobal>(
-    rt: &'a R,
-    sought: RecordFiles<NamedSource<'a, R>, NamedSource<'a, R>, NamedSource<'a, R>>,
-) -> InputFiles {
-    let RecordFiles {
-        setup,
-        record,
-        program,
-    } = sought;
-    let mut files = InputFiles::unnamed(rt.alloc());
-    if let Some(setup) = setup {
-        files.setup = setup.into_file();
-    }
-    files.record = record.into_file();
-    files.program = program.into_file();
-    files
+    export_end(rt, exported, files, order.explain)
 }
 
 /// The order `explain`: its exit status.
 #[inline(never)]
-pub fn explain_topic<R: Print + AllocGlobal>(rt: &R, topic: Topic) -> Result<u8, Fault> {
-    match explain(rt.alloc(), topic, &mut Writing::new(io::writer(rt))) {
-        Ok(()) => Ok(0),
-        Err(fault) => Err(Fault::Order(of_output(rt, fault))),
+pub fn explain_topic(rt: HostRuntime, topic: Topic) -> u8 {
+    match explain(rt.alloc(), topic, &mut Writing::new(io::writer(&rt))) {
+        Ok(()) => 0,
+        Err(fault) => refused(rt, fault, InputFiles::unnamed(rt.alloc()), false),
     }
 }

@@ -18,8 +18,6 @@ pub enum Fault {
     NotUtf8,
     /// An order that was not carried out.
     Order(OrderFault),
-    /// An order that was not carried out, and then where its file is refused and what is wrong there.
-    Explained(OrderFault, String),
 }
 
 impl fmt::Display for Fault {
@@ -30,7 +28,6 @@ impl fmt::Display for Fault {
                 "error: invalid UTF-8 was detected in one or more arguments\n\nFor more information, try '--help'.\n",
             ),
             Fault::Order(cause) => write!(f, "{cause}"),
-            Fault::Explained(cause, place) => write!(f, "{cause}{place}"),
         }
     }
 }
@@ -89,7 +86,7 @@ impl Fault {
     {
         match self {
             Fault::Words(_) | Fault::NotUtf8 => 2,
-            Fault::Order(cause) | Fault::Explained(cause, _) => cause.status(),
+            Fault::Order(cause) => cause.status(),
         }
     }
 }

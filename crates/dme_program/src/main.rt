@@ -5,7 +5,7 @@
 //!
 //! - `running`: an order is carried out on files and the standard streams
 //! - `connecting`: the order `loop`, over a connection of the process to itself; `tracing`: the lines of that connection
-//! - `serving`, `watching`: the orders `serve` and `watch`, by their sessions
+//! - `serving`: the orders that are sessions, with hands
 //! - `exporting`: what was measured is printed, and what a refusal means
 //! - `version`: which program this is
 //! - `files`: the files that a command reads, as sources; `explaining`: what is shown for an order whose files are refused
@@ -22,16 +22,14 @@ mod running;
 mod serving;
 mod tracing;
 mod version;
-mod watching;
 
-use std::fs::{File, OpenOptions};
+use std::fs::OpenOptions;
 use std::os::fd::{AsRawFd, IntoRawFd};
 use std::process::ExitCode;
-use std::rt::Files;
 
 /// Gives the null device to each of descriptors 0 to 2 that is closed, so that no file and no connection is taken for a standard stream.
 /// Input can then not be read, nor the other two be written.
-fn take_closed_streams<R: Files<File = File>>(rt: &R) {
+fn take_closed_streams(rt: &HostRuntime) {
     for number in 0..3 {
         let mut how = OpenOptions::new();
         how.read(number != 0).append(number == 0);
@@ -46,7 +44,7 @@ fn take_closed_streams<R: Files<File = File>>(rt: &R) {
 
 fn main(rt: HostRuntime) -> ExitCode {
     take_closed_streams(&rt);
-    match running::run(&rt) {
+    match running::run(rt) {
         Ok(status) => ExitCode::from(status),
         Err(fault) => {
             let _ = eprint!(rt; "{fault}");

@@ -8,20 +8,20 @@ use link_world::Watcher;
 
 /// Reports each completed feature by a line on standard error, if asked. A line that cannot be written changes nothing.
 #[derive(Drop)]
-pub struct Progress<'a, R: Eprint> {
-    rt: &'a R,
+pub struct Progress {
+    rt: HostRuntime,
     is_told: bool,
     total: usize,
 }
 
-impl<'a, R: Eprint> Progress<'a, R> {
+impl Progress {
     /// For a program with that many features.
-    pub fn new(rt: &'a R, is_told: bool, total: usize) -> Self {
+    pub fn new(rt: HostRuntime, is_told: bool, total: usize) -> Self {
         Progress { rt, is_told, total }
     }
 }
 
-impl<'a, R: Eprint> Watcher for Progress<'a, R> {
+impl Watcher for Progress {
     ghost told = { λ _. None };
 
     fn completed(&mut self, number: usize, feature: &Feature) {

@@ -7,30 +7,23 @@ ghost use Rattle.dme_program.specs.Blamed.{OnSetup};
 
 use crate::connecting::loop_program;
 use crate::explaining::{refused, tell_audit};
-use crate::exporting::{explain_topic, export, export_of_record, record_files, tell_notes};
+use crate::exporting::{explain_topic, export, export_of_record, record_files};
 use crate::faults::Fault;
-use crate::files::{NamedSource, Sources};
-use crate::serving::serve;
-use crate::tracing::ErrorOutput;
+use crate::files::{NamedSource, Sources, file_of};
+use crate::serving::{read_recordings, run_program, serve, watch};
 use crate::version;
-use crate::watching::watch;
-use byte_ports::{Writing, push_all};
-use dme_hands::RealHands;
+use byte_ports::Writing;
 use dme_orders::{
     AuditFiles, FilesFault, InputFiles, RecordFiles, SimulationFiles, audit_files, audit_record,
     check_under_setup, review_program, simulate, status,
 };
-use dme_words::{Audit, Check, Lower, Order, RecordAudit, Review, Run, Simulation, read_words};
-use ledger_session::{Job, Session, run as run_reading};
+use dme_words::{Audit, Check, Lower, Order, RecordAudit, Review, Simulation, read_words};
+use ledger_session::Job;
 use program_lowering::{Choices, SourceNames, lower_program};
 use program_review::{FindingForm, FindingStyle};
-use run_opening::Opening;
 use std::alloc::{AllocError, Global};
-use std::env::{self, Env};
-use std::fs::File;
-use std::io;
-use std::net::{Net, TcpListener, TcpStream};
-use std::rt::{Clock, Files};
+use std::env;
+use std::io::{self, Write};
 
 /// The words of the command line; the first names the program in `clap`'s texts, whatever file it runs from.
 fn words_of(alloc: Global, given: &[String]) -> Result<Vec<&str>, AllocError> {
@@ -43,8 +36,8 @@ fn words_of(alloc: Global, given: &[String]) -> Result<Vec<&str>, AllocError> {
 }
 
 /// The command line as it was given.
-fn given_words<R: Env + AllocGlobal>(rt: &R) -> Result<Vec<String>, Fault> {
-    match env::args(rt) {
+fn given_words(rt: HostRuntime) -> Result<Vec<String>, Fault> {
+    match env::args(&rt) {
         Ok(given) => Ok(given.collect::<Vec<String>>(rt.alloc())?),
         Err(error) => Err(Fault::of_words(error.kind())),
     }
@@ -61,135 +54,103 @@ fn read_order(alloc: Global, given: &[String]) -> Result<Order, Fault>
 
 /// A program is checked under a setup, if one is named, and its plan is printed. A setup is blamed only if there is one.
 #[tactic(auto, using(crate::proofs::Blaming::only_named))]
-fn check_files<'a, R: Files + Input + Print + AllocGlobal>(
-    rt: &'a R,
-    setup: &mut Option<NamedSource<'a, R>>,
-    program: &mut NamedSource<'a, R>,
+fn check_files(
+    rt: HostRuntime,
+    setup: &mut Option<NamedSource>,
+    program: &mut NamedSource,
 ) -> Result<(), FilesFault>
     ensures { IfErr result (OnSetup (is_some setup.old ≡ true)) }
 {
-    check_under_setup(
-        rt.alloc(),
-        setup,
-        program,
-        &mut Writing::new(io::writer(rt)),
-    )
+    let mut sink = Writing::new(io::writer(&rt));
+    check_under_setup(rt.alloc(), setup, program, &mut sink)
 }
 
-/// The refusal of a program, or of the setup under which it was to be read, if one is named.
-#[inline(never)]
-fn refused_program<'a, R: Files + Input>(
-    alloc: Global,
-    fault: FilesFault,
-    setup: Option<NamedSource<'a, R>>,
-    program: NamedSource<'a, R>,
-    is_explained: bool,
-) -> Fault {
-    let mut files = InputFiles::unnamed(alloc);
-    if let Some(setup) = setup {
-        files.setup = setup.into_file();
+/// The files of an order over a program, and the setup under which it is read, if one is named.
+fn program_files(rt: HostRuntime, setup: Option<NamedSource>, program: NamedSource) -> InputFiles {
+    InputFiles {
+        setup: file_of(rt, setup),
+        program: program.into_file(),
+        ..InputFiles::unnamed(rt.alloc())
     }
-    files.program = program.into_file();
-    refused(alloc, fault, files, is_explained)
 }
 
 /// The order `check`: its exit status.
 #[inline(never)]
-fn check<R: Files + Input + Print + AllocGlobal>(rt: &R, order: Check) -> Result<u8, Fault> {
+fn check(rt: HostRuntime, order: Check) -> u8 {
     let mut sources = Sources::new(rt, order.explain);
     let mut setup = sources.maybe(order.setup);
     let mut program = sources.file(order.program);
-    let Err(fault) = check_files(rt, &mut setup, &mut program) else {
-        return Ok(0);
-    };
-    Err(refused_program(rt.alloc(), fault, setup, program, order.explain))
-}
-
-/// A copy of the name of a file, if one is named; else the empty text.
-fn name_of(alloc: Global, file: &Option<String>) -> Result<String, AllocError> {
-    match file {
-        Some(name) => String::from_str(alloc, name.as_str()),
-        None => Ok(String::new(alloc)),
+    let checked = check_files(rt, &mut setup, &mut program);
+    let files = program_files(rt, setup, program);
+    match checked {
+        Ok(()) => 0,
+        Err(fault) => refused(rt, fault, files, order.explain),
     }
 }
 
 /// The order `review`: its exit status.
 #[inline(never)]
-fn review<R: Files + Input + Print + AllocGlobal>(rt: &R, order: Review) -> Result<u8, Fault> {
-    let form = if order.is_json {
-        FindingForm::Json
-    } else {
-        FindingForm::Lines
+fn review(rt: HostRuntime, order: Review) -> Result<u8, AllocError> {
+    let (name, setup_name) = (order.program.clone()?, order.setup.clone()?);
+    let style = FindingStyle {
+        form: if order.is_json {
+            FindingForm::Json
+        } else {
+            FindingForm::Lines
+        },
+        program: name.as_str(),
+        setup: setup_name.as_deref().unwrap_or(""),
     };
     let mut sources = Sources::new(rt, false);
-    let name = String::from_str(rt.alloc(), order.program.as_str())?;
-    let setup_name = name_of(rt.alloc(), &order.setup)?;
-    let style = FindingStyle {
-        form,
-        program: name.as_str(),
-        setup: setup_name.as_str(),
-    };
     let mut setup = sources.maybe(order.setup);
     let mut program = sources.file(order.program);
-    let mut sink = Writing::new(io::writer(rt));
-    match review_program(rt.alloc(), style, &mut setup, &mut program, &mut sink) {
+    let mut sink = Writing::new(io::writer(&rt));
+    let reviewed = review_program(rt.alloc(), style, &mut setup, &mut program, &mut sink);
+    let files = program_files(rt, setup, program);
+    match reviewed {
         Ok(status) => Ok(status),
-        Err(fault) => Err(refused_program(rt.alloc(), fault, setup, program, false)),
+        Err(fault) => Ok(refused(rt, fault, files, false)),
     }
 }
 
 /// The order `lower`: its exit status. Standard error shows what was decided.
 #[inline(never)]
-fn lower<R: Files + Input + Print + Eprint + AllocGlobal>(
-    rt: &R,
-    order: Lower,
-) -> Result<u8, Fault> {
+fn lower(rt: HostRuntime, order: Lower) -> Result<u8, AllocError> {
     let choices = Choices {
         no_clearing: order.no_clearing,
         compensated: order.compensated,
         skip_manual: order.skip_manual,
     };
-    let name = String::from_str(rt.alloc(), order.program.as_str())?;
-    let setup_name = name_of(rt.alloc(), &order.setup)?;
+    let (name, setup_name) = (order.program.clone()?, order.setup.clone()?);
     let names = SourceNames {
         program: name.as_str(),
-        setup: setup_name.as_str(),
+        setup: setup_name.as_deref().unwrap_or(""),
     };
     let mut sources = Sources::new(rt, order.explain);
     let mut setup = sources.maybe(order.setup);
     let mut program = sources.file(order.program);
-    let mut sink = Writing::new(io::writer(rt));
-    match lower_program(
+    let mut sink = Writing::new(io::writer(&rt));
+    let lowered = lower_program(
         rt.alloc(),
         names,
         choices,
         &mut setup,
         &mut program,
         &mut sink,
-    ) {
+    );
+    let files = program_files(rt, setup, program);
+    match lowered {
         Ok(flat) => {
-            let _ = push_all(&mut ErrorOutput::new(rt), flat.notes.as_slice());
+            let _ = rt.stderr().write_all(flat.notes.as_slice());
             Ok(0)
         }
-        Err(fault) => Err(refused_program(rt.alloc(), fault, setup, program, order.explain)),
-    }
-}
-
-/// Standard error for the lines of both sides, if they are shown.
-fn line_output<R: Eprint>(rt: &R, is_traced: bool) -> Option<ErrorOutput<'_, R>> {
-    if is_traced {
-        Some(ErrorOutput::new(rt))
-    } else {
-        None
+        Err(fault) => Ok(refused(rt, fault, files, order.explain)),
     }
 }
 
 /// The order `simulate`: its exit status.
 #[inline(never)]
-fn simulate_files<R: Files + Input + Print + Eprint + AllocGlobal>(
-    rt: &R,
-    order: Simulation,
-) -> Result<u8, Fault>
+fn simulate_files(rt: HostRuntime, order: Simulation) -> u8
     requires { is_window order.window ≡ true }
 {
     let mut sources = Sources::new(rt, order.explain);
@@ -198,31 +159,45 @@ fn simulate_files<R: Files + Input + Print + Eprint + AllocGlobal>(
         schedule: sources.file(order.schedule),
         program: sources.file(order.program),
     };
-    let result = simulate(
-        rt.alloc(),
-        &mut sought,
-        order.window,
-        &mut line_output(rt, order.trace),
-        &mut Writing::new(io::writer(rt)),
-    );
-    match result {
-        Ok(state) => Ok(status(state)),
-        Err(fault) => {
-            let mut files = InputFiles::unnamed(rt.alloc());
-            files.setup = sought.setup.into_file();
-            files.schedule = sought.schedule.into_file();
-            files.program = sought.program.into_file();
-            Err(refused(rt.alloc(), fault, files, order.explain))
-        }
+    let mut lines = if order.trace {
+        Some(Writing::new(rt.stderr()))
+    } else {
+        None
+    };
+    let mut sink = Writing::new(io::writer(&rt));
+    let simulated = simulate(rt.alloc(), &mut sought, order.window, &mut lines, &mut sink);
+    let files = InputFiles {
+        setup: sought.setup.into_file(),
+        schedule: sought.schedule.into_file(),
+        program: sought.program.into_file(),
+        ..InputFiles::unnamed(rt.alloc())
+    };
+    match simulated {
+        Ok(state) => status(state),
+        Err(fault) => refused(rt, fault, files, order.explain),
     }
+}
+
+/// The exit status of an audit, after which standard error shows what it found, if that is asked for.
+fn audit_end(
+    rt: HostRuntime,
+    audited: Result<u8, FilesFault>,
+    files: InputFiles,
+    is_explained: bool,
+) -> u8 {
+    let status = match audited {
+        Ok(status) => status,
+        Err(fault) => return refused(rt, fault, files, is_explained),
+    };
+    if is_explained {
+        tell_audit(rt, &files);
+    }
+    status
 }
 
 /// The order `audit`: its exit status.
 #[inline(never)]
-fn audit<R: Files + Input + Print + Eprint + AllocGlobal>(
-    rt: &R,
-    order: Audit,
-) -> Result<u8, Fault> {
+fn audit(rt: HostRuntime, order: Audit) -> u8 {
     let mut sources = Sources::new(rt, order.explain);
     let mut sought = AuditFiles {
         setup: sources.file(order.setup),
@@ -230,49 +205,33 @@ fn audit<R: Files + Input + Print + Eprint + AllocGlobal>(
         contacts: sources.file(order.contacts),
         program: sources.file(order.program),
     };
-    let mut sink = Writing::new(io::writer(rt));
+    let mut sink = Writing::new(io::writer(&rt));
     let result = audit_files(rt.alloc(), &mut sought, &mut sink);
-    let mut files = InputFiles::unnamed(rt.alloc());
-    files.setup = sought.setup.into_file();
-    files.features = sought.features.into_file();
-    files.contacts = sought.contacts.into_file();
-    files.program = sought.program.into_file();
+    let files = InputFiles {
+        setup: sought.setup.into_file(),
+        features: sought.features.into_file(),
+        contacts: sought.contacts.into_file(),
+        program: sought.program.into_file(),
+        ..InputFiles::unnamed(rt.alloc())
+    };
     audit_end(rt, result, files, order.explain)
 }
 
-/// The exit status of an audit, after which standard error shows what it found, if that is asked for.
-fn audit_end<R: Eprint + AllocGlobal>(
-    rt: &R,
-    audited: Result<u8, FilesFault>,
-    files: InputFiles,
-    is_explained: bool,
-) -> Result<u8, Fault> {
-    let status = match audited {
-        Ok(status) => status,
-        Err(fault) => return Err(refused(rt.alloc(), fault, files, is_explained)),
-    };
-    if is_explained {
-        tell_audit(rt, &files);
-    }
-    Ok(status)
-}
-
-/// The order `audit` for a record: its exit status.
+/// The order `audit` for a record: its exit status. Standard error shows which features are missing, and the errors of the server.
 #[inline(never)]
-fn audit_of_record<R: Files + Input + Print + Eprint + AllocGlobal>(
-    rt: &R,
-    order: RecordAudit,
-) -> Result<u8, Fault> {
+fn audit_of_record(rt: HostRuntime, order: RecordAudit) -> u8 {
     let mut sources = Sources::new(rt, order.explain);
     let mut sought = RecordFiles {
         setup: sources.maybe(order.setup),
         record: sources.file(order.record),
         program: sources.file(order.program),
     };
-    let mut sink = Writing::new(io::writer(rt));
-    let result = match audit_record(rt.alloc(), &mut sought, &mut sink) {
+    let mut sink = Writing::new(io::writer(&rt));
+    let result = audit_record(rt.alloc(), &mut sought, &mut sink);
+    let result = match result {
         Ok((status, notes)) => {
-            tell_notes(rt, &notes);
+            let (missing, errors) = (&notes.missing.sentence, &notes.errors);
+            let _ = eprint!(rt; "{missing}{errors}");
             Ok(status)
         }
         Err(fault) => Err(fault),
@@ -280,93 +239,34 @@ fn audit_of_record<R: Files + Input + Print + Eprint + AllocGlobal>(
     audit_end(rt, result, record_files(rt, sought), order.explain)
 }
 
-/// The order `ledger` or `judge`: its exit status, or 70 once no more turns can be counted.
-#[inline(never)]
-fn read_recordings<
-    R: Files<File = File>
-        + Input
-        + Print
-        + Eprint
-        + Clock
-        + Net<Listener = TcpListener, Stream = TcpStream>
-        + AllocGlobal
-        + Clone
-        + Drop,
->(rt: &R, job: Job, up: String, down: String) -> Result<u8, Fault> {
-    let mut hands = RealHands::new(rt.clone()?);
-    let mut session = Session::new(rt.alloc(), job, up, down)?;
-    Ok(run_reading(&mut session, &mut hands).unwrap_or(70))
-}
-
-/// Runs a program on a server.
-#[inline(never)]
-fn run_program<
-    R: Files<File = File>
-        + Input
-        + Print
-        + Eprint
-        + Clock
-        + Net<Listener = TcpListener, Stream = TcpStream>
-        + AllocGlobal
-        + Clone
-        + Drop,
->(rt: &R, order: Run) -> Result<u8, Fault>
-    requires { is_window order.window ≡ true }
-{
-    let mut hands = RealHands::new(rt.clone()?);
-    let mut opening = Opening::new(rt.alloc(), order);
-    Ok(run_opening::run(&mut opening, &mut hands).unwrap_or(70))
-}
-
 /// Carries out an order: its exit status. None is joined to this function, whose frame would have room for all of them.
-fn carry_out<
-    R: Files<File = File>
-        + Input
-        + Print
-        + Eprint
-        + Clock
-        + Net<Listener = TcpListener, Stream = TcpStream>
-        + AllocGlobal
-        + Clone
-        + Drop,
->(rt: &R, order: Order) -> Result<u8, Fault>
+fn carry_out(rt: HostRuntime, order: Order) -> Result<u8, Fault>
     requires { IsReady order }
 {
     match order {
-        Order::Check(order) => check(rt, order),
-        Order::Simulate(order) => simulate_files(rt, order),
-        Order::Audit(order) => audit(rt, order),
-        Order::AuditRecord(order) => audit_of_record(rt, order),
+        Order::Check(order) => Ok(check(rt, order)),
+        Order::Simulate(order) => Ok(simulate_files(rt, order)),
+        Order::Audit(order) => Ok(audit(rt, order)),
+        Order::AuditRecord(order) => Ok(audit_of_record(rt, order)),
         Order::Loop(order) => loop_program(rt, order),
-        Order::Serve(order) => serve(rt, order),
-        Order::Run(order) => run_program(rt, order),
-        Order::Explain(topic) => explain_topic(rt, topic),
-        Order::Export(order) => export(rt, order),
-        Order::ExportRecord(order) => export_of_record(rt, order),
-        Order::Review(order) => review(rt, order),
+        Order::Serve(order) => Ok(serve(rt, order)?),
+        Order::Run(order) => Ok(run_program(rt, order)),
+        Order::Explain(topic) => Ok(explain_topic(rt, topic)),
+        Order::Export(order) => Ok(export(rt, order)),
+        Order::ExportRecord(order) => Ok(export_of_record(rt, order)),
+        Order::Review(order) => Ok(review(rt, order)?),
         Order::Ledger(order) => {
             let job = Job::Ledger(u64::from(order.connection));
-            read_recordings(rt, job, order.up, order.down)
+            Ok(read_recordings(rt, job, order.up, order.down)?)
         }
-        Order::Judge(order) => read_recordings(rt, Job::Judge, order.up, order.down),
-        Order::Watch(order) => watch(rt, order),
-        Order::Lower(order) => lower(rt, order),
+        Order::Judge(order) => Ok(read_recordings(rt, Job::Judge, order.up, order.down)?),
+        Order::Watch(order) => Ok(watch(rt, order)?),
+        Order::Lower(order) => Ok(lower(rt, order)?),
     }
 }
 
 /// Reads the command line and does what it asks for. The exit status of an order that was carried out.
-pub fn run<
-    R: Env
-        + Files<File = File>
-        + Input
-        + Print
-        + Eprint
-        + Clock
-        + Net<Listener = TcpListener, Stream = TcpStream>
-        + AllocGlobal
-        + Clone
-        + Drop,
->(rt: &R) -> Result<u8, Fault> {
+pub fn run(rt: HostRuntime) -> Result<u8, Fault> {
     let given = given_words(rt)?;
     if version::is_asked(given.as_slice()) {
         return version::tell(rt);

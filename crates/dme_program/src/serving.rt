@@ -1,47 +1,66 @@
-// The order `serve`: its session, with hands on files and sockets.
+// The orders `ledger`, `judge`, `serve`, `watch` and `run`: their sessions, with hands on files and sockets. Each ends with its exit status,
+// or with 70 once no more turns can be counted. A session and its hands are dropped by a call: checked in their place, the drops of all that
+// they own would take minutes.
+
+ghost use Rattle.std.specs.Prelude.{◌≡◌, true};
+ghost use Rattle.client_core.specs.Clients.{is_window};
 
 use crate::explaining::refused;
-use crate::faults::Fault;
 use crate::files::Sources;
 use dme_hands::RealHands;
 use dme_orders::{InputFiles, read_setup};
-use dme_words::Service;
-use services::{Service as Values, Session, run};
-use std::fs::File;
-use std::net::{Net, TcpListener, TcpStream};
-use std::rt::{Clock, Files};
+use dme_words::{Run, Service, Watch};
+use ledger_session::{Job, Session as Reading};
+use run_opening::Opening;
+use services::{Relay, RelaySession, Service as Values, Session};
+use std::alloc::AllocError;
 use tool_rack::Setup;
 
-/// The setup of a service.
-fn setup_of<R: Files + Input + AllocGlobal>(rt: &R, order: &mut Service) -> Result<Setup, Fault> {
-    let name = std::mem::replace(&mut order.setup, String::new(rt.alloc()));
-    let mut source = Sources::new(rt, order.explain).file(name);
+/// The status of a session that has not ended.
+const ENDLESS: u8 = 70;
+
+/// The order `ledger` or `judge`.
+#[inline(never)]
+pub fn read_recordings(
+    rt: HostRuntime,
+    job: Job,
+    up: String,
+    down: String,
+) -> Result<u8, AllocError> {
+    let mut session = Reading::new(rt.alloc(), job, up, down)?;
+    let mut hands = RealHands::new(rt);
+    let status = ledger_session::run(&mut session, &mut hands).unwrap_or(ENDLESS);
+    drop(session);
+    drop(hands);
+    Ok(status)
+}
+
+/// The setup of a service; if it is refused, standard error shows why, and this is the exit status.
+fn setup_of(rt: HostRuntime, name: String, is_explained: bool) -> Result<Setup, u8> {
+    let mut source = Sources::new(rt, is_explained).file(name);
     let read = read_setup(rt.alloc(), &mut source);
-    let file = source.into_file();
+    let files = InputFiles {
+        setup: source.into_file(),
+        ..InputFiles::unnamed(rt.alloc())
+    };
     match read {
         Ok(setup) => Ok(setup),
-        Err(fault) => {
-            let mut files = InputFiles::unnamed(rt.alloc());
-            files.setup = file;
-            Err(refused(rt.alloc(), fault, files, order.explain))
-        }
+        Err(fault) => Err(refused(rt, fault, files, is_explained)),
     }
 }
 
-/// The order `serve`: its exit status, or 70 once no more turns can be counted.
+fn serve_with(rt: HostRuntime, service: Values, setup: Setup) -> Result<u8, AllocError> {
+    let mut session = Session::new(rt.alloc(), service, setup)?;
+    let mut hands = RealHands::new(rt);
+    let status = services::run(&mut session, &mut hands).unwrap_or(ENDLESS);
+    drop(session);
+    drop(hands);
+    Ok(status)
+}
+
+/// The order `serve`.
 #[inline(never)]
-pub fn serve<
-    R: Files<File = File>
-        + Input
-        + Print
-        + Eprint
-        + Clock
-        + Net<Listener = TcpListener, Stream = TcpStream>
-        + AllocGlobal
-        + Clone
-        + Drop,
->(rt: &R, mut order: Service) -> Result<u8, Fault> {
-    let setup = setup_of(rt, &mut order)?;
+pub fn serve(rt: HostRuntime, order: Service) -> Result<u8, AllocError> {
     let service = Values {
         listen: order.listen,
         port: order.port,
@@ -53,9 +72,43 @@ pub fn serve<
         timeout: order.timeout,
         stop: order.stop,
     };
-    let mut hands = RealHands::new(rt.clone()?);
-    let mut session = Session::new(rt.alloc(), service, setup)?;
-    let status = run(&mut session, &mut hands).unwrap_or(70);
+    match setup_of(rt, order.setup, order.explain) {
+        Ok(setup) => serve_with(rt, service, setup),
+        Err(status) => Ok(status),
+    }
+}
+
+/// The order `watch`.
+#[inline(never)]
+pub fn watch(rt: HostRuntime, order: Watch) -> Result<u8, AllocError> {
+    let relay = Relay {
+        listen: order.listen,
+        host: order.host,
+        port: order.port,
+        told: order.told,
+        folder: order.record_bytes,
+        connections: order.connections,
+        trace: order.trace,
+        log: order.log,
+        timeout: order.timeout,
+    };
+    let mut session = RelaySession::new(rt.alloc(), relay)?;
+    let mut hands = RealHands::new(rt);
+    let status = services::run_relay(&mut session, &mut hands).unwrap_or(ENDLESS);
     drop(session);
+    drop(hands);
     Ok(status)
+}
+
+/// The order `run`.
+#[inline(never)]
+pub fn run_program(rt: HostRuntime, order: Run) -> u8
+    requires { is_window order.window ≡ true }
+{
+    let mut opening = Opening::new(rt.alloc(), order);
+    let mut hands = RealHands::new(rt);
+    let status = run_opening::run(&mut opening, &mut hands).unwrap_or(ENDLESS);
+    drop(opening);
+    drop(hands);
+    status
 }

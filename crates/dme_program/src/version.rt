@@ -21,7 +21,7 @@ pub fn is_asked(words: &[String]) -> bool {
 }
 
 /// Prints the version, the commit and the toolchain: the exit status.
-pub fn tell<R: Print>(rt: &R) -> Result<u8, Fault> {
+pub fn tell(rt: HostRuntime) -> Result<u8, Fault> {
     match println!(rt; "dme {VERSION}\ncommit {COMMIT}\ntoolchain {TOOLCHAIN}") {
         Ok(()) => Ok(0),
         Err(_) => Err(Fault::Order(OrderFault::CannotWriteOutput)),

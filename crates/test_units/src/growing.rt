@@ -3,26 +3,11 @@
 use crate::hands::{gives, has};
 use dme_hands::RealHands;
 use effects::{Answer, Cause, Effect, Growth};
-use std::fs::{self, File};
-use std::net::{Net, TcpListener, TcpStream};
-use std::rt::{Clock, Files};
+use std::fs;
 
 /// Whether the file of this name is locked: other hands cannot lock it.
-fn is_locked<
-    R: Files<File = File>
-        + Input
-        + Print
-        + Eprint
-        + Clock
-        + Net<Listener = TcpListener, Stream = TcpStream>
-        + AllocGlobal
-        + Clone
-        + Drop,
->(rt: &R, name: &str) -> bool {
-    let Ok(own) = rt.clone() else {
-        return false;
-    };
-    let mut other = RealHands::new(own);
+fn is_locked(rt: &HostRuntime, name: &str) -> bool {
+    let mut other = RealHands::new(*rt);
     gives(
         &mut other,
         Effect::Hold(Growth::Told, name),

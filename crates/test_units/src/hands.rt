@@ -2,30 +2,21 @@
 
 use dme_hands::RealHands;
 use effects::{Answer, Cause, Effect, Growth, Hands, Peer, Place, Slot};
-use std::fs::{self, File};
+use std::fs;
 use std::io::{Read, Write};
-use std::net::{Net, TcpListener, TcpStream};
-use std::rt::{Clock, Files};
+use std::net::{TcpListener, TcpStream};
+use std::os::unix::fs::symlink;
 
 const NAME: &str = "/tmp/dme_hands.test";
 
 /// What comes of an effect is as expected.
-pub fn gives<
-    R: Files<File = File>
-        + Input
-        + Print
-        + Eprint
-        + Clock
-        + Net<Listener = TcpListener, Stream = TcpStream>
-        + AllocGlobal
-        + Clone
-        + Drop,
->(hands: &mut RealHands<R>, effect: Effect<'_>, expected: Answer<'_>) -> bool {
+pub fn gives(hands: &mut RealHands, effect: Effect<'_>, expected: Answer<'_>) -> bool {
     hands.carry_out(effect);
     match (hands.answer(), expected) {
         (Answer::Done, Answer::Done) | (Answer::End, Answer::End) => true,
         (Answer::Missing, Answer::Missing) | (Answer::Nothing, Answer::Nothing) => true,
         (Answer::Found, Answer::Found) => true,
+        (Answer::Took(count), Answer::Took(other)) => count == other,
         (Answer::Failed(cause), Answer::Failed(other)) => cause == other,
         (Answer::Bytes(bytes), Answer::Bytes(others)) => bytes == others,
         _ => false,
@@ -94,13 +85,67 @@ fn the_standard_streams_are_read_and_written(rt: HostRuntime) {
         )
     );
     assert!(rt; gives(&mut hands, Effect::Read(Slot::Up), Answer::End));
+    assert!(rt; gives(&mut hands, Effect::Byte, Answer::End));
     assert!(rt; gives(&mut hands, Effect::Print(b"".as_slice()), Answer::Done));
     assert!(rt; gives(&mut hands, Effect::Say(""), Answer::Done));
     assert!(rt; gives(&mut hands, Effect::Exit(0), Answer::Done));
 }
 
+const FOLDER: &str = "/tmp/dme_hands.folder";
+
+const UP: &str = "/tmp/dme_hands.folder/1.up";
+
+#[test]
+fn a_file_in_a_folder_is_made_written_named_and_removed(rt: HostRuntime) {
+    assert!(rt; fs::create_dir(&rt, FOLDER).is_ok());
+    let mut hands = RealHands::new(rt);
+    let create = Effect::Create(Slot::Up, UP);
+    assert!(rt; gives(&mut hands, create, Answer::Done));
+    assert!(rt; gives(&mut hands, create, Answer::Failed(Cause::Taken)));
+    let save = Effect::Save(Slot::Up, b"line".as_slice());
+    assert!(rt; gives(&mut hands, save, Answer::Done));
+    assert!(rt; gives(&mut hands, Effect::Settle(Slot::Up), Answer::Done));
+    assert!(rt; has(&rt, UP, b"line".as_slice()));
+    let names = Answer::Bytes(b"1.up/".as_slice());
+    assert!(rt; gives(&mut hands, Effect::Names(FOLDER), names));
+    hands.carry_out(Effect::Node(UP));
+    assert!(rt; matches!(hands.answer(), Answer::Bytes(node) if node.len() == 16));
+    assert!(rt; gives(&mut hands, Effect::Remove(UP), Answer::Done));
+    assert!(rt; gives(&mut hands, Effect::Remove(UP), Answer::Missing));
+    assert!(rt; gives(&mut hands, Effect::Node(UP), Answer::Missing));
+    assert!(rt; gives(&mut hands, Effect::Sleep(1), Answer::Done));
+    assert!(rt; fs::remove_dir(&rt, FOLDER).is_ok());
+}
+
+const PLACE: &str = "/tmp/dme_hands.place";
+
+const LINKED: &str = "/tmp/dme_hands.linked";
+
+/// Whether a file of this name has this place or would have it.
+fn has_place(hands: &mut RealHands, name: &str, place: &str) -> bool {
+    gives(hands, Effect::Place(name), Answer::Bytes(place.as_bytes()))
+}
+
+#[test]
+fn the_place_of_a_file_has_no_links(rt: HostRuntime) {
+    assert!(rt; fs::create_dir(&rt, PLACE).is_ok());
+    assert!(rt; symlink(&rt, PLACE, LINKED).is_ok());
+    let mut hands = RealHands::new(rt);
+    let (name, linked) = ("/tmp/dme_hands.place/1.up", "/tmp/dme_hands.linked/1.up");
+    assert!(rt; has_place(&mut hands, linked, name));
+    assert!(rt; fs::write(&rt, name, b"line".as_slice()).is_ok());
+    assert!(rt; has_place(&mut hands, linked, name));
+    assert!(rt; gives(&mut hands, Effect::Place(LINKED), Answer::Found));
+    let nowhere = "/tmp/dme_hands.place/none/1.up";
+    assert!(rt; has_place(&mut hands, nowhere, nowhere));
+    assert!(rt; has_place(&mut hands, "/dme_hands.none", "/dme_hands.none"));
+    assert!(rt; fs::remove_file(&rt, name).is_ok());
+    assert!(rt; fs::remove_file(&rt, LINKED).is_ok());
+    assert!(rt; fs::remove_dir(&rt, PLACE).is_ok());
+}
+
 /// Whether the file of this name has this text.
-pub fn has<R: Files<File = File> + AllocGlobal>(rt: &R, name: &str, text: &[u8]) -> bool {
+pub fn has(rt: &HostRuntime, name: &str, text: &[u8]) -> bool {
     match fs::read(rt, name) {
         Ok(found) => found.as_slice() == text,
         Err(_) => false,
@@ -281,6 +326,17 @@ fn connections_that_are_joined_do_not_wait_alone(rt: HostRuntime) {
         assert!(rt; gives(&mut hands, limit, Answer::Done));
         assert!(rt; gives(&mut hands, Effect::Receive(peer), Answer::Nothing));
     }
+    let pass = Effect::Pass(Peer::Server, b"line".as_slice());
+    assert!(rt; gives(&mut hands, pass, Answer::Took(4)));
+    assert!(rt; gives(&mut hands, Effect::Wait(Some(60_000)), Answer::Done));
+    let line = Answer::Bytes(b"line".as_slice());
+    assert!(rt; gives(&mut hands, Effect::Receive(Peer::Client), line));
+    assert!(rt; gives(&mut hands, Effect::Close(Peer::Server), Answer::Done));
+    let nothing = Effect::Pass(Peer::Server, b"".as_slice());
+    assert!(rt; gives(&mut hands, nothing, Answer::Took(0)));
+    assert!(rt; gives(&mut hands, Effect::Wait(Some(60_000)), Answer::Done));
+    assert!(rt; gives(&mut hands, Effect::Receive(Peer::Client), Answer::End));
+    assert!(rt; gives(&mut hands, Effect::Leave, Answer::Done));
 }
 
 const JOINED: u16 = 29_113;
