@@ -3,5 +3,5 @@ use Rattle.services.specs.Sessions.{State}
 use Rattle.services.proofs.Keeping.{said_ready}
 use Rattle.services.proofs.sessions.Session.go_to_next.Goals as goal
 
-pub returns : goal.returns
-returns c = λ reply. said_ready _ _ reply c.requires (ap (λ (s : State). record s { stage = s.next }) c.self.view_is)
+pub returns-clause-goes : goal.returns-clause-goes
+returns-clause-goes c = λ reply. said_ready _ _ reply c.requires (ap (λ (s : State). record s { stage = s.next }) c.self.view_is)

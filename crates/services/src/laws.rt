@@ -1,0 +1,42 @@
+// What follows from the definitions. Each function has laws for its contract and does nothing.
+
+ghost use Rattle.std.specs.Prelude.{◌≡◌, ℕ, List, [], ◌∷◌, ◌++◌, true, false, None, Ok};
+ghost use Rattle.effects.specs.Effects.{Accept, Receive, Bytes, Done};
+ghost use Rattle.line_framing.specs.Next.{next_of};
+ghost use Rattle.protocol_model.specs.Ends.{ServerEnd};
+ghost use Rattle.protocol_model.specs.Server.{running_job};
+ghost use Rattle.server_core.specs.Serving.{may_turn};
+ghost use Rattle.services.specs.Serving.{Talk, Traffic, Served, IsServing, IsAt, passed};
+ghost use Rattle.services.specs.declared.stages.Stage.TheVariants as stage;
+ghost use Rattle.tool_rack.specs.Setups.{SetupValue};
+
+/// A server that was served so (`Served`), as that of a session is at any moment, whatever is answered:
+///
+/// - `read`, `idle`: each whole line that was received is read, and nothing waits or runs, before anything more is asked of the outside.
+pub fn servers_of_sessions_have_worked()
+    ensures read { (setup : SetupValue) (heard : List (List ℕ)) (written : List ℕ)
+        (e : ServerEnd) → Served setup heard written e → next_of e.input.rest ≡ Ok None }
+    ensures idle { (setup : SetupValue) (heard : List (List ℕ)) (written : List ℕ)
+        (e : ServerEnd) → Served setup heard written e
+        → (may_turn e.server ≡ false) × (running_job e.server ≡ None) }
+{}
+
+/// What is received joins what was before on the connection, of which nothing is on the next one; nothing is received while something is to
+/// be sent, or on no connection; no connection is taken before the last is left; the first has the number 1; and what is to be sent is just
+/// what the server has written.
+pub fn serving_rows()
+    ensures received { passed stage.Receiving [] (Bytes (7 ∷ []))
+        (record { heard = (5 ∷ []) ∷ (3 ∷ []) ∷ []; sent = [] })
+        ≡ record { heard = (5 ∷ 7 ∷ []) ∷ (3 ∷ []) ∷ []; sent = [] } }
+    ensures taken { passed stage.Accepting [] Done
+        (record { heard = (5 ∷ []) ∷ []; sent = 9 ∷ [] })
+        ≡ record { heard = [] ∷ (5 ∷ []) ∷ []; sent = [] } }
+    ensures unsent { (t : Talk) → t.out ≡ 7 ∷ [] → IsAt stage.Receiving t → ⊥ }
+    ensures off { (t : Talk) → t.end.server.on ≡ false → IsAt stage.Receiving t → ⊥ }
+    ensures unleft { (t : Talk) → t.end.server.on ≡ true → IsAt stage.Accepting t → ⊥ }
+    ensures second { (setup : SetupValue) (t : Talk) (f : Traffic) → f.heard ≡ [] ∷ []
+        → t.number ≡ 2 → IsServing setup t f → ⊥ }
+    ensures unwritten { (setup : SetupValue) (t : Talk) (f : Traffic)
+        (h : IsServing setup t f) → t.end.server.on ≡ true → f.sent ≡ [] → t.out ≡ 7 ∷ []
+        → h.written ≡ [] → ⊥ }
+{}
