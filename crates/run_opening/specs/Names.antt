@@ -79,5 +79,10 @@ IsSeen n (s ∷ seen) = (n ≡ s.at) ⊎ IsSeen n seen
 
 -- each file that is named, of those with smaller numbers, is among these, or lacks a place: its folder is not there, or it is a folder itself,
 -- a device or a pipe
-abbrev pub Covers : Run → ℕ → List ℕ → List Seen → Type 0
-Covers run at placeless seen = (n : ℕ) → n < at → is_some (name_at n run) ≡ true → IsIn n placeless ⊎ IsSeen n seen
+pub record Covers (run : Run) (at : ℕ) (placeless : List ℕ) (seen : List Seen) : Type 0 where
+  pub each : (n : ℕ) → n < at → is_some (name_at n run) ≡ true → IsIn n placeless ⊎ IsSeen n seen
+
+-- all files of the call that are named were looked for, and none of them disturbs a later one
+pub record AreCompared (run : Run) (placeless : List ℕ) (seen : List Seen) : Type 0 where
+  pub apart : AreApart seen
+  pub covers : Covers run 7 placeless seen

@@ -13,7 +13,7 @@ use Rattle.record_text.specs.Growths.{begun}
 use Rattle.record_text.specs.declared.opening.Beginning.{Beginning}
 use Rattle.run_session.specs.Records.{Start}
 use Rattle.tool_rack.specs.Setups.{SetupValue, setup_of}
-use Rattle.run_opening.specs.Names.{Seen, AreApart, Covers}
+use Rattle.run_opening.specs.Names.{Seen, AreApart, AreCompared, Covers}
 use Rattle.run_opening.specs.declared.stages.Text.{Text}
 use Rattle.run_opening.specs.declared.stages.Text.TheVariants as text
 use Rattle.run_opening.specs.declared.stages.Stage.{Stage}
@@ -132,20 +132,20 @@ typed before (Bytes bytes) o = record o { typed = before ++ bytes }
 typed before reply o = o
 
 -- the place of a file, or none; and its number on its device, if it exists
-abbrev pub placed : ℕ → Reply → Answered → Answered
-placed at (Bytes place) a = record a { place = place }
-placed at reply a = record a { placeless = at ∷ a.placeless }
+abbrev pub bytes_of : Reply → Option (List ℕ)
+bytes_of (Bytes bytes) = Some bytes
+bytes_of reply = None
 
-abbrev pub node_of : Reply → Option (List ℕ)
-node_of (Bytes node) = Some node
-node_of reply = None
+abbrev pub placed : ℕ → Option (List ℕ) → Answered → Answered
+placed at (Some place) a = record a { place = place }
+placed at None a = record a { placeless = at ∷ a.placeless }
 
-abbrev pub numbered : ℕ → Reply → Answered → Answered
-numbered at reply a = record a { seen = a.seen ++ record { at = at; place = a.place; node = node_of reply } ∷ [] }
+abbrev pub numbered : ℕ → Option (List ℕ) → Answered → Answered
+numbered at node a = record a { seen = a.seen ++ record { at = at; place = a.place; node = node } ∷ [] }
 
 abbrev pub outcome : Stage → Reply → Outside → Outside
-outcome (stage.Placing at) reply o = record o { answered = placed at reply o.answered }
-outcome (stage.Numbering at) reply o = record o { answered = numbered at reply o.answered }
+outcome (stage.Placing at) reply o = record o { answered = placed at (bytes_of reply) o.answered }
+outcome (stage.Numbering at) reply o = record o { answered = numbered at (bytes_of reply) o.answered }
 outcome stage.HoldingRecord reply o = if_done reply (record o { answered = record (o.answered) { has_record = true } }) o
 outcome stage.LookingFeatures reply o = record o { answered = record (o.answered) { is_other_features = is_unlocked_features reply } }
 outcome stage.HoldingFeatures reply o = if_done reply (record o { answered = record (o.answered) { has_features = true } }) o
@@ -172,12 +172,8 @@ AreFeaturesHeld run a = is_some run.features ≡ true → (a.has_features ≡ tr
 abbrev pub AreContactsHeld : Run → Answered → Type 0
 AreContactsHeld run a = is_some run.contacts ≡ true → (a.has_contacts ≡ true) ⊎ (a.is_other_contacts ≡ true)
 
--- all files of the call that are named were looked for, and none of them disturbs a later one
-abbrev pub AreCompared : Run → Answered → Type 0
-AreCompared run a = AreApart a.seen × Covers run 7 a.placeless a.seen
-
 pub record AreHeld (run : Run) (a : Answered) : Type 0 where
-  pub compared : AreCompared run a
+  pub compared : AreCompared run a.placeless a.seen
   pub recorded : IsRecordHeld run a
   pub features : AreFeaturesHeld run a
   pub contacts : AreContactsHeld run a
@@ -297,7 +293,7 @@ IsEmptyLine line = (line ≡ 10 ∷ []) ⊎ (line ≡ 13 ∷ 10 ∷ [])
 
 -- what was asked for is known, and what is locked so far
 abbrev pub HasNone : Run → Core → Answered → Type 0
-HasNone run c a = IsFresh run c × AreCompared run a
+HasNone run c a = IsFresh run c × AreCompared run a.placeless a.seen
 
 abbrev pub HasRecord : Run → Core → Answered → Type 0
 HasRecord run c a = HasNone run c a × IsRecordHeld run a

@@ -1,6 +1,6 @@
 // The files that a run names: none that is written may be another, or take the place of another's next text.
 
-ghost use Rattle.std.specs.Prelude.{◌≡◌, ◌↔◌, ◌≤◌, ◌<◌, true, map, length, OnOk, IsNone, IfSome, option_map};
+ghost use Rattle.std.specs.Prelude.{◌≡◌, ◌↔◌, ◌≤◌, ◌<◌, true, map, length, OnOk, IfOk, IsNone, IfSome, option_map};
 ghost use Rattle.effects.specs.Effects.{the_reply};
 ghost use Rattle.run_opening.specs.Names.{IsNext, Meet, AreOne, Disturbs, IsClear, AreNone, seen_of, name_at, given, or_nothing, is_written};
 ghost use Rattle.run_opening.specs.Openings as spec;
@@ -9,7 +9,7 @@ use crate::openings::Opening;
 use crate::stages::Stage;
 use dme_words::Run;
 use effects::Answer;
-use std::alloc::AllocError;
+use std::alloc::{AllocError, Global};
 
 /// How many files a run may name.
 const COUNT: usize = 7;
@@ -130,6 +130,28 @@ fn met(called: &[Called], other: &Called) -> Option<usize>
     None
 }
 
+/// The bytes of an answer.
+fn bytes_of(answer: Answer<'_>) -> Option<&[u8]>
+    ensures { option_map (λ bytes. bytes.now) result ≡ spec.bytes_of (the_reply answer.entry) }
+{
+    match answer {
+        Answer::Bytes(bytes) => Some(bytes),
+        Answer::Done | Answer::Missing | Answer::Found | Answer::Nothing | Answer::End => None,
+        Answer::At(_) | Answer::Took(_) | Answer::Failed(_) | Answer::Short => None,
+    }
+}
+
+/// They are kept. Fails only if out of memory.
+fn kept(alloc: Global, bytes: Option<&[u8]>) -> Result<Option<Vec<u8>>, AllocError>
+    ensures { IfOk result (λ kept. option_map (λ kept. kept.items) kept
+        ≡ option_map (λ bytes. bytes.now) bytes.entry) }
+{
+    match bytes {
+        Some(bytes) => Ok(Some(Vec::from_slice(alloc, bytes)?)),
+        None => Ok(None),
+    }
+}
+
 impl Opening {
     /// The name of a file.
     pub(crate) fn called_name(&self, at: usize) -> &str
@@ -139,7 +161,6 @@ impl Opening {
     }
 
     /// The next file that is named, from this one on, is to be compared with those before it.
-    #[tactic(auto, using(crate::proofs::Comparing::all_compared, crate::proofs::Comparing::on_next))]
     pub(crate) fn compare_next(&mut self, from: usize)
         ensures { spec.Compares from self.old self.new }
     {
@@ -150,19 +171,21 @@ impl Opening {
     }
 
     /// Its place, or that nothing is put there.
-    #[tactic(auto, using(crate::proofs::Comparing::placed_on, crate::proofs::Comparing::unplaced_on))]
+    #[tactic(auto, using(crate::proofs::Comparing::unplaced))]
     pub(crate) fn placed(&mut self, at: usize, answer: Answer<'_>) -> Result<(), AllocError>
         requires { self.old.stage ≡ Stage.Placing at }
         ensures { OnOk result (spec.GoesOn self.old (the_reply answer.entry) self.new) }
     {
-        match answer {
-            Answer::Bytes(place) => {
+        if let Answer::Short = answer {
+            return Err(AllocError);
+        }
+        match bytes_of(answer) {
+            Some(place) => {
                 self.text.clear();
                 self.text.extend_from_slice(place)?;
                 self.stage = Stage::Numbering(at);
             }
-            Answer::Short => return Err(AllocError),
-            _ => self.compare_next(at.saturating_add(1)),
+            None => self.compare_next(at.saturating_add(1)),
         }
         Ok(())
     }
@@ -173,17 +196,16 @@ impl Opening {
         requires { self.old.stage ≡ Stage.Numbering at }
         ensures { OnOk result (spec.GoesOn self.old (the_reply answer.entry) self.new) }
     {
-        let node = match answer {
-            Answer::Bytes(node) => Some(Vec::from_slice(self.alloc, node)?),
-            Answer::Short => return Err(AllocError),
-            _ => None,
-        };
+        if let Answer::Short = answer {
+            return Err(AllocError);
+        }
+        let node = kept(self.alloc, bytes_of(answer))?;
         let place = std::mem::replace(&mut self.text, Vec::new(self.alloc));
         self.add(Called { at, place, node })
     }
 
     /// The file joins those before it, unless it meets one of them.
-    #[tactic(auto, using(crate::proofs::Comparing::joins_on))]
+    #[tactic(auto, using(crate::proofs::Comparing::joined))]
     fn add(&mut self, called: Called) -> Result<(), AllocError>
         ensures { OnOk result (spec.Joins (seen_of called) self.old self.new) }
     {
