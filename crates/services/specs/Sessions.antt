@@ -10,7 +10,7 @@ use Rattle.effects.specs.declared.vocabulary.Peer.TheVariants.{Client}
 use Rattle.effects.specs.Effects.{Ask, Look, Make, Begin, Keep, Listen, Accept, Receive, Send, Leave, Replace, Print, Reply, Done, Found}
 use Rattle.services.specs.declared.stages.Stage.{Stage}
 use Rattle.services.specs.declared.stages.Stage.TheVariants as stage
-use Rattle.services.specs.Serving.{Talk, Traffic, passed, heard_more, IsServing, IsAt, IsFree}
+use Rattle.services.specs.Serving.{Talk, Traffic, passed, heard_more, is_over, IsServing, IsAt, IsFree}
 use Rattle.tool_rack.specs.Setups.{SetupValue}
 
 -- the contacts file, and what the server has done
@@ -48,15 +48,18 @@ Stands s = IsAt (due s) s.talk
 abbrev pub Rests : Talk → State → Type 0
 Rests t s = IsFree t → Stands s
 
--- its server stays one that was given just what was received, which is that at once
+-- its server stays one that was given just what was received, which is that at once, if it then is over or not
+abbrev pub Brings : (over : Bool) → State → Reply → State → Type 0
+Brings over s reply t = Stands s → (setup : SetupValue) (f : Traffic) → IsServing setup (is_over (due s)) s.talk f
+    → IsServing setup over t.talk (passed s.stage s.talk.out reply f)
+
 abbrev pub Serves : State → Reply → State → Type 0
-Serves s reply t = Stands s → (setup : SetupValue) (f : Traffic) → IsServing setup s.talk f
-    → IsServing setup t.talk (passed s.stage s.talk.out reply f)
+Serves s reply t = Brings (is_over (due t)) s reply t
 
 -- a piece that is received on a connection is given to the server at once
-abbrev pub Hears : Talk → List ℕ → Talk → Type 0
-Hears t piece u = t.end.server.on ≡ true → (setup : SetupValue) (f : Traffic) → IsServing setup t f
-    → IsServing setup u (record f { heard = heard_more piece f.heard })
+abbrev pub Hears : (over : Bool) → Talk → List ℕ → Talk → Type 0
+Hears over t piece u = t.end.server.on ≡ true → (setup : SetupValue) (f : Traffic) → IsServing setup false t f
+    → IsServing setup over u (record f { heard = heard_more piece f.heard })
 
 -- its server leaves its connection
 abbrev pub left : State → State

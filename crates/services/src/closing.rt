@@ -1,7 +1,8 @@
 // The end of a service: the contacts file gets its whole text, the contacts are printed, and what has failed is said.
 
-ghost use Rattle.std.specs.Prelude.{◌≡◌, OnOk};
+ghost use Rattle.std.specs.Prelude.{◌≡◌, true, OnOk};
 ghost use Rattle.services.specs.Sessions as spec;
+ghost use Rattle.services.specs.Serving as serving;
 
 use crate::sessions::Break;
 use crate::{Session, Stage};
@@ -32,6 +33,7 @@ impl Session {
         ensures plain { OnOk result (spec.due self.new ≡ self.new.stage) }
         ensures ends { OnOk result (spec.Ends self.new) }
         ensures talk { self.new.talk ≡ self.old.talk }
+        ensures over { OnOk result (serving.is_over (spec.due self.new) ≡ true) }
         ensures stands { OnOk result (spec.Stands self.new) }
     {
         if !self.contacts.is_named() {
@@ -46,6 +48,7 @@ impl Session {
         ensures plain { OnOk result (spec.due self.new ≡ self.new.stage) }
         ensures ends { OnOk result (spec.Ends self.new) }
         ensures talk { self.new.talk ≡ self.old.talk }
+        ensures over { OnOk result (serving.is_over (spec.due self.new) ≡ true) }
         ensures stands { OnOk result (spec.Stands self.new) }
     {
         self.rows.clear();
@@ -57,6 +60,7 @@ impl Session {
     pub(crate) fn close_on(&mut self, answer: Answer<'_>) -> Result<(), AllocError>
         ensures ends { OnOk result (spec.Ends self.new) }
         ensures talk { self.new.talk ≡ self.old.talk }
+        ensures over { OnOk result (serving.is_over (spec.due self.new) ≡ true) }
         ensures stands { OnOk result (spec.Stands self.new) }
     {
         match (self.stage, answer) {
@@ -94,6 +98,7 @@ impl Session {
     fn verdict(&mut self) -> Result<(), AllocError>
         ensures ends { OnOk result (spec.Ends self.new) }
         ensures talk { self.new.talk ≡ self.old.talk }
+        ensures over { OnOk result (serving.is_over (spec.due self.new) ≡ true) }
         ensures stands { OnOk result (spec.Stands self.new) }
     {
         let has_failed = self.contacts.has_failed || !self.unwritten.is_empty();

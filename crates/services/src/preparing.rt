@@ -138,6 +138,7 @@ impl Session {
     fn discarded(&mut self)
         ensures ends { spec.Ends self.new }
         ensures talk { self.new.talk ≡ self.old.talk }
+        ensures over { serving.is_over (spec.due self.new) ≡ true }
         ensures stands { spec.Stands self.new }
     {
         self.next = Stage::Exiting;
@@ -164,6 +165,8 @@ impl Session {
         requires { spec.is_beginning self.old.stage ≡ true }
         ensures goes { OnOk result (spec.GoesOn self.old (the_reply answer.entry) self.new) }
         ensures talk { self.new.talk ≡ self.old.talk }
+        ensures over { serving.is_over self.old.stage ≡ true
+            → OnOk result (serving.is_over (spec.due self.new) ≡ true) }
         ensures stands { OnOk result (spec.Stands self.old → spec.Stands self.new) }
     {
         match (self.stage, answer) {

@@ -2,7 +2,6 @@
 
 ghost use Rattle.std.specs.Prelude.{◌≡◌, true, false, [], OnOk, OnErr};
 ghost use Rattle.effects.specs.Effects.{the_reply};
-ghost use Rattle.protocol_model.specs.Ends.{serving_left};
 ghost use Rattle.services.specs.Sessions as spec;
 ghost use Rattle.services.specs.Serving as serving;
 
@@ -76,11 +75,14 @@ impl Session {
         self.leave();
     }
 
-    #[tactic(auto, using(crate::proofs::Served::left_serves, crate::proofs::Served::same_serves, crate::proofs::Served::heard_serves))]
+    #[tactic(auto, using(crate::proofs::Served::left_now, crate::proofs::Served::lost_now))]
     pub(crate) fn receive(&mut self, answer: Answer<'_>) -> Result<(), AllocError>
         requires { spec.is_receiving self.old.stage ≡ true }
         ensures goes { OnOk result (spec.GoesOn self.old (the_reply answer.entry) self.new) }
-        ensures served { spec.Serves self.old (the_reply answer.entry) self.new }
+        ensures served { OnOk result
+            (spec.Brings false self.old (the_reply answer.entry) self.new) }
+        ensures lost { OnErr result
+            (spec.Brings true self.old (the_reply answer.entry) (spec.left self.new)) }
         ensures stands { OnOk result (spec.Stands self.old → spec.Stands self.new) }
     {
         match (self.stage, answer) {
@@ -105,9 +107,9 @@ impl Session {
         ensures more { OnOk result (spec.IsMore self.old.core.ledger self.new.core.ledger) }
         ensures core { OnOk result (self.new.core
             ≡ record (self.old.core) { ledger = self.new.core.ledger }) }
-        ensures hears { OnOk result (spec.Hears self.old.talk piece.now self.new.talk) }
-        ensures lost { OnErr result (spec.Hears self.old.talk piece.now
-            (record (self.new.talk) { end = serving_left self.new.talk.end })) }
+        ensures hears { OnOk result (spec.Hears false self.old.talk piece.now self.new.talk) }
+        ensures lost { OnErr result (spec.Hears true self.old.talk piece.now
+            (spec.left self.new).talk) }
     {
         let mut source = Pieces::new(self.alloc);
         source.add(piece)?;
@@ -130,21 +132,20 @@ impl Session {
     }
 
     /// Bytes have come.
+    #[tactic(auto, using(crate::proofs::Served::lost_now, crate::proofs::Served::unheard_now, crate::proofs::Served::on_err))]
     fn came(&mut self, piece: &[u8]) -> Result<(), AllocError>
         ensures kept { OnOk result ((o : spec.Outside) → spec.IsKept self.old.core o
             → spec.Ready (spec.due self.new) self.new.core o) }
-        ensures hears { spec.Hears self.old.talk piece.now self.new.talk }
+        ensures hears { OnOk result (spec.Hears false self.old.talk piece.now self.new.talk) }
+        ensures lost { OnErr result (spec.Hears true self.old.talk piece.now
+            (spec.left self.new).talk) }
         ensures stands { OnOk result (spec.Stands self.new) }
     {
         self.wait.came(piece);
-        let worked = self.work(piece);
-        if worked.is_err() {
-            self.server.leave();
-        }
-        if let Some(fault) = worked? {
+        self.lines.went(Side::Client, piece)?;
+        if let Some(fault) = self.work(piece)? {
             self.break_off(Break::Fault(fault));
         }
-        self.lines.went(Side::Client, piece)?;
         self.note()
     }
 
@@ -250,11 +251,11 @@ impl Session {
         Ok(())
     }
 
-    #[tactic(auto, using(crate::proofs::Served::left_serves, crate::proofs::Served::same_serves, crate::proofs::Served::sent_serves))]
+    #[tactic(auto, using(crate::proofs::Served::left_now, crate::proofs::Served::sent_now))]
     pub(crate) fn answer(&mut self, answer: Answer<'_>) -> Result<(), AllocError>
         requires { spec.is_answering self.old.stage ≡ true }
         ensures goes { OnOk result (spec.GoesOn self.old (the_reply answer.entry) self.new) }
-        ensures served { spec.Serves self.old (the_reply answer.entry) self.new }
+        ensures served { spec.Brings false self.old (the_reply answer.entry) self.new }
         ensures stands { OnOk result (spec.Stands self.old → spec.Stands self.new) }
     {
         match (self.stage, answer) {

@@ -1,6 +1,6 @@
 // A session: what it asks, and what it does with an answer.
 
-ghost use Rattle.std.specs.Prelude.{◌≡◌, true, OnOk, IfOk};
+ghost use Rattle.std.specs.Prelude.{◌≡◌, true, false, OnOk, OnErr, IfOk};
 ghost use Rattle.effects.specs.Effects.{the_ask, the_reply, Reply};
 ghost use Rattle.protocol_model.specs.Ends.{serving_left};
 ghost use Rattle.services.specs.Sessions as spec;
@@ -95,7 +95,7 @@ impl Session {
     #[tactic(auto, using(crate::proofs::Served::new_served))]
     pub fn new(alloc: Global, service: Service, setup: Setup) -> Result<Session, AllocError>
         ensures ready { IfOk result (λ s. spec.Ready (spec.due s) s.core spec.untouched) }
-        ensures served { IfOk result (λ s. serving.IsServing setup s.talk serving.no_traffic) }
+        ensures served { IfOk result (λ s. serving.IsServing setup false s.talk serving.no_traffic) }
         ensures stands { IfOk result (λ s. spec.Stands s) }
     {
         let machine = Simulated::new(alloc, &setup)?;
@@ -219,7 +219,9 @@ impl Session {
 
     fn step(&mut self, answer: Answer<'_>) -> Result<(), AllocError>
         ensures goes { OnOk result (spec.GoesOn self.old (the_reply answer.entry) self.new) }
-        ensures served { spec.Serves self.old (the_reply answer.entry) self.new }
+        ensures served { OnOk result (spec.Serves self.old (the_reply answer.entry) self.new) }
+        ensures lost { OnErr result
+            (spec.Brings true self.old (the_reply answer.entry) (spec.left self.new)) }
         ensures stands { OnOk result (spec.Stands self.old → spec.Stands self.new) }
     {
         match self.stage {
@@ -247,6 +249,7 @@ impl Session {
     fn go_to_next(&mut self)
         requires { self.old.stage ≡ Stage.Saying }
         ensures goes { (reply : Reply) → spec.GoesOn self.old reply self.new }
+        ensures due { spec.due self.new ≡ spec.due self.old }
         ensures talk { self.new.talk ≡ self.old.talk }
         ensures stands { spec.Stands self.old → spec.Stands self.new }
     {
@@ -276,6 +279,7 @@ impl Session {
     fn give_up(&mut self)
         ensures ends { spec.Ends self.new }
         ensures talk { self.new.talk ≡ self.old.talk }
+        ensures over { serving.is_over (spec.due self.new) ≡ true }
         ensures stands { spec.Stands self.new }
     {
         self.tell(OUT_OF_MEMORY, 4);
@@ -288,6 +292,7 @@ impl Session {
     fn give_in(&mut self)
         ensures ends { spec.Ends self.new }
         ensures talk { self.new.talk ≡ self.old.talk }
+        ensures over { serving.is_over (spec.due self.new) ≡ true }
         ensures stands { spec.Stands self.new }
     {
         self.broken = Some(Break::Fault(PumpFault::Memory));
@@ -301,6 +306,7 @@ impl Session {
         ensures ends { spec.Ends self.new }
         ensures talk { self.new.talk
             ≡ record (self.old.talk) { end = serving_left self.old.talk.end } }
+        ensures over { serving.is_over (spec.due self.new) ≡ true }
         ensures stands { spec.Stands self.new }
     {
         self.server.leave();

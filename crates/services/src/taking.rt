@@ -43,11 +43,10 @@ impl Session {
         Ok(())
     }
 
-    #[tactic(auto, using(crate::proofs::Served::same_serves))]
     pub(crate) fn take_next(&mut self, answer: Answer<'_>) -> Result<(), AllocError>
         requires { spec.is_taking self.old.stage ≡ true }
         ensures goes { OnOk result (spec.Continues self.old self.new) }
-        ensures served { spec.Serves self.old (the_reply answer.entry) self.new }
+        ensures served { spec.Brings false self.old (the_reply answer.entry) self.new }
         ensures stands { OnOk result (spec.Stands self.old → spec.Stands self.new) }
     {
         match (self.stage, answer) {
@@ -69,11 +68,11 @@ impl Session {
     }
 
     /// A connection is taken: the server comes to it.
-    #[tactic(auto, using(crate::proofs::Served::accepted_serves, crate::proofs::Served::refused_serves))]
+    #[tactic(auto, using(crate::proofs::Served::accepted_now, crate::proofs::Served::refused_now))]
     fn taken(&mut self) -> Result<(), AllocError>
         requires { self.old.stage ≡ Stage.Accepting }
         ensures goes { OnOk result (spec.Continues self.old self.new) }
-        ensures served { spec.Serves self.old Done self.new }
+        ensures served { spec.Brings false self.old Done self.new }
         ensures stands { OnOk result (spec.Stands self.old → spec.Stands self.new) }
     {
         self.number = self.number.saturating_add(1);

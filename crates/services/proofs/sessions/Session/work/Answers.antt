@@ -11,7 +11,7 @@ pub returns-in_err-add-clause-lost : goal.returns-in_err-add-clause-lost
 returns-in_err-add-clause-lost c =
     let t : Talk = c.args.self.now.talk in
     let u : Talk = record { end = serving_left t.end; shifts = t.shifts; number = t.number; out = t.out } in
-    on_err c.from_residual.result (Hears t c.args.piece.now u) (unheard_lost t u c.args.piece.now refl refl refl)
+    on_err c.from_residual.result (Hears true t c.args.piece.now u) (unheard_lost t u c.args.piece.now refl refl refl)
 
 pub returns-in_err-extend_from_slice-in-Ok-clause-lost : goal.returns-in_err-extend_from_slice-in-Ok-clause-lost
 returns-in_err-extend_from_slice-in-Ok-clause-lost c =
@@ -22,8 +22,8 @@ returns-in_err-extend_from_slice-in-Ok-clause-lost c =
       number = c.self.inside.number;
       out = c.extend_from_slice.new.self.items;
     } in
-    on_err c.from_residual-in_err-extend_from_slice-in-Ok.result (Hears c.args.self.now.talk c.args.piece.now u)
-    (subst (λ (s : State). Hears s.talk c.args.piece.now u) c.self.view_is
+    on_err c.from_residual-in_err-extend_from_slice-in-Ok.result (Hears true c.args.self.now.talk c.args.piece.now u)
+    (subst (λ (s : State). Hears true s.talk c.args.piece.now u) c.self.view_is
     (moved_lost t u c.serve_turns-turned.new.server.end c.args.piece.now _ _ _ _ _
     (one_source c.new-source.result c.add.new.self c.args.piece.now (ap (λ (p : PiecesValue). p.pieces) c.new-source.ensures) c.in_ok-add.ensures.stored)
     (ap Some c.new-sink.ensures.taken) c.in-Ok.ensures.moved.whole refl c.in-Ok.ensures.keeps refl))
@@ -42,7 +42,7 @@ returns-in-Ok-clause-hears c =
       number = c.self.inside.number;
       out = c.extend_from_slice.new.self.items;
     } in
-    subst (λ (s : State). Hears s.talk c.args.piece.now u) c.self.view_is
+    subst (λ (s : State). Hears false s.talk c.args.piece.now u) c.self.view_is
     (moved_hears t u c.args.piece.now _ _ _ _ _
     (one_source c.new-source.result c.add.new.self c.args.piece.now (ap (λ (p : PiecesValue). p.pieces) c.new-source.ensures) c.in_ok-add.ensures.stored)
     (ap Some c.new-sink.ensures.taken) c.in-Ok.ensures.moved.whole c.in-Ok.ensures.keeps refl
@@ -64,9 +64,9 @@ returns c =
     record {
       more = all_ok c.of_turn.result _ (more.0, ap (λ e. e.server.ledger) front.leaves ∙ (more.1 ∙ ap (λ (s : State). s.core.ledger ++ more.0) c.self.view_is));
       core = search rules;
-      hears = subst (λ (s : State). OnOk c.of_turn.result (Hears s.talk c.args.piece.now u)) c.self.view_is
+      hears = subst (λ (s : State). OnOk c.of_turn.result (Hears false s.talk c.args.piece.now u)) c.self.view_is
           (broken_hears c.of_turn.result t u c.args.piece.now _ _ _ _ _ from (ap Some c.new-sink.ensures.taken) c.of_turn.ensures front c.in-Err.ensures.keeps refl);
-      lost = on_err c.of_turn.result (Hears c.args.self.now.talk c.args.piece.now v) (subst (λ (s : State). Hears s.talk c.args.piece.now v) c.self.view_is
+      lost = on_err c.of_turn.result (Hears true c.args.self.now.talk c.args.piece.now v) (subst (λ (s : State). Hears true s.talk c.args.piece.now v) c.self.view_is
           (stopped_lost t v c.serve_turns-turned.new.server.end c.args.piece.now _ _ _ _ _ from (ap Some c.new-sink.ensures.taken) front refl
           c.in-Err.ensures.keeps refl));
     }
