@@ -131,7 +131,7 @@ fn met(called: &[Called], other: &Called) -> Option<usize>
 }
 
 /// The bytes of an answer.
-fn bytes_of(answer: Answer<'_>) -> Option<&[u8]>
+fn bytes_of<'a>(answer: Answer<'a>) -> Option<&'a [u8]>
     ensures { option_map (λ bytes. bytes.now) result ≡ spec.bytes_of (the_reply answer.entry) }
 {
     match answer {
@@ -205,7 +205,6 @@ impl Opening {
     }
 
     /// The file joins those before it, unless it meets one of them.
-    #[tactic(auto, using(crate::proofs::Comparing::joined))]
     fn add(&mut self, called: Called) -> Result<(), AllocError>
         ensures { OnOk result (spec.Joins (seen_of called) self.old self.new) }
     {

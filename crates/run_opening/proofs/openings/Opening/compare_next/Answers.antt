@@ -1,4 +1,5 @@
 use Rattle.run_opening.proofs.Names.{State, subst, sym}
+use Rattle.run_opening.specs.Names.{AreNone}
 use Rattle.run_opening.specs.Openings.{IsComparing}
 use Rattle.run_opening.proofs.Comparing.{all_compared, on_next}
 use Rattle.run_opening.proofs.openings.Opening.compare_next.Goals as goal
@@ -8,6 +9,5 @@ returns-in-Some c = λ run o h. on_next run c.args.from c.in-Some.at _ _ o.answe
     (subst (λ (s : State). IsComparing run c.args.from s.called s.core o.answered) (sym c.self.view_is) h) c.in-Some.ensures.some
 
 pub returns-in-None : goal.returns-in-None
-returns-in-None c = λ run o h.
-    let k = subst (λ (s : State). IsComparing run c.args.from s.called s.core o.answered) (sym c.self.view_is) h in
-    c.hold_record.ensures run o (k.fresh, all_compared run c.args.from _ _ o.answered k c.in-None.ensures.none)
+returns-in-None c = λ run o h. c.hold_record.ensures run o (h.fresh, all_compared run c.args.from _ _ o.answered h
+    (subst (λ (s : State). AreNone c.args.from 7 s.core.order) c.self.view_is (c.in-None.ensures.none tt)))
