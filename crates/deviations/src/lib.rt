@@ -19,10 +19,11 @@ mod records;
 pub mod rows;
 
 pub use along::{Deviation, along_normal, one_length_is_along};
-pub use compared::limit_lines;
+pub use compared::{compared_count, first_rows, later_rows, limit_lines, out_count, worst_words};
 pub use faults::RowsFault;
 pub use forms::Form;
 pub use judged::{row_verdict, verdict_word};
 pub use objects::write_json;
+pub use printed::Micrometres;
 pub use records::write_csv;
 pub use rows::{Row, rows_of};
