@@ -1,0 +1,46 @@
+-- The parts of a page, one after another, and a page that was written into nothing.
+use Rattle.std.proofs.Common.{[], ◌++◌, ◌<◌, ◌≡◌, append_assoc, arith, length, List, Option, refl, subst, sym, ℕ}
+use Rattle.contact_ledger.specs.declared.features.Feature.{Feature}
+use Rattle.deviations.specs.Rows.{Row}
+use Rattle.dmis_program.specs.Meaning.{Meaning}
+use Rattle.drawings.specs.Drawing.{IsDrawing}
+use Rattle.drawings.specs.Texts.{Adds}
+use Rattle.part_limits.specs.declared.entries.Limit.{Limit}
+use Rattle.part_report.specs.Markup.{between, markup}
+use Rattle.part_report.specs.Bars.{greatest}
+use Rattle.part_report.specs.Pages.{PageFacts, IsPage, end_text, head_text, summary_text}
+use Rattle.part_report.specs.Sections.{sections_text}
+
+five : (old head summary sections drawing end : List ℕ) → ((((old ++ head) ++ summary) ++ sections) ++ drawing) ++ end
+    ≡ old ++ (head ++ (summary ++ (sections ++ (drawing ++ end))))
+five old head summary sections drawing end = simp append_assoc
+
+joined : (old head summary sections drawing end headed summed listed drawn new : List ℕ) → headed ≡ old ++ head → summed ≡ headed ++ summary
+    → listed ≡ summed ++ sections → drawn ≡ listed ++ drawing → new ≡ drawn ++ end
+    → new ≡ old ++ (head ++ (summary ++ (sections ++ (drawing ++ end))))
+joined old head summary sections drawing end headed summed listed drawn new h s l d e =
+    rw e (rw d (rw l (rw s (rw h (five old head summary sections drawing end)))))
+
+module _ (facts : PageFacts) (program : Meaning) (features : List Feature) (limits : Option (List Limit)) (rows : List Row) where
+  pub page_added : (text : List ℕ) → Adds (IsPage facts program features limits rows) [] text
+      → IsPage facts program features limits rows text
+  page_added text a = subst (IsPage facts program features limits rows) (sym a.added) a.is
+
+  head_has_text : (part rest : List ℕ) → 0 < length (head_text part ++ rest)
+  unfolding head_text between markup
+  head_has_text part rest = omega arith
+
+  pub page_has_text : (text : List ℕ) → IsPage facts program features limits rows text → 0 < length text
+  page_has_text text p = subst (λ (t : List ℕ). 0 < length t) (sym p.is) (head_has_text facts.part _)
+
+  pub paged : (old headed summed listed drawn new : List ℕ) → headed ≡ old ++ head_text facts.part
+      → summed ≡ headed ++ summary_text facts (length features) program.features limits rows
+      → listed ≡ summed ++ sections_text (greatest rows) limits (length features) program.features rows → Adds (IsDrawing program features) listed drawn
+      → new ≡ drawn ++ end_text → Adds (IsPage facts program features limits rows) old new
+  paged old headed summed listed drawn new h s l d e = record {
+    text = head_text facts.part ++ (summary_text facts (length features) program.features limits rows
+        ++ (sections_text (greatest rows) limits (length features) program.features rows ++ (d.text ++ end_text)));
+    is = record { drawing = d.text; drawn = d.is; is = refl };
+    added = joined old (head_text facts.part) (summary_text facts (length features) program.features limits rows) (sections_text (greatest rows) limits (length features) program.features rows)
+        d.text end_text headed summed listed drawn new h s l d.added e;
+  }

@@ -1,0 +1,10 @@
+use Rattle.part_report.proofs.Names.{on_ok_weaker}
+use Rattle.part_report.proofs.Filled.{paged}
+use Rattle.part_report.proofs.pages.put_page.Goals as goal
+
+pub returns : goal.returns
+returns c = on_ok_weaker c.put_end.result
+    (λ e. paged c.args.facts.now c.args.program.now c.args.features.now c.args.limits.now c.args.rows.now
+    c.args.out.now.items c.put_head.new.out.items c.put_first.new.out.items c.put_features.new.out.items c.write_drawing.new.out.items
+    c.put_end.new.out.items c.in_ok-put_head.ensures c.in_ok-put_first.ensures c.in_ok-put_features.ensures c.in_ok-write_drawing.ensures.ok e)
+    c.put_end.ensures

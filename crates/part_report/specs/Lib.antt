@@ -1,0 +1,5 @@
+pub mod Markup
+pub mod Bars
+pub mod Sections
+pub mod Pages
+pub mod Examples

@@ -1,0 +1,93 @@
+// Bars for deviations.
+
+ghost use Rattle.std.specs.Prelude.{◌≡◌, ◌≤◌, ◌<◌, ◌^◌, ◌++◌, decimal, unsigned_abs, OnOk};
+ghost use Rattle.part_report.specs.Bars.{magnitude, greatest, bar_length, turn, bar_text, bar_cell};
+
+use crate::markup::{put_count, put_markup};
+use deviations::Row;
+use std::alloc::{AllocError, Global};
+
+fn magnitude(row: &Row<'_>) -> u128
+    ensures value { result ≡ magnitude row.now.along }
+    ensures within { result ≤ 2 ^ 64 }
+{
+    match row.along() {
+        Some(along) => along.unsigned_abs(),
+        None => 0,
+    }
+}
+
+/// The greatest magnitude of the deviations of rows, at least one micrometre.
+pub(crate) fn greatest(rows: &[Row<'_>]) -> u128
+    ensures value { result ≡ greatest rows.now }
+    ensures some { 0 < result }
+    ensures within { result ≤ 2 ^ 64 }
+{
+    let mut most = 1;
+    for row in rows {
+        most = most.max(magnitude(row));
+    }
+    most
+}
+
+fn bar_length(most: u128, magnitude: u128) -> u128
+    requires some { 0 < most }
+    requires magnitude { magnitude ≤ 2 ^ 64 }
+    ensures value { result ≡ bar_length most magnitude }
+    ensures within { result ≤ 50 }
+{
+    (magnitude * 50 / most).min(50)
+}
+
+fn turn(along: i128) -> &'static [u8]
+    ensures { result.now ≡ turn along }
+{
+    if along < 0 { b"-1" } else { b"1" }
+}
+
+fn put_turn(out: &mut Vec<u8>, along: i128) -> Result<(), AllocError>
+    ensures { OnOk result (out.new.items ≡ out.old.items ++ turn along) }
+{
+    out.extend_from_slice(turn(along))
+}
+
+fn put_length(alloc: Global, out: &mut Vec<u8>, most: u128, along: i128) -> Result<(), AllocError>
+    requires some { 0 < most }
+    requires within { unsigned_abs along ≤ 2 ^ 64 }
+    ensures { OnOk result (out.new.items
+        ≡ out.old.items ++ decimal (bar_length most (unsigned_abs along))) }
+{
+    put_count(alloc, out, bar_length(most, along.unsigned_abs()) as usize)
+}
+
+#[tactic(auto, unfolding(crate::specs::Bars::bar_text))]
+fn put_bar(alloc: Global, out: &mut Vec<u8>, most: u128, along: i128) -> Result<(), AllocError>
+    requires some { 0 < most }
+    requires within { unsigned_abs along ≤ 2 ^ 64 }
+    ensures { OnOk result (out.new.items ≡ out.old.items ++ bar_text most along) }
+{
+    put_markup(
+        out,
+        b"<td><svg class=\"bar\" viewBox=\"-51 -5 102 10\"><path d=\"M0-5V5\"/><g transform=\"scale(",
+    )?;
+    put_turn(out, along)?;
+    put_markup(out, b" 1)\"><rect y=\"-3\" height=\"6\" width=\"")?;
+    put_length(alloc, out, most, along)?;
+    put_markup(out, b"\"/></g></svg></td>")
+}
+
+/// Appends the bar of a row in a cell of its own, of a part whose greatest deviation is this.
+pub(crate) fn put_bar_cell(
+    alloc: Global,
+    out: &mut Vec<u8>,
+    most: u128,
+    row: &Row<'_>,
+) -> Result<(), AllocError>
+    requires { 0 < most }
+    ensures { OnOk result (out.new.items ≡ out.old.items ++ bar_cell most row.now.along) }
+{
+    match row.along() {
+        Some(along) => put_bar(alloc, out, most, along),
+        None => put_markup(out, b"<td></td>"),
+    }
+}

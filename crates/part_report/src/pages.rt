@@ -1,0 +1,506 @@
+// The whole page.
+
+ghost use Rattle.std.specs.Prelude.{◌≡◌, ◌-◌, ◌==◌, ◌<◌, ◌++◌, decimal, drop, length, IfOk, OnOk};
+ghost use Rattle.std.specs.List.{flat_map};
+ghost use Rattle.drawings.specs.Texts.{Adds};
+ghost use Rattle.deviations.specs.Compared.{compared_count, out_count};
+ghost use Rattle.part_report.specs.Bars.{greatest};
+ghost use Rattle.part_report.specs.Markup.{markup};
+ghost use Rattle.part_report.specs.Sections.{sections_text};
+ghost use Rattle.part_report.specs.Pages.{
+  colours,
+  style,
+  title,
+  head_text,
+  complete_start,
+  missing_label,
+  complete_text,
+  within_start,
+  within_text,
+  limits_text,
+  audit_start,
+  verdict_text,
+  errors_text,
+  audit_text,
+  names_text,
+  summary_text,
+  end_text,
+  IsPage,
+};
+
+use crate::bars::greatest;
+use crate::markup::{put_between, put_count, put_markup};
+use crate::sections::put_sections;
+use contact_ledger::Feature;
+use deviations::{Row, compared_count, out_count};
+use dmis_program::{Program, Wanted};
+use drawings::write_drawing;
+use part_limits::Limits;
+use std::alloc::{AllocError, Global};
+use std::marker::Model;
+
+/// What a page has besides its points.
+#[derive(Drop)]
+pub struct Facts<'a> {
+    /// The part, as the record has it.
+    pub part: &'a [u8],
+    /// The name of the program.
+    pub program: &'a [u8],
+    /// Whether each feature has its run of contacts.
+    pub sound: bool,
+    /// The line of the audit.
+    pub verdict: &'a [u8],
+    /// A line for each error that the server reported during the run of a feature.
+    pub errors: &'a [u8],
+}
+
+impl<'a> Model for Facts<'a> {
+    ghost use Rattle.deviations.specs.Compared.{compared_count, out_count};
+    ghost use Rattle.part_report.specs.Bars.{greatest};
+    ghost use Rattle.part_report.specs.Markup.{markup};
+    ghost use Rattle.part_report.specs.Sections.{sections_text};
+    ghost use Rattle.part_report.specs.Pages.{PageFacts};
+
+    ghost Value = { PageFacts };
+
+    ghost view = { λ f. record {
+      part = f.part.now;
+      program = f.program.now;
+      sound = f.sound;
+      verdict = f.verdict.now;
+      errors = f.errors.now;
+    } };
+}
+
+impl<'a> Facts<'a> {
+    fn part(&self) -> &[u8]
+        ensures { result.now ≡ self.now.part }
+    {
+        self.part
+    }
+
+    fn program(&self) -> &[u8]
+        ensures { result.now ≡ self.now.program }
+    {
+        self.program
+    }
+
+    fn is_sound(&self) -> bool
+        ensures { result ≡ self.now.sound }
+    {
+        self.sound
+    }
+
+    fn verdict(&self) -> &[u8]
+        ensures { result.now ≡ self.now.verdict }
+    {
+        self.verdict
+    }
+
+    fn errors(&self) -> &[u8]
+        ensures { result.now ≡ self.now.errors }
+    {
+        self.errors
+    }
+}
+
+#[tactic(auto, unfolding(crate::specs::Pages::colours))]
+fn put_colours(out: &mut Vec<u8>) -> Result<(), AllocError>
+    ensures { OnOk result (out.new.items ≡ out.old.items ++ colours) }
+{
+    put_markup(
+        out,
+        b":root{color-scheme:light dark;--yes:#17733f;--no:#b3261e;--open:#8a5a00;--bar:#3b6ea5}\n",
+    )?;
+    put_markup(
+        out,
+        b"@media screen and (prefers-color-scheme:dark){:root{--yes:#5bd08f;--no:#ff8a80;--open:#e3b341;--bar:#8ab4e8}}\n",
+    )?;
+    put_markup(
+        out,
+        b"body{font:14px/1.4 sans-serif;max-width:64em;margin:1.5em auto;padding:0 1em}.yes,.no,.open{padding-left:.6em;",
+    )?;
+    put_markup(
+        out,
+        b"border-left:.5em solid;margin:.4em 0}.yes{color:var(--yes)}.no{color:var(--no)}.open{color:var(--open)}\n",
+    )
+}
+
+#[tactic(auto, unfolding(crate::specs::Pages::style))]
+fn put_style(out: &mut Vec<u8>) -> Result<(), AllocError>
+    ensures { OnOk result (out.new.items ≡ out.old.items ++ style) }
+{
+    put_colours(out)?;
+    put_markup(
+        out,
+        b"table{border-collapse:collapse;width:100%;font-variant-numeric:tabular-nums}td,th{padding:0 .5em;text-align:right}\n",
+    )?;
+    put_markup(
+        out,
+        b"td,th[colspan]{border-bottom:1px solid #8886}.out td:last-child{color:var(--no);font-weight:bold}pre{white-space:pre-wrap}\n",
+    )?;
+    put_markup(
+        out,
+        b".bar{width:7em;vertical-align:middle}.bar path{stroke:currentColor}.bar rect{fill:var(--bar)}\n",
+    )?;
+    put_markup(
+        out,
+        b".out rect{fill:var(--no)}body>svg{max-width:100%;height:auto;break-inside:avoid;margin-top:1em}\n",
+    )?;
+    put_markup(
+        out,
+        b"h2{break-after:avoid}tr{break-inside:avoid}@page{size:A4;margin:12mm}@media print{body{font-size:8pt;padding:0}}\n",
+    )
+}
+
+fn put_title(out: &mut Vec<u8>, facts: &Facts<'_>) -> Result<(), AllocError>
+    ensures { OnOk result (out.new.items ≡ out.old.items ++ title facts.now.part) }
+{
+    put_between(
+        out,
+        b"<!DOCTYPE html>\n<html lang=\"en\"><head><meta charset=\"utf-8\"><title>Part ",
+        facts.part(),
+        b"</title>\n<style>\n",
+    )
+}
+
+#[tactic(auto, unfolding(crate::specs::Pages::head_text))]
+fn put_head(out: &mut Vec<u8>, facts: &Facts<'_>) -> Result<(), AllocError>
+    ensures { OnOk result (out.new.items ≡ out.old.items ++ head_text facts.now.part) }
+{
+    put_title(out, facts)?;
+    put_style(out)?;
+    put_markup(out, b"</style></head><body>\n")
+}
+
+fn complete_start(measured: usize, asked: usize) -> &'static [u8]
+    ensures { result.now ≡ complete_start measured asked }
+{
+    if measured == asked {
+        b"<p class=\"yes\"><b>Complete:</b> "
+    } else {
+        b"<p class=\"no\"><b>Not complete:</b> "
+    }
+}
+
+/// The features after the first ones.
+#[tactic(auto, using(std::proofs::lemmas::List::drop_all))]
+fn missing(wanted: &[Wanted], measured: usize) -> &[Wanted]
+    ensures { result.now ≡ drop measured wanted.now }
+{
+    if measured > wanted.len() {
+        let (_, nothing) = wanted.split_at(wanted.len());
+        return nothing;
+    }
+    let (_, missing) = wanted.split_at(measured);
+    missing
+}
+
+fn put_label(out: &mut Vec<u8>, feature: &Wanted) -> Result<(), AllocError>
+    ensures { OnOk result (out.new.items ≡ out.old.items ++ missing_label feature.now) }
+{
+    put_between(out, b" <b>", feature.label.as_bytes(), b"</b> is missing.")
+}
+
+fn put_labels(out: &mut Vec<u8>, wanted: &[Wanted]) -> Result<(), AllocError>
+    ensures { OnOk result (out.new.items ≡ out.old.items ++ flat_map missing_label wanted.now) }
+{
+    for feature in wanted {
+        put_label(out, feature)?;
+    }
+    Ok(())
+}
+
+fn put_missing(out: &mut Vec<u8>, measured: usize, wanted: &[Wanted]) -> Result<(), AllocError>
+    ensures { OnOk result (out.new.items
+        ≡ out.old.items ++ flat_map missing_label (drop measured wanted.now)) }
+{
+    put_labels(out, missing(wanted, measured))
+}
+
+fn put_complete_start(
+    out: &mut Vec<u8>,
+    measured: usize,
+    wanted: &[Wanted],
+) -> Result<(), AllocError>
+    ensures { OnOk result (out.new.items
+        ≡ out.old.items ++ markup (complete_start measured (length wanted.now))) }
+{
+    put_markup(out, complete_start(measured, wanted.len()))
+}
+
+#[tactic(auto, unfolding(crate::specs::Pages::complete_text))]
+fn put_complete(
+    alloc: Global,
+    out: &mut Vec<u8>,
+    measured: usize,
+    wanted: &[Wanted],
+) -> Result<(), AllocError>
+    ensures { OnOk result (out.new.items ≡ out.old.items ++ complete_text measured wanted.now) }
+{
+    put_complete_start(out, measured, wanted)?;
+    put_count(alloc, out, measured)?;
+    put_markup(out, b" of ")?;
+    put_count(alloc, out, wanted.len())?;
+    put_markup(out, b" features were measured.")?;
+    put_missing(out, measured, wanted)?;
+    put_markup(out, b"</p>\n")
+}
+
+fn within_start(outside: usize, compared: usize, complete: bool) -> &'static [u8]
+    ensures { result.now ≡ within_start outside compared complete }
+{
+    if outside != 0 {
+        b"<p class=\"no\"><b>Out of limits:</b> "
+    } else if compared == 0 {
+        b"<p class=\"open\"><b>Not compared with limits:</b> "
+    } else if complete {
+        b"<p class=\"yes\"><b>Within limits:</b> "
+    } else {
+        b"<p class=\"open\"><b>Within limits so far:</b> "
+    }
+}
+
+fn put_within_start(
+    out: &mut Vec<u8>,
+    limits: &Limits,
+    complete: bool,
+    rows: &[Row<'_>],
+) -> Result<(), AllocError>
+    ensures { OnOk result (out.new.items ≡ out.old.items
+        ++ markup (within_start (out_count limits.now rows.now)
+        (compared_count limits.now rows.now) complete)) }
+{
+    let start = within_start(
+        out_count(limits, rows),
+        compared_count(limits, rows),
+        complete,
+    );
+    put_markup(out, start)
+}
+
+fn put_not_compared(
+    alloc: Global,
+    out: &mut Vec<u8>,
+    limits: &Limits,
+    rows: &[Row<'_>],
+) -> Result<(), AllocError>
+    ensures { OnOk result (out.new.items ≡ out.old.items
+        ++ decimal (length rows.now - compared_count limits.now rows.now)) }
+{
+    let compared = compared_count(limits, rows);
+    put_count(alloc, out, rows.len().saturating_sub(compared))
+}
+
+#[tactic(auto, unfolding(crate::specs::Pages::within_text))]
+fn put_within(
+    alloc: Global,
+    out: &mut Vec<u8>,
+    limits: &Limits,
+    complete: bool,
+    rows: &[Row<'_>],
+) -> Result<(), AllocError>
+    ensures { OnOk result (out.new.items
+        ≡ out.old.items ++ within_text limits.now complete rows.now) }
+{
+    put_within_start(out, limits, complete, rows)?;
+    put_count(alloc, out, out_count(limits, rows))?;
+    put_markup(out, b" of ")?;
+    put_count(alloc, out, compared_count(limits, rows))?;
+    put_markup(out, b" compared points are out, ")?;
+    put_not_compared(alloc, out, limits, rows)?;
+    put_markup(
+        out,
+        b" not compared. No fit and no other tolerance was evaluated.</p>\n",
+    )
+}
+
+fn put_limits(
+    alloc: Global,
+    out: &mut Vec<u8>,
+    limits: &Option<Limits>,
+    complete: bool,
+    rows: &[Row<'_>],
+) -> Result<(), AllocError>
+    ensures { OnOk result (out.new.items
+        ≡ out.old.items ++ limits_text limits.now complete rows.now) }
+{
+    match limits {
+        Some(limits) => put_within(alloc, out, limits, complete, rows),
+        None => put_markup(
+            out,
+            b"<p class=\"open\"><b>Not compared with limits:</b> none were named.</p>\n",
+        ),
+    }
+}
+
+fn audit_start(measured: usize, sound: bool) -> &'static [u8]
+    ensures { result.now ≡ audit_start measured sound }
+{
+    if measured == 0 {
+        b"<p class=\"open\"><b>Nothing to audit:</b> no feature was measured. <code>"
+    } else if sound {
+        b"<p class=\"yes\"><b>Audit passed:</b> each measured feature has its run of reported contacts. <code>"
+    } else {
+        b"<p class=\"no\"><b>Audit failed:</b> a measured feature has no run of reported contacts. <code>"
+    }
+}
+
+fn put_errors(out: &mut Vec<u8>, errors: &[u8]) -> Result<(), AllocError>
+    ensures { OnOk result (out.new.items ≡ out.old.items ++ errors_text errors.now) }
+{
+    match errors {
+        [] => Ok(()),
+        [_, ..] => put_between(
+            out,
+            b"<p class=\"open\"><b>The server reported errors:</b></p>\n<pre>",
+            errors,
+            b"</pre>\n",
+        ),
+    }
+}
+
+fn put_verdict(out: &mut Vec<u8>, facts: &Facts<'_>, measured: usize) -> Result<(), AllocError>
+    ensures { OnOk result (out.new.items ≡ out.old.items ++ verdict_text facts.now measured) }
+{
+    let start = audit_start(measured, facts.is_sound());
+    put_between(out, start, facts.verdict(), b"</code></p>\n")
+}
+
+#[tactic(auto, unfolding(crate::specs::Pages::audit_text))]
+fn put_audit(out: &mut Vec<u8>, facts: &Facts<'_>, measured: usize) -> Result<(), AllocError>
+    ensures { OnOk result (out.new.items ≡ out.old.items ++ audit_text facts.now measured) }
+{
+    put_verdict(out, facts, measured)?;
+    put_errors(out, facts.errors())
+}
+
+fn put_names(out: &mut Vec<u8>, facts: &Facts<'_>) -> Result<(), AllocError>
+    ensures { OnOk result (out.new.items ≡ out.old.items ++ names_text facts.now) }
+{
+    put_between(out, b"<h1>Part ", facts.part(), b"</h1>\n")?;
+    put_between(out, b"<p>Program: ", facts.program(), b"</p>\n")
+}
+
+#[tactic(auto, unfolding(crate::specs::Pages::summary_text))]
+fn put_summary(
+    alloc: Global,
+    out: &mut Vec<u8>,
+    facts: &Facts<'_>,
+    measured: usize,
+    wanted: &[Wanted],
+    limits: &Option<Limits>,
+    rows: &[Row<'_>],
+) -> Result<(), AllocError>
+    ensures { OnOk result (out.new.items
+        ≡ out.old.items ++ summary_text facts.now measured wanted.now limits.now rows.now) }
+{
+    put_names(out, facts)?;
+    put_complete(alloc, out, measured, wanted)?;
+    put_limits(alloc, out, limits, measured == wanted.len(), rows)?;
+    put_audit(out, facts, measured)?;
+    put_markup(
+        out,
+        b"<p>Lengths are in millimetres. A bar is the deviation along the normal, to the right if there is too much material.</p>\n",
+    )
+}
+
+fn put_first(
+    alloc: Global,
+    out: &mut Vec<u8>,
+    facts: &Facts<'_>,
+    program: &Program,
+    features: &[Feature],
+    limits: &Option<Limits>,
+    rows: &[Row<'_>],
+) -> Result<(), AllocError>
+    ensures { OnOk result (out.new.items ≡ out.old.items ++ summary_text facts.now
+        (length features.now) program.now.features limits.now rows.now) }
+{
+    put_summary(
+        alloc,
+        out,
+        facts,
+        features.len(),
+        program.features(),
+        limits,
+        rows,
+    )
+}
+
+fn put_features(
+    alloc: Global,
+    out: &mut Vec<u8>,
+    program: &Program,
+    features: &[Feature],
+    limits: &Option<Limits>,
+    rows: &[Row<'_>],
+) -> Result<(), AllocError>
+    ensures { OnOk result (out.new.items ≡ out.old.items ++ sections_text (greatest rows.now)
+        limits.now (length features.now) program.now.features rows.now) }
+{
+    let most = greatest(rows);
+    put_sections(
+        alloc,
+        out,
+        most,
+        limits,
+        features.len(),
+        program.features(),
+        rows,
+    )
+}
+
+#[tactic(auto, unfolding(crate::specs::Pages::end_text))]
+fn put_end(out: &mut Vec<u8>) -> Result<(), AllocError>
+    ensures { OnOk result (out.new.items ≡ out.old.items ++ end_text) }
+{
+    put_markup(
+        out,
+        b"<h2>How to check this page</h2>\n<p><code>dme audit --record FILE PROGRAM</code> audits the record again, ",
+    )?;
+    put_markup(
+        out,
+        b"<code>dme export --as csv --record FILE PROGRAM</code> prints the same numbers.</p>\n</body></html>\n",
+    )
+}
+
+fn put_page(
+    alloc: Global,
+    out: &mut Vec<u8>,
+    facts: &Facts<'_>,
+    program: &Program,
+    features: &[Feature],
+    limits: &Option<Limits>,
+    rows: &[Row<'_>],
+) -> Result<(), AllocError>
+    ensures { OnOk result (Adds (IsPage facts.now program.now features.now limits.now rows.now)
+        out.old.items out.new.items) }
+{
+    put_head(out, facts)?;
+    put_first(alloc, out, facts, program, features, limits, rows)?;
+    put_features(alloc, out, program, features, limits, rows)?;
+    write_drawing(alloc, out, program, features)?;
+    put_end(out)
+}
+
+/// The page of a part (HTML, complete in itself): whether it is complete, within its limits and audited; the rows of each feature of its
+/// program, with a bar for each deviation along the normal; and a drawing. Texts are escaped, and the numbers are those of the rows. Fails
+/// only if out of memory.
+#[tactic(auto, using(crate::proofs::Filled::page_added, crate::proofs::Filled::page_has_text))]
+pub fn report_text(
+    alloc: Global,
+    facts: &Facts<'_>,
+    program: &Program,
+    features: &[Feature],
+    limits: &Option<Limits>,
+    rows: &[Row<'_>],
+) -> Result<Vec<u8>, AllocError>
+    ensures page { IfOk result (λ text. IsPage facts.now program.now features.now limits.now
+        rows.now text.items) }
+    ensures some { IfOk result (λ text. 0 < length text.items) }
+{
+    let mut text = Vec::new(alloc);
+    put_page(alloc, &mut text, facts, program, features, limits, rows)?;
+    Ok(text)
+}
