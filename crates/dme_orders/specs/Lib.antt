@@ -23,3 +23,4 @@ pub mod Exporting
 pub mod Recorded
 pub mod OfRecords
 pub mod RunErrors
+pub mod Reporting
