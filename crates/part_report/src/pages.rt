@@ -229,6 +229,12 @@ fn put_complete_start(
     put_markup(out, complete_start(measured, wanted.len()))
 }
 
+fn put_asked(alloc: Global, out: &mut Vec<u8>, wanted: &[Wanted]) -> Result<(), AllocError>
+    ensures { OnOk result (out.new.items ≡ out.old.items ++ decimal (length wanted.now)) }
+{
+    put_count(alloc, out, wanted.len())
+}
+
 #[tactic(auto, unfolding(crate::specs::Pages::complete_text))]
 fn put_complete(
     alloc: Global,
@@ -241,7 +247,7 @@ fn put_complete(
     put_complete_start(out, measured, wanted)?;
     put_count(alloc, out, measured)?;
     put_markup(out, b" of ")?;
-    put_count(alloc, out, wanted.len())?;
+    put_asked(alloc, out, wanted)?;
     put_markup(out, b" features were measured.")?;
     put_missing(out, measured, wanted)?;
     put_markup(out, b"</p>\n")
@@ -279,6 +285,30 @@ fn put_within_start(
     put_markup(out, start)
 }
 
+fn put_out(
+    alloc: Global,
+    out: &mut Vec<u8>,
+    limits: &Limits,
+    rows: &[Row<'_>],
+) -> Result<(), AllocError>
+    ensures { OnOk result (out.new.items
+        ≡ out.old.items ++ decimal (out_count limits.now rows.now)) }
+{
+    put_count(alloc, out, out_count(limits, rows))
+}
+
+fn put_compared(
+    alloc: Global,
+    out: &mut Vec<u8>,
+    limits: &Limits,
+    rows: &[Row<'_>],
+) -> Result<(), AllocError>
+    ensures { OnOk result (out.new.items
+        ≡ out.old.items ++ decimal (compared_count limits.now rows.now)) }
+{
+    put_count(alloc, out, compared_count(limits, rows))
+}
+
 fn put_not_compared(
     alloc: Global,
     out: &mut Vec<u8>,
@@ -304,9 +334,9 @@ fn put_within(
         ≡ out.old.items ++ within_text limits.now complete rows.now) }
 {
     put_within_start(out, limits, complete, rows)?;
-    put_count(alloc, out, out_count(limits, rows))?;
+    put_out(alloc, out, limits, rows)?;
     put_markup(out, b" of ")?;
-    put_count(alloc, out, compared_count(limits, rows))?;
+    put_compared(alloc, out, limits, rows)?;
     put_markup(out, b" compared points are out, ")?;
     put_not_compared(alloc, out, limits, rows)?;
     put_markup(

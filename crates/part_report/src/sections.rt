@@ -29,7 +29,7 @@ use deviations::{
     Deviation, Micrometres, Row, first_rows, later_rows, row_verdict, verdict_word, worst_words,
 };
 use dmis_program::Wanted;
-use fixed_um::{Name, Point};
+use fixed_um::{Name, Point, Um};
 use part_limits::{Limits, Range, Verdict};
 use std::alloc::{AllocError, Global};
 
@@ -81,6 +81,15 @@ fn put_measured(alloc: Global, out: &mut Vec<u8>, measured: Option<Point>) -> Re
     }
 }
 
+fn put_away(alloc: Global, out: &mut Vec<u8>, away: Deviation) -> Result<(), AllocError>
+    ensures { OnOk result (out.new.items ≡ out.old.items
+        ++ cells (written away.x ∷ written away.y ∷ written away.z ∷ [])) }
+{
+    put_length(alloc, out, i128::from(away.x))?;
+    put_length(alloc, out, i128::from(away.y))?;
+    put_length(alloc, out, i128::from(away.z))
+}
+
 fn put_deviation(
     alloc: Global,
     out: &mut Vec<u8>,
@@ -89,11 +98,7 @@ fn put_deviation(
     ensures { OnOk result (out.new.items ≡ out.old.items ++ cells (deviation_fields deviation)) }
 {
     match deviation {
-        Some(deviation) => {
-            put_length(alloc, out, i128::from(deviation.x))?;
-            put_length(alloc, out, i128::from(deviation.y))?;
-            put_length(alloc, out, i128::from(deviation.z))
-        }
+        Some(deviation) => put_away(alloc, out, deviation),
         None => put_nothing(out),
     }
 }
@@ -229,6 +234,12 @@ fn put_titles(
     put_markup(out, b"<th>along normal</th></tr></thead><tbody>\n")
 }
 
+fn put_limit_length(alloc: Global, out: &mut Vec<u8>, length: Um) -> Result<(), AllocError>
+    ensures { OnOk result (out.new.items ≡ out.old.items ++ written length) }
+{
+    put_written(alloc, out, i128::from(length.get()))
+}
+
 fn put_worst(
     alloc: Global,
     out: &mut Vec<u8>,
@@ -251,9 +262,9 @@ fn put_range_line(
     ensures { OnOk result (out.new.items ≡ out.old.items ++ range_line range.now rows.now) }
 {
     put_markup(out, b"<p>Limits ")?;
-    put_written(alloc, out, i128::from(range.lower.get()))?;
+    put_limit_length(alloc, out, range.lower)?;
     put_markup(out, b" to ")?;
-    put_written(alloc, out, i128::from(range.upper.get()))?;
+    put_limit_length(alloc, out, range.upper)?;
     put_worst(alloc, out, range, rows)
 }
 
