@@ -22,10 +22,13 @@ abbrev pub turn : ℤ → List ℕ
 turn (pos _) = codes "1"
 turn (negsuc _) = codes "-1"
 
-unfoldable pub bar_text : ℕ → ℤ → List ℕ
-bar_text most along = markup (codes "<td><svg class=\"bar\" viewBox=\"-51 -5 102 10\"><path d=\"M0-5V5\"/><g transform=\"scale(")
-    ++ (turn along ++ (markup (codes " 1)\"><rect y=\"-3\" height=\"6\" width=\"")
-    ++ (decimal (bar_length most (unsigned_abs along)) ++ markup (codes "\"/></g></svg></td>"))))
+unfoldable pub bar_of : List ℕ → ℕ → List ℕ
+bar_of turned length = markup (codes "<td><svg class=\"bar\" viewBox=\"-51 -5 102 10\"><path d=\"M0-5V5\"/><g transform=\"scale(")
+    ++ (turned ++ (markup (codes " 1)\"><rect y=\"-3\" height=\"6\" width=\"")
+    ++ (decimal length ++ markup (codes "\"/></g></svg></td>"))))
+
+abbrev pub bar_text : ℕ → ℤ → List ℕ
+bar_text most along = bar_of (turn along) (bar_length most (unsigned_abs along))
 
 -- the bar of a deviation in a cell of its own; an empty cell if there is no deviation
 abbrev pub bar_cell : ℕ → Option ℤ → List ℕ

@@ -65,12 +65,15 @@ within_start out compared complete =
     if compared == 0 then codes "<p class=\"open\"><b>Not compared with limits:</b> " else
     if complete then codes "<p class=\"yes\"><b>Within limits:</b> " else codes "<p class=\"open\"><b>Within limits so far:</b> "
 
--- how many points are out of limits, of how many that are compared, and how many are not
-unfoldable pub within_text : List Limit → Bool → List Row → List ℕ
-within_text limits complete rows = markup (within_start (out_count limits rows) (compared_count limits rows) complete)
-    ++ (decimal (out_count limits rows) ++ (markup (codes " of ") ++ (decimal (compared_count limits rows)
-    ++ (markup (codes " compared points are out, ") ++ (decimal (length rows - compared_count limits rows)
+-- how many points are out of limits, of how many that are compared, and how many others there are
+unfoldable pub within_line : ℕ → ℕ → Bool → ℕ → List ℕ
+within_line out compared complete others = markup (within_start out compared complete) ++ (decimal out ++ (markup (codes " of ")
+    ++ (decimal compared ++ (markup (codes " compared points are out, ") ++ (decimal others
     ++ markup (codes " not compared. No fit and no other tolerance was evaluated.</p>\n"))))))
+
+abbrev pub within_text : List Limit → Bool → List Row → List ℕ
+within_text limits complete rows = within_line (out_count limits rows) (compared_count limits rows) complete
+    (length rows - compared_count limits rows)
 
 abbrev pub limits_text : Option (List Limit) → Bool → List Row → List ℕ
 limits_text (Some limits) complete rows = within_text limits complete rows

@@ -1,7 +1,7 @@
 // Bars for deviations.
 
-ghost use Rattle.std.specs.Prelude.{◌≡◌, ◌≤◌, ◌<◌, ◌^◌, ◌++◌, decimal, unsigned_abs, OnOk};
-ghost use Rattle.part_report.specs.Bars.{magnitude, greatest, bar_length, turn, bar_text, bar_cell};
+ghost use Rattle.std.specs.Prelude.{◌≡◌, ◌≤◌, ◌<◌, ◌^◌, ◌++◌, unsigned_abs, OnOk};
+ghost use Rattle.part_report.specs.Bars.{magnitude, greatest, bar_length, turn, bar_of, bar_text, bar_cell};
 
 use crate::markup::{put_count, put_markup};
 use deviations::Row;
@@ -45,35 +45,32 @@ fn turn(along: i128) -> &'static [u8]
     if along < 0 { b"-1" } else { b"1" }
 }
 
-fn put_turn(out: &mut Vec<u8>, along: i128) -> Result<(), AllocError>
-    ensures { OnOk result (out.new.items ≡ out.old.items ++ turn along) }
-{
-    out.extend_from_slice(turn(along))
-}
-
-fn put_length(alloc: Global, out: &mut Vec<u8>, most: u128, along: i128) -> Result<(), AllocError>
-    requires some { 0 < most }
-    requires within { unsigned_abs along ≤ 2 ^ 64 }
-    ensures { OnOk result (out.new.items
-        ≡ out.old.items ++ decimal (bar_length most (unsigned_abs along))) }
-{
-    put_count(alloc, out, bar_length(most, along.unsigned_abs()) as usize)
-}
-
-#[tactic(auto, unfolding(crate::specs::Bars::bar_text))]
-fn put_bar(alloc: Global, out: &mut Vec<u8>, most: u128, along: i128) -> Result<(), AllocError>
-    requires some { 0 < most }
-    requires within { unsigned_abs along ≤ 2 ^ 64 }
-    ensures { OnOk result (out.new.items ≡ out.old.items ++ bar_text most along) }
+#[tactic(auto, unfolding(crate::specs::Bars::bar_of))]
+fn put_bar_of(
+    alloc: Global,
+    out: &mut Vec<u8>,
+    turned: &[u8],
+    length: usize,
+) -> Result<(), AllocError>
+    ensures { OnOk result (out.new.items ≡ out.old.items ++ bar_of turned.now length) }
 {
     put_markup(
         out,
         b"<td><svg class=\"bar\" viewBox=\"-51 -5 102 10\"><path d=\"M0-5V5\"/><g transform=\"scale(",
     )?;
-    put_turn(out, along)?;
+    out.extend_from_slice(turned)?;
     put_markup(out, b" 1)\"><rect y=\"-3\" height=\"6\" width=\"")?;
-    put_length(alloc, out, most, along)?;
+    put_count(alloc, out, length)?;
     put_markup(out, b"\"/></g></svg></td>")
+}
+
+fn put_bar(alloc: Global, out: &mut Vec<u8>, most: u128, along: i128) -> Result<(), AllocError>
+    requires some { 0 < most }
+    requires within { unsigned_abs along ≤ 2 ^ 64 }
+    ensures { OnOk result (out.new.items ≡ out.old.items ++ bar_text most along) }
+{
+    let length = bar_length(most, along.unsigned_abs());
+    put_bar_of(alloc, out, turn(along), length as usize)
 }
 
 /// Appends the bar of a row in a cell of its own, of a part whose greatest deviation is this.

@@ -1,9 +1,8 @@
 // The whole page.
 
-ghost use Rattle.std.specs.Prelude.{◌≡◌, ◌-◌, ◌==◌, ◌<◌, ◌++◌, decimal, drop, length, IfOk, OnOk};
+ghost use Rattle.std.specs.Prelude.{◌≡◌, ◌==◌, ◌<◌, ◌++◌, decimal, drop, length, IfOk, OnOk};
 ghost use Rattle.std.specs.List.{flat_map};
 ghost use Rattle.drawings.specs.Texts.{Adds};
-ghost use Rattle.deviations.specs.Compared.{compared_count, out_count};
 ghost use Rattle.part_report.specs.Bars.{greatest};
 ghost use Rattle.part_report.specs.Markup.{markup};
 ghost use Rattle.part_report.specs.Sections.{sections_text};
@@ -16,6 +15,7 @@ ghost use Rattle.part_report.specs.Pages.{
   missing_label,
   complete_text,
   within_start,
+  within_line,
   within_text,
   limits_text,
   audit_start,
@@ -55,7 +55,6 @@ pub struct Facts<'a> {
 }
 
 impl<'a> Model for Facts<'a> {
-    ghost use Rattle.deviations.specs.Compared.{compared_count, out_count};
     ghost use Rattle.part_report.specs.Bars.{greatest};
     ghost use Rattle.part_report.specs.Markup.{markup};
     ghost use Rattle.part_report.specs.Sections.{sections_text};
@@ -269,60 +268,40 @@ fn within_start(outside: usize, compared: usize, complete: bool) -> &'static [u8
 
 fn put_within_start(
     out: &mut Vec<u8>,
-    limits: &Limits,
+    outside: usize,
+    compared: usize,
     complete: bool,
-    rows: &[Row<'_>],
-) -> Result<(), AllocError>
-    ensures { OnOk result (out.new.items ≡ out.old.items
-        ++ markup (within_start (out_count limits.now rows.now)
-        (compared_count limits.now rows.now) complete)) }
-{
-    let start = within_start(
-        out_count(limits, rows),
-        compared_count(limits, rows),
-        complete,
-    );
-    put_markup(out, start)
-}
-
-fn put_out(
-    alloc: Global,
-    out: &mut Vec<u8>,
-    limits: &Limits,
-    rows: &[Row<'_>],
 ) -> Result<(), AllocError>
     ensures { OnOk result (out.new.items
-        ≡ out.old.items ++ decimal (out_count limits.now rows.now)) }
+        ≡ out.old.items ++ markup (within_start outside compared complete)) }
 {
-    put_count(alloc, out, out_count(limits, rows))
+    put_markup(out, within_start(outside, compared, complete))
 }
 
-fn put_compared(
+#[tactic(auto, unfolding(crate::specs::Pages::within_line))]
+fn put_within_line(
     alloc: Global,
     out: &mut Vec<u8>,
-    limits: &Limits,
-    rows: &[Row<'_>],
+    outside: usize,
+    compared: usize,
+    complete: bool,
+    others: usize,
 ) -> Result<(), AllocError>
     ensures { OnOk result (out.new.items
-        ≡ out.old.items ++ decimal (compared_count limits.now rows.now)) }
+        ≡ out.old.items ++ within_line outside compared complete others) }
 {
-    put_count(alloc, out, compared_count(limits, rows))
+    put_within_start(out, outside, compared, complete)?;
+    put_count(alloc, out, outside)?;
+    put_markup(out, b" of ")?;
+    put_count(alloc, out, compared)?;
+    put_markup(out, b" compared points are out, ")?;
+    put_count(alloc, out, others)?;
+    put_markup(
+        out,
+        b" not compared. No fit and no other tolerance was evaluated.</p>\n",
+    )
 }
 
-fn put_not_compared(
-    alloc: Global,
-    out: &mut Vec<u8>,
-    limits: &Limits,
-    rows: &[Row<'_>],
-) -> Result<(), AllocError>
-    ensures { OnOk result (out.new.items ≡ out.old.items
-        ++ decimal (length rows.now - compared_count limits.now rows.now)) }
-{
-    let compared = compared_count(limits, rows);
-    put_count(alloc, out, rows.len().saturating_sub(compared))
-}
-
-#[tactic(auto, unfolding(crate::specs::Pages::within_text))]
 fn put_within(
     alloc: Global,
     out: &mut Vec<u8>,
@@ -333,16 +312,10 @@ fn put_within(
     ensures { OnOk result (out.new.items
         ≡ out.old.items ++ within_text limits.now complete rows.now) }
 {
-    put_within_start(out, limits, complete, rows)?;
-    put_out(alloc, out, limits, rows)?;
-    put_markup(out, b" of ")?;
-    put_compared(alloc, out, limits, rows)?;
-    put_markup(out, b" compared points are out, ")?;
-    put_not_compared(alloc, out, limits, rows)?;
-    put_markup(
-        out,
-        b" not compared. No fit and no other tolerance was evaluated.</p>\n",
-    )
+    let outside = out_count(limits, rows);
+    let compared = compared_count(limits, rows);
+    let others = rows.len().saturating_sub(compared);
+    put_within_line(alloc, out, outside, compared, complete, others)
 }
 
 fn put_limits(

@@ -56,6 +56,15 @@ fn put_number(alloc: Global, out: &mut Vec<u8>, number: u64) -> Result<(), Alloc
     put_cell(out, text.as_bytes())
 }
 
+fn put_three(alloc: Global, out: &mut Vec<u8>, x: i128, y: i128, z: i128) -> Result<(), AllocError>
+    ensures { OnOk result (out.new.items
+        ≡ out.old.items ++ cells (written x ∷ written y ∷ written z ∷ [])) }
+{
+    put_length(alloc, out, x)?;
+    put_length(alloc, out, y)?;
+    put_length(alloc, out, z)
+}
+
 fn put_point(alloc: Global, out: &mut Vec<u8>, point: Point) -> Result<(), AllocError>
     ensures { OnOk result (out.new.items ≡ out.old.items ++ cells (point_fields point)) }
 {
@@ -81,15 +90,6 @@ fn put_measured(alloc: Global, out: &mut Vec<u8>, measured: Option<Point>) -> Re
     }
 }
 
-fn put_away(alloc: Global, out: &mut Vec<u8>, away: Deviation) -> Result<(), AllocError>
-    ensures { OnOk result (out.new.items ≡ out.old.items
-        ++ cells (written away.x ∷ written away.y ∷ written away.z ∷ [])) }
-{
-    put_length(alloc, out, i128::from(away.x))?;
-    put_length(alloc, out, i128::from(away.y))?;
-    put_length(alloc, out, i128::from(away.z))
-}
-
 fn put_deviation(
     alloc: Global,
     out: &mut Vec<u8>,
@@ -98,7 +98,13 @@ fn put_deviation(
     ensures { OnOk result (out.new.items ≡ out.old.items ++ cells (deviation_fields deviation)) }
 {
     match deviation {
-        Some(deviation) => put_away(alloc, out, deviation),
+        Some(deviation) => put_three(
+            alloc,
+            out,
+            i128::from(deviation.x),
+            i128::from(deviation.y),
+            i128::from(deviation.z),
+        ),
         None => put_nothing(out),
     }
 }

@@ -1,16 +1,16 @@
 use Rattle.part_report.proofs.Names.{◌∙◌, append_assoc, on_ok_weaker}
-use Rattle.part_report.specs.Pages.{within_text}
-use Rattle.part_report.proofs.pages.put_within.Goals as goal
+use Rattle.part_report.specs.Pages.{within_line}
+use Rattle.part_report.proofs.pages.put_within_line.Goals as goal
 
 pub returns : goal.returns
-unfolding within_text
+unfolding within_line
 returns c = on_ok_weaker c.put_markup-3.result
     (λ e. e ∙ simp (
-      c.in_ok-put_not_compared.ensures,
+      c.in_ok-put_count-3.ensures,
       c.in_ok-put_markup-2.ensures,
-      c.in_ok-put_compared.ensures,
+      c.in_ok-put_count-2.ensures,
       c.in_ok-put_markup.ensures,
-      c.in_ok-put_out.ensures,
+      c.in_ok-put_count.ensures,
       c.in_ok-put_within_start.ensures,
       append_assoc,
     ))
