@@ -56,13 +56,19 @@ fn put_number(alloc: Global, out: &mut Vec<u8>, number: u64) -> Result<(), Alloc
     put_cell(out, text.as_bytes())
 }
 
+fn put_two(alloc: Global, out: &mut Vec<u8>, x: i128, y: i128) -> Result<(), AllocError>
+    ensures { OnOk result (out.new.items ≡ out.old.items ++ cells (written x ∷ written y ∷ [])) }
+{
+    put_length(alloc, out, x)?;
+    put_length(alloc, out, y)
+}
+
 fn put_three(alloc: Global, out: &mut Vec<u8>, x: i128, y: i128, z: i128) -> Result<(), AllocError>
     ensures { OnOk result (out.new.items
         ≡ out.old.items ++ cells (written x ∷ written y ∷ written z ∷ [])) }
 {
     put_length(alloc, out, x)?;
-    put_length(alloc, out, y)?;
-    put_length(alloc, out, z)
+    put_two(alloc, out, y, z)
 }
 
 fn put_point(alloc: Global, out: &mut Vec<u8>, point: Point) -> Result<(), AllocError>
