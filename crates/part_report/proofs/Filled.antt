@@ -27,7 +27,7 @@ module _ (facts : PageFacts) (program : Meaning) (features : List Feature) (limi
   page_added text a = subst (IsPage facts program features limits rows) (sym a.added) a.is
 
   head_has_text : (part rest : List ℕ) → 0 < length (head_text part ++ rest)
-  unfolding head_text between markup
+  unfolding between markup
   head_has_text part rest = omega arith
 
   pub page_has_text : (text : List ℕ) → IsPage facts program features limits rows text → 0 < length text

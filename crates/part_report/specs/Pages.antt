@@ -22,27 +22,23 @@ pub record PageFacts : Type 0 where
   pub verdict : List ℕ
   pub errors : List ℕ
 
--- the colours of a page, light or dark as its reader has it
-unfoldable pub colours : List ℕ
-colours = markup (codes ":root{color-scheme:light dark;--yes:#17733f;--no:#b3261e;--open:#8a5a00;--bar:#3b6ea5}\n")
-    ++ (markup (codes "@media screen and (prefers-color-scheme:dark){:root{--yes:#5bd08f;--no:#ff8a80;--open:#e3b341;--bar:#8ab4e8}}\n")
-    ++ (markup (codes "body{font:14px/1.4 sans-serif;max-width:64em;margin:1.5em auto;padding:0 1em}.yes,.no,.open{padding-left:.6em;")
-    ++ markup (codes "border-left:.5em solid;margin:.4em 0}.yes{color:var(--yes)}.no{color:var(--no)}.open{color:var(--open)}\n")))
-
--- how a browser shows it, also on A4
+-- how a browser shows a page, from its title to its body: light or dark as its reader has it, and also on A4
 unfoldable pub style : List ℕ
-style = colours ++ (markup (codes "table{border-collapse:collapse;width:100%;font-variant-numeric:tabular-nums}td,th{padding:0 .5em;text-align:right}\n")
-    ++ (markup (codes "td,th[colspan]{border-bottom:1px solid #8886}.out td:last-child{color:var(--no);font-weight:bold}pre{white-space:pre-wrap}\n")
-    ++ (markup (codes ".bar{width:7em;vertical-align:middle}.bar path{stroke:currentColor}.bar rect{fill:var(--bar)}\n")
-    ++ (markup (codes ".out rect{fill:var(--no)}body>svg{max-width:100%;height:auto;break-inside:avoid;margin-top:1em}\n")
-    ++ markup (codes "h2{break-after:avoid}tr{break-inside:avoid}@page{size:A4;margin:12mm}@media print{body{font-size:8pt;padding:0}}\n")))))
+style = codes "</title>\n<style>\n"
+    ++ (codes ":root{color-scheme:light dark;--yes:#17733f;--no:#b3261e;--open:#8a5a00;--bar:#3b6ea5}\n"
+    ++ (codes "@media screen and (prefers-color-scheme:dark){:root{--yes:#5bd08f;--no:#ff8a80;--open:#e3b341;--bar:#8ab4e8}}\n"
+    ++ (codes "body{font:14px/1.4 sans-serif;max-width:64em;margin:1.5em auto;padding:0 1em}.yes,.no,.open{padding-left:.6em;"
+    ++ (codes "border-left:.5em solid;margin:.4em 0}.yes{color:var(--yes)}.no{color:var(--no)}.open{color:var(--open)}\n"
+    ++ (codes "table{border-collapse:collapse;width:100%;font-variant-numeric:tabular-nums}td,th{padding:0 .5em;text-align:right}\n"
+    ++ (codes "td,th[colspan]{border-bottom:1px solid #8886}.out td:last-child{color:var(--no);font-weight:bold}pre{white-space:pre-wrap}\n"
+    ++ (codes ".bar{width:7em;vertical-align:middle}.bar path{stroke:currentColor}.bar rect{fill:var(--bar)}\n"
+    ++ (codes ".out rect{fill:var(--no)}body>svg{max-width:100%;height:auto;break-inside:avoid;margin-top:1em}\n"
+    ++ (codes "h2{break-after:avoid}tr{break-inside:avoid}@page{size:A4;margin:12mm}@media print{body{font-size:8pt;padding:0}}\n"
+    ++ codes "</style></head><body>\n")))))))))
 
 -- the start of the page, with the part as its title
-abbrev pub title : List ℕ → List ℕ
-title part = between (codes "<!DOCTYPE html>\n<html lang=\"en\"><head><meta charset=\"utf-8\"><title>Part ") part (codes "</title>\n<style>\n")
-
-unfoldable pub head_text : List ℕ → List ℕ
-head_text part = title part ++ (style ++ markup (codes "</style></head><body>\n"))
+abbrev pub head_text : List ℕ → List ℕ
+head_text part = between (codes "<!DOCTYPE html>\n<html lang=\"en\"><head><meta charset=\"utf-8\"><title>Part ") part style
 
 -- a part is complete if as many features were measured as its program asks for
 abbrev pub complete_start : ℕ → ℕ → List ℕ

@@ -1,15 +1,10 @@
 // The whole page.
 
-ghost use Rattle.std.specs.Prelude.{◌≡◌, ◌==◌, ◌<◌, ◌++◌, decimal, drop, length, IfOk, OnOk};
+ghost use Rattle.std.specs.Prelude.{◌≡◌, ◌<◌, ◌++◌, drop, length, IfOk, OnOk};
 ghost use Rattle.std.specs.List.{flat_map};
 ghost use Rattle.drawings.specs.Texts.{Adds};
-ghost use Rattle.part_report.specs.Bars.{greatest};
-ghost use Rattle.part_report.specs.Markup.{markup};
-ghost use Rattle.part_report.specs.Sections.{sections_text};
 ghost use Rattle.part_report.specs.Pages.{
-  colours,
   style,
-  title,
   head_text,
   complete_start,
   missing_label,
@@ -55,9 +50,6 @@ pub struct Facts<'a> {
 }
 
 impl<'a> Model for Facts<'a> {
-    ghost use Rattle.part_report.specs.Bars.{greatest};
-    ghost use Rattle.part_report.specs.Markup.{markup};
-    ghost use Rattle.part_report.specs.Sections.{sections_text};
     ghost use Rattle.part_report.specs.Pages.{PageFacts};
 
     ghost Value = { PageFacts };
@@ -103,73 +95,32 @@ impl<'a> Facts<'a> {
     }
 }
 
-#[tactic(auto, unfolding(crate::specs::Pages::colours))]
-fn put_colours(out: &mut Vec<u8>) -> Result<(), AllocError>
-    ensures { OnOk result (out.new.items ≡ out.old.items ++ colours) }
+/// How a browser shows the page: light or dark as its reader has it, and also on A4.
+fn style() -> &'static [u8]
+    ensures { result.now ≡ style }
 {
-    put_markup(
-        out,
-        b":root{color-scheme:light dark;--yes:#17733f;--no:#b3261e;--open:#8a5a00;--bar:#3b6ea5}\n",
-    )?;
-    put_markup(
-        out,
-        b"@media screen and (prefers-color-scheme:dark){:root{--yes:#5bd08f;--no:#ff8a80;--open:#e3b341;--bar:#8ab4e8}}\n",
-    )?;
-    put_markup(
-        out,
-        b"body{font:14px/1.4 sans-serif;max-width:64em;margin:1.5em auto;padding:0 1em}.yes,.no,.open{padding-left:.6em;",
-    )?;
-    put_markup(
-        out,
-        b"border-left:.5em solid;margin:.4em 0}.yes{color:var(--yes)}.no{color:var(--no)}.open{color:var(--open)}\n",
-    )
+    b"</title>\n<style>\n\
+:root{color-scheme:light dark;--yes:#17733f;--no:#b3261e;--open:#8a5a00;--bar:#3b6ea5}\n\
+@media screen and (prefers-color-scheme:dark){:root{--yes:#5bd08f;--no:#ff8a80;--open:#e3b341;--bar:#8ab4e8}}\n\
+body{font:14px/1.4 sans-serif;max-width:64em;margin:1.5em auto;padding:0 1em}.yes,.no,.open{padding-left:.6em;\
+border-left:.5em solid;margin:.4em 0}.yes{color:var(--yes)}.no{color:var(--no)}.open{color:var(--open)}\n\
+table{border-collapse:collapse;width:100%;font-variant-numeric:tabular-nums}td,th{padding:0 .5em;text-align:right}\n\
+td,th[colspan]{border-bottom:1px solid #8886}.out td:last-child{color:var(--no);font-weight:bold}pre{white-space:pre-wrap}\n\
+.bar{width:7em;vertical-align:middle}.bar path{stroke:currentColor}.bar rect{fill:var(--bar)}\n\
+.out rect{fill:var(--no)}body>svg{max-width:100%;height:auto;break-inside:avoid;margin-top:1em}\n\
+h2{break-after:avoid}tr{break-inside:avoid}@page{size:A4;margin:12mm}@media print{body{font-size:8pt;padding:0}}\n\
+</style></head><body>\n"
 }
 
-#[tactic(auto, unfolding(crate::specs::Pages::style))]
-fn put_style(out: &mut Vec<u8>) -> Result<(), AllocError>
-    ensures { OnOk result (out.new.items ≡ out.old.items ++ style) }
-{
-    put_colours(out)?;
-    put_markup(
-        out,
-        b"table{border-collapse:collapse;width:100%;font-variant-numeric:tabular-nums}td,th{padding:0 .5em;text-align:right}\n",
-    )?;
-    put_markup(
-        out,
-        b"td,th[colspan]{border-bottom:1px solid #8886}.out td:last-child{color:var(--no);font-weight:bold}pre{white-space:pre-wrap}\n",
-    )?;
-    put_markup(
-        out,
-        b".bar{width:7em;vertical-align:middle}.bar path{stroke:currentColor}.bar rect{fill:var(--bar)}\n",
-    )?;
-    put_markup(
-        out,
-        b".out rect{fill:var(--no)}body>svg{max-width:100%;height:auto;break-inside:avoid;margin-top:1em}\n",
-    )?;
-    put_markup(
-        out,
-        b"h2{break-after:avoid}tr{break-inside:avoid}@page{size:A4;margin:12mm}@media print{body{font-size:8pt;padding:0}}\n",
-    )
-}
-
-fn put_title(out: &mut Vec<u8>, facts: &Facts<'_>) -> Result<(), AllocError>
-    ensures { OnOk result (out.new.items ≡ out.old.items ++ title facts.now.part) }
+fn put_head(out: &mut Vec<u8>, facts: &Facts<'_>) -> Result<(), AllocError>
+    ensures { OnOk result (out.new.items ≡ out.old.items ++ head_text facts.now.part) }
 {
     put_between(
         out,
         b"<!DOCTYPE html>\n<html lang=\"en\"><head><meta charset=\"utf-8\"><title>Part ",
         facts.part(),
-        b"</title>\n<style>\n",
+        style(),
     )
-}
-
-#[tactic(auto, unfolding(crate::specs::Pages::head_text))]
-fn put_head(out: &mut Vec<u8>, facts: &Facts<'_>) -> Result<(), AllocError>
-    ensures { OnOk result (out.new.items ≡ out.old.items ++ head_text facts.now.part) }
-{
-    put_title(out, facts)?;
-    put_style(out)?;
-    put_markup(out, b"</style></head><body>\n")
 }
 
 fn complete_start(measured: usize, asked: usize) -> &'static [u8]
@@ -210,30 +161,6 @@ fn put_labels(out: &mut Vec<u8>, wanted: &[Wanted]) -> Result<(), AllocError>
     Ok(())
 }
 
-fn put_missing(out: &mut Vec<u8>, measured: usize, wanted: &[Wanted]) -> Result<(), AllocError>
-    ensures { OnOk result (out.new.items
-        ≡ out.old.items ++ flat_map missing_label (drop measured wanted.now)) }
-{
-    put_labels(out, missing(wanted, measured))
-}
-
-fn put_complete_start(
-    out: &mut Vec<u8>,
-    measured: usize,
-    wanted: &[Wanted],
-) -> Result<(), AllocError>
-    ensures { OnOk result (out.new.items
-        ≡ out.old.items ++ markup (complete_start measured (length wanted.now))) }
-{
-    put_markup(out, complete_start(measured, wanted.len()))
-}
-
-fn put_asked(alloc: Global, out: &mut Vec<u8>, wanted: &[Wanted]) -> Result<(), AllocError>
-    ensures { OnOk result (out.new.items ≡ out.old.items ++ decimal (length wanted.now)) }
-{
-    put_count(alloc, out, wanted.len())
-}
-
 #[tactic(auto, unfolding(crate::specs::Pages::complete_text))]
 fn put_complete(
     alloc: Global,
@@ -243,12 +170,13 @@ fn put_complete(
 ) -> Result<(), AllocError>
     ensures { OnOk result (out.new.items ≡ out.old.items ++ complete_text measured wanted.now) }
 {
-    put_complete_start(out, measured, wanted)?;
+    let asked = wanted.len();
+    put_markup(out, complete_start(measured, asked))?;
     put_count(alloc, out, measured)?;
     put_markup(out, b" of ")?;
-    put_asked(alloc, out, wanted)?;
+    put_count(alloc, out, asked)?;
     put_markup(out, b" features were measured.")?;
-    put_missing(out, measured, wanted)?;
+    put_labels(out, missing(wanted, measured))?;
     put_markup(out, b"</p>\n")
 }
 
@@ -266,18 +194,6 @@ fn within_start(outside: usize, compared: usize, complete: bool) -> &'static [u8
     }
 }
 
-fn put_within_start(
-    out: &mut Vec<u8>,
-    outside: usize,
-    compared: usize,
-    complete: bool,
-) -> Result<(), AllocError>
-    ensures { OnOk result (out.new.items
-        ≡ out.old.items ++ markup (within_start outside compared complete)) }
-{
-    put_markup(out, within_start(outside, compared, complete))
-}
-
 #[tactic(auto, unfolding(crate::specs::Pages::within_line))]
 fn put_within_line(
     alloc: Global,
@@ -290,7 +206,7 @@ fn put_within_line(
     ensures { OnOk result (out.new.items
         ≡ out.old.items ++ within_line outside compared complete others) }
 {
-    put_within_start(out, outside, compared, complete)?;
+    put_markup(out, within_start(outside, compared, complete))?;
     put_count(alloc, out, outside)?;
     put_markup(out, b" of ")?;
     put_count(alloc, out, compared)?;
@@ -408,52 +324,6 @@ fn put_summary(
     )
 }
 
-fn put_first(
-    alloc: Global,
-    out: &mut Vec<u8>,
-    facts: &Facts<'_>,
-    program: &Program,
-    features: &[Feature],
-    limits: &Option<Limits>,
-    rows: &[Row<'_>],
-) -> Result<(), AllocError>
-    ensures { OnOk result (out.new.items ≡ out.old.items ++ summary_text facts.now
-        (length features.now) program.now.features limits.now rows.now) }
-{
-    put_summary(
-        alloc,
-        out,
-        facts,
-        features.len(),
-        program.features(),
-        limits,
-        rows,
-    )
-}
-
-fn put_features(
-    alloc: Global,
-    out: &mut Vec<u8>,
-    program: &Program,
-    features: &[Feature],
-    limits: &Option<Limits>,
-    rows: &[Row<'_>],
-) -> Result<(), AllocError>
-    ensures { OnOk result (out.new.items ≡ out.old.items ++ sections_text (greatest rows.now)
-        limits.now (length features.now) program.now.features rows.now) }
-{
-    let most = greatest(rows);
-    put_sections(
-        alloc,
-        out,
-        most,
-        limits,
-        features.len(),
-        program.features(),
-        rows,
-    )
-}
-
 #[tactic(auto, unfolding(crate::specs::Pages::end_text))]
 fn put_end(out: &mut Vec<u8>) -> Result<(), AllocError>
     ensures { OnOk result (out.new.items ≡ out.old.items ++ end_text) }
@@ -480,9 +350,11 @@ fn put_page(
     ensures { OnOk result (Adds (IsPage facts.now program.now features.now limits.now rows.now)
         out.old.items out.new.items) }
 {
+    let measured = features.len();
+    let wanted = program.features();
     put_head(out, facts)?;
-    put_first(alloc, out, facts, program, features, limits, rows)?;
-    put_features(alloc, out, program, features, limits, rows)?;
+    put_summary(alloc, out, facts, measured, wanted, limits, rows)?;
+    put_sections(alloc, out, greatest(rows), limits, measured, wanted, rows)?;
     write_drawing(alloc, out, program, features)?;
     put_end(out)
 }

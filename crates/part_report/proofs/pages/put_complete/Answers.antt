@@ -4,14 +4,17 @@ use Rattle.part_report.proofs.pages.put_complete.Goals as goal
 
 pub returns : goal.returns
 unfolding complete_text
-returns c = on_ok_weaker c.put_markup-3.result
+returns c = on_ok_weaker c.put_markup-4.result
     (λ e. e ∙ simp (
-      c.in_ok-put_missing.ensures,
+      c.in_ok-put_labels.ensures,
+      c.missing.ensures,
+      c.in_ok-put_markup-3.ensures,
+      c.in_ok-put_count-2.ensures,
       c.in_ok-put_markup-2.ensures,
-      c.in_ok-put_asked.ensures,
-      c.in_ok-put_markup.ensures,
       c.in_ok-put_count.ensures,
-      c.in_ok-put_complete_start.ensures,
+      c.in_ok-put_markup.ensures,
+      c.complete_start.ensures,
+      c.len-asked.ensures,
       append_assoc,
     ))
-    c.put_markup-3.ensures
+    c.put_markup-4.ensures
