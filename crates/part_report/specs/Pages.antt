@@ -106,8 +106,8 @@ summary_text facts measured wanted limits rows = names_text facts ++ (complete_t
 
 -- how to check the page
 unfoldable pub end_text : List ℕ
-end_text = markup (codes "<h2>How to check this page</h2>\n<p><code>dme audit --record FILE PROGRAM</code> audits the record again, ")
-    ++ markup (codes "<code>dme export --as csv --record FILE PROGRAM</code> prints the same numbers.</p>\n</body></html>\n")
+end_text = markup (codes "<h2>How to check this page</h2>\n<p><code>dme audit --record FILE [--setup FILE] PROGRAM</code> audits the record again, ")
+    ++ markup (codes "<code>dme export --as csv --record FILE [--setup FILE] [--limits FILE] PROGRAM</code> prints the same numbers.</p>\n</body></html>\n")
 
 -- the page of a part, with a drawing of its program and features
 pub record IsPage (facts : PageFacts) (program : Meaning) (features : List Feature) (limits : Option (List Limit)) (rows : List Row)

@@ -330,11 +330,11 @@ fn put_end(out: &mut Vec<u8>) -> Result<(), AllocError>
 {
     put_markup(
         out,
-        b"<h2>How to check this page</h2>\n<p><code>dme audit --record FILE PROGRAM</code> audits the record again, ",
+        b"<h2>How to check this page</h2>\n<p><code>dme audit --record FILE [--setup FILE] PROGRAM</code> audits the record again, ",
     )?;
     put_markup(
         out,
-        b"<code>dme export --as csv --record FILE PROGRAM</code> prints the same numbers.</p>\n</body></html>\n",
+        b"<code>dme export --as csv --record FILE [--setup FILE] [--limits FILE] PROGRAM</code> prints the same numbers.</p>\n</body></html>\n",
     )
 }
 
