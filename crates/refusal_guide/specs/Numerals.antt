@@ -27,6 +27,7 @@ abbrev pub measure_fault : Measure → List ℕ → Option NumeralFault
 measure_fault Length text = length_fault text
 measure_fault Component text = component_fault text
 
+-- a text is not read as what it is to be
 abbrev pub is_no : Measure → List ℕ → Bool
 is_no measure text = is_some (measure_fault measure text)
 
