@@ -9,9 +9,9 @@ use Rattle.deviations.specs.declared.faults.RowsFault.{RowsFault}
 use Rattle.deviations.specs.declared.faults.RowsFault.TheVariants as rows
 use Rattle.tool_rack.specs.Setups.{SetupValue, setup_of}
 use Rattle.tool_rack.specs.declared.faults.SetupFault.TheVariants as setup
-use Rattle.part_limits.specs.Limits.{limits_of}
-use Rattle.part_limits.specs.declared.entries.Limit.{Limit}
-use Rattle.part_limits.specs.declared.faults.LimitsFault.TheVariants as limits
+use Rattle.deviations.specs.Limits.{limits_of}
+use Rattle.deviations.specs.declared.entries.Limit.{Limit}
+use Rattle.deviations.specs.declared.limit_faults.LimitsFault.TheVariants as limits
 use Rattle.record_text.specs.Reading.{IsDamagedRecord}
 use Rattle.record_text.specs.Reading as texts
 use Rattle.record_text.specs.Records.{Recorded}
@@ -19,7 +19,7 @@ use Rattle.record_text.specs.declared.faults.RecordFault.TheVariants as recorded
 use Rattle.link_world.specs.ScheduleTexts.{schedule_of}
 use Rattle.link_world.specs.declared.texts.schedules.Instruction.{Instruction}
 use Rattle.link_world.specs.declared.texts.schedule_faults.ScheduleFault.TheVariants as schedule
-use Rattle.told_files.specs.Either.{AreAudited, IsDamagedAudited}
+use Rattle.witness.specs.Either.{AreAudited, IsDamagedAudited}
 use Rattle.dmis_program.specs.Meaning.{Meaning, program_of}
 use Rattle.dmis_program.specs.declared.faults.ProgramFault.TheVariants as program
 use Rattle.dme_orders.specs.Checked.{IsUnread}
