@@ -14,16 +14,18 @@ use crate::serving::{read_recordings, run_program, serve, watch};
 use crate::version;
 use byte_ports::Writing;
 use dme_orders::{
-    AuditFiles, FilesFault, InputFiles, RecordFiles, SimulationFiles, audit_files, audit_record,
-    check_under_setup, review_program, simulate, status,
+    AuditFiles, RecordFiles, SimulationFiles, audit_files, audit_record, check_under_setup,
+    review_program, simulate,
 };
 use dme_words::{Audit, Check, Lower, Order, RecordAudit, Review, Simulation, read_words};
-use watched_ends::Job;
+use order_parts::{FilesFault, status};
 use program_lowering::{Choices, SourceNames, lower_program};
 use program_review::{FindingForm, FindingStyle};
+use refusal_guide::InputFiles;
 use std::alloc::{AllocError, Global};
 use std::env;
 use std::io::{self, Write};
+use watched_ends::Job;
 
 /// The words of the command line; the first names the program in `clap`'s texts, whatever file it runs from.
 fn words_of(alloc: Global, given: &[String]) -> Result<Vec<&str>, AllocError> {

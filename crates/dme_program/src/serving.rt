@@ -8,13 +8,14 @@ ghost use Rattle.client_core.specs.Clients.{is_window};
 use crate::explaining::refused;
 use crate::files::Sources;
 use dme_hands::RealHands;
-use dme_orders::{InputFiles, read_setup};
+use dme_orders::read_setup;
 use dme_words::{Run, Service, Watch};
-use watched_ends::{Job, Session as Reading};
+use refusal_guide::InputFiles;
 use run_opening::Opening;
 use services::{Relay, RelaySession, Service as Values, Session};
 use std::alloc::AllocError;
 use tool_rack::Setup;
+use watched_ends::{Job, Session as Reading};
 
 /// The status of a session that has not ended.
 const ENDLESS: u8 = 70;

@@ -17,11 +17,11 @@ mod sessions;
 mod showing;
 mod waits;
 
+pub use arriving::line_came;
+pub use causes::{cause_of, why_unconnected, why_unwritten};
 pub use dialogues::{Dialogue, Report};
+pub use lines::{Lines, Side, stamped};
 pub use places::{line_of, place_of};
 pub use sessions::{Refusal, Sent, Session, is_task};
 pub use showing::{push_visible, visible};
-pub use arriving::line_came;
-pub use causes::{cause_of, why_unconnected, why_unwritten};
-pub use lines::{Lines, Side, stamped};
 pub use waits::{Lapse, Wait, lapse_line};

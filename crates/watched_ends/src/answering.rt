@@ -4,9 +4,8 @@ ghost use Rattle.std.specs.Prelude.{◌≡◌, ◌≢◌, [], IfOk};
 ghost use Rattle.witness_judge.specs.Texts.{judgement_text, judgement_status};
 ghost use Rattle.watched_ends.specs.Jobs as spec;
 
-use crate::Job;
+use crate::{Job, Order, read_order, recorded_text};
 use std::alloc::{AllocError, Global};
-use crate::{Order, read_order, recorded_text};
 use witness_judge::{Judgement, first_bytes, judge, write_judgement};
 
 /// The text of a judgement, and its status. Fails only if out of memory.

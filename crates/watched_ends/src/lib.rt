@@ -25,11 +25,11 @@ mod sessions;
 mod stages;
 mod turns;
 
+pub use jobs::Job;
 pub use limits::{LimitedRelay, MOST_OPEN};
 pub use ordered::ordered_ledger_text;
 pub use pieces::{ORDER_HEADER, add_piece, read_order};
 pub use recorded::{Order, ledger_text, recorded_text};
-pub use jobs::Job;
 pub use running::run;
 pub use sessions::Session;
 pub use stages::Stage;

@@ -3,9 +3,8 @@
 ghost use Rattle.std.specs.Prelude.{◌≡◌, ◌++◌, IfOk, string_bytes};
 ghost use Rattle.watched_ends.specs.Sessions as spec;
 
-use crate::Job;
+use crate::{Job, Order};
 use std::alloc::{AllocError, Global};
-use crate::Order;
 use witness::cut_lines;
 
 /// From which line on the bytes of a recording of this name are not read, since they are no lines; nothing if all are, or if a judgement says

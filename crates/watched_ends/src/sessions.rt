@@ -6,11 +6,10 @@ ghost use Rattle.watched_ends.specs.Sessions as spec;
 
 use crate::answering::answer;
 use crate::notes::notes;
-use crate::{Job, Stage};
+use crate::{Job, Order, Stage};
 use effects::{Answer, Effect, Place, Slot};
 use std::alloc::{AllocError, Global};
 use std::marker::Model;
-use crate::Order;
 
 const OUT_OF_MEMORY: &str = "dme: out of memory\n";
 
