@@ -29,14 +29,6 @@ impl Span {
         }
     }
 
-    /// The zero point alone.
-    pub fn zero() -> Span
-        ensures low { result.low ≡ pos 0 }
-        ensures high { result.high ≡ pos 0 }
-    {
-        Span { low: 0, high: 0 }
-    }
-
     /// The span extended to include this coordinate.
     pub fn with(self, coordinate: Coordinate) -> Span
         ensures { IsWider self.low self.high coordinate result.low result.high }
