@@ -19,7 +19,7 @@ use Rattle.record_text.specs.declared.faults.RecordFault.TheVariants as recorded
 use Rattle.link_world.specs.ScheduleTexts.{schedule_of}
 use Rattle.link_world.specs.declared.texts.schedules.Instruction.{Instruction}
 use Rattle.link_world.specs.declared.texts.schedule_faults.ScheduleFault.TheVariants as schedule
-use Rattle.told_files.specs.Either.{AreAudited, IsDamagedAudited}
+use Rattle.witness.specs.Either.{AreAudited, IsDamagedAudited}
 use Rattle.dmis_program.specs.Meaning.{Meaning, program_of}
 use Rattle.dmis_program.specs.declared.faults.ProgramFault.TheVariants as program
 use Rattle.dme_orders.specs.Checked.{IsUnread}

@@ -16,7 +16,7 @@ use link_world::{Schedule, ScheduleFault};
 use part_limits::{Limits, LimitsFault};
 use record_text::{Record, RecordFault, read_record};
 use std::alloc::{AllocError, Global};
-use told_files::read_audited;
+use witness::read_audited;
 use tool_rack::{Setup, SetupFault};
 
 /// What a file is to an order.

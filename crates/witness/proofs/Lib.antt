@@ -12,3 +12,14 @@ pub mod TextPieces
 pub mod Prefixes
 pub mod Kept
 pub mod Courses
+pub mod ToldNames
+pub mod Connections
+pub mod ToldCuts
+pub mod EitherText
+pub mod NextContacts
+pub mod OneTold
+pub mod OtherLines
+pub mod SameRuns
+pub mod ToldFronts
+pub mod ToldLaws
+pub mod ToldReads

@@ -9,3 +9,9 @@ pub mod Texts
 pub mod Relaying
 pub mod Examples
 pub mod Names
+pub mod Either
+pub mod Numbering
+pub mod Parts
+pub mod Runs
+pub mod ToldTexts
+pub mod ToldNames

@@ -5,22 +5,43 @@
 //! - `known`, `uses`: what becomes of the changes of tool and frame that may hold, and of the lines that are open
 //! - `dialogue`: `Dialogue`, the lines of both ends, one at a time; `witness`: `Witness`, their bytes, and bytes as lines; `writing`: the text
 //! - `laws`: what follows for all lines, and for the whole course of a relay; `examples`: what is known after lines that are written out
+//! - `told_ledger`: `ToldLedger`, what was reported, in order
+//! - `told_fields`: the fields that only such a text has
+//! - `told_lines`: what a line says
+//! - `told_texts`: the text
+//! - `runs`: the contacts that runs may be made of
+//! - `auditing`: the audit of features by them, and a text of contacts for an audit, of either kind
+//! - `doubts`: which contacts have a tool or a frame that is not known, and on which connections the others are
+//! - `told_laws`: what follows from the definitions
 #![tactic(auto)]
 
 mod asking;
+mod auditing;
 mod dialogue;
+mod doubts;
 pub mod examples;
 mod known;
 pub mod laws;
 pub mod lines;
 mod marks;
+mod runs;
+mod told_fields;
+pub mod told_laws;
+pub mod told_ledger;
+mod told_lines;
+mod told_texts;
 mod uses;
 mod witness;
 mod writing;
 
 pub use asking::{only_asks, sent};
+pub use auditing::{audit_told, is_told_file, read_audited};
 pub use dialogue::{Dialogue, foreign_event};
+pub use doubts::{Doubts, contact_connections, doubts_of, ends_runs};
 pub use lines::{Known, Reported, Rule, SentCommand, Side, Use};
 pub use marks::is_end;
+pub use runs::run_contacts;
+pub use told_ledger::ToldLedger;
+pub use told_texts::read_told;
 pub use witness::{Witness, cut_lines};
 pub use writing::{HEADER, add_all, add_told};

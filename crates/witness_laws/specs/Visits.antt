@@ -5,7 +5,7 @@ use Rattle.dmis_program.specs.Meaning.{Meaning}
 use Rattle.protocol_model.specs.Ends.{ClientEnd}
 use Rattle.witness.specs.Dialogues.{silence}
 use Rattle.witness.specs.Texts.{numbered}
-use Rattle.told_files.specs.Runs.{SoundByTold}
+use Rattle.witness.specs.Runs.{SoundByTold}
 use Rattle.witness.specs.declared.lines.Reported.{Reported}
 use Rattle.client_core.specs.Calls.{Call, Connected, Send, Feed, ReadOne, Abort, Resume, Leave, Restart, Sent, behind_calls}
 use Rattle.witness_laws.specs.Acts.{BeginsWith}

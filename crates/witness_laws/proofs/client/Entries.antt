@@ -4,7 +4,7 @@ use Rattle.witness_laws.proofs.Names.{Feature, IsRun, length, length-append, Lis
 use Rattle.witness_laws.proofs.Names.{Reported, Serves, subst, suc, sym, take, true, zero, ℕ}
 use Rattle.dmis_program.specs.declared.features.Touch.{Touch}
 use Rattle.dmis_program.specs.declared.features.Wanted.{Wanted}
-use Rattle.told_files.specs.Runs.{Part, Made, Passes, made_on, entry_part, parts_of, known_contacts, is_made, lies_between, AreNext, IsToldRun}
+use Rattle.witness.specs.Runs.{Part, Made, Passes, made_on, entry_part, parts_of, known_contacts, is_made, lies_between, AreNext, IsToldRun}
 use Rattle.witness_laws.specs.Acts.{all_done}
 
 -- ---- lines, one list after another

@@ -5,10 +5,10 @@ use Rattle.witness_laws.proofs.Names.{MadeContact, map, None, Option, Point, ref
 use Rattle.witness_laws.proofs.Names.{take-append-le, take-map, true, zero, ℕ}
 use Rattle.dmis_program.specs.declared.features.Touch.{Touch}
 use Rattle.dmis_program.specs.declared.features.Wanted.{Wanted}
-use Rattle.told_files.specs.Numbering.{numbered_from}
-use Rattle.told_files.specs.Runs.{parts_of, known_contacts, IsToldRun, AreToldRuns, SoundByTold, connection_at, unnumbered, AreRunContacts}
-use Rattle.told_files.proofs.NextContacts.{numbered_all}
-use Rattle.told_files.proofs.SameRuns.{run_told, told_sound}
+use Rattle.witness.specs.Numbering.{numbered_from}
+use Rattle.witness.specs.Runs.{parts_of, known_contacts, IsToldRun, AreToldRuns, SoundByTold, connection_at, unnumbered, AreRunContacts}
+use Rattle.witness.proofs.NextContacts.{numbered_all}
+use Rattle.witness.proofs.SameRuns.{run_told, told_sound}
 use Rattle.witness_laws.proofs.client.Entries.{entries_of, run_longer, run_reported, AreAt, serves_at, run_long, run_moved}
 
 -- ---- the same ledger with other numbers, all above one

@@ -17,10 +17,10 @@ use Rattle.record_laws.proofs.Counts.{Grows, grows_told, heard_grows, numbered_d
 use Rattle.record_laws.proofs.Sounds.{sound_served, served_ours}
 use Rattle.record_laws.proofs.Tells.{told_are_sound}
 use Rattle.record_laws.proofs.Views.{read_all}
-use Rattle.told_files.specs.Numbering.{numbered_from}
-use Rattle.told_files.specs.Runs.{parts_of, SoundByTold}
-use Rattle.told_files.proofs.NextContacts.{numbered_all}
-use Rattle.told_files.proofs.SameRuns.{told_sound}
+use Rattle.witness.specs.Numbering.{numbered_from}
+use Rattle.witness.specs.Runs.{parts_of, SoundByTold}
+use Rattle.witness.proofs.NextContacts.{numbered_all}
+use Rattle.witness.proofs.SameRuns.{told_sound}
 use Rattle.witness_laws.specs.Acts.{all_done, BeginsWith}
 use Rattle.witness_laws.specs.Lines.{IsNewClient, witnessed, unasked}
 use Rattle.witness_laws.specs.Lines.IsNewClient.{never_on}
