@@ -3,3 +3,4 @@ pub mod Roots
 pub mod Tables
 pub mod Digits
 pub mod Numbers
+pub mod LimitNames

@@ -5,12 +5,12 @@ use Rattle.std.specs.List.{filter}
 use Rattle.std.specs.Int.{int_min}
 use Rattle.dmis_program.specs.declared.features.Wanted.{Wanted}
 use Rattle.fixed_um.specs.Written.{written}
-use Rattle.part_limits.specs.Limits.{range_for}
-use Rattle.part_limits.specs.Ranges.{verdict_in}
-use Rattle.part_limits.specs.declared.entries.Limit.{Limit}
-use Rattle.part_limits.specs.declared.ranges.Range.{Range}
-use Rattle.part_limits.specs.declared.ranges.Verdict.{Verdict}
-use Rattle.part_limits.specs.declared.ranges.Verdict.TheVariants.{Inside, Outside}
+use Rattle.deviations.specs.Limits.{range_for}
+use Rattle.deviations.specs.Ranges.{verdict_in}
+use Rattle.deviations.specs.declared.entries.Limit.{Limit}
+use Rattle.deviations.specs.declared.ranges.Range.{Range}
+use Rattle.deviations.specs.declared.ranges.Verdict.{Verdict}
+use Rattle.deviations.specs.declared.ranges.Verdict.TheVariants.{Inside, Outside}
 use Rattle.deviations.specs.Judged.{row_verdict, verdict_word}
 use Rattle.deviations.specs.Rows.{Row}
 

@@ -14,8 +14,8 @@ use Rattle.fixed_um.specs.declared.lengths.Point.{Point}
 use Rattle.deviations.specs.declared.along.Deviation.{Deviation}
 use Rattle.deviations.specs.Judged.{row_verdict, verdict_word}
 use Rattle.deviations.specs.Rows.{Row}
-use Rattle.part_limits.specs.declared.entries.Limit.{Limit}
-use Rattle.part_limits.specs.declared.ranges.Verdict.{Verdict}
+use Rattle.deviations.specs.declared.entries.Limit.{Limit}
+use Rattle.deviations.specs.declared.ranges.Verdict.{Verdict}
 
 -- tokens joined those of a writer
 abbrev pub Puts : {A E : Type 0} → Result A E → Written → Written → List Token → Type 0

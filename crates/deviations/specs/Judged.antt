@@ -1,11 +1,11 @@
 -- Whether the points of a table are within the limits of their features (this profile).
 use Rattle.std.specs.Prelude.{ℤ, ℕ, List, [], ◌∷◌, codes, Option, Some, None}
-use Rattle.part_limits.specs.Limits.{range_for}
-use Rattle.part_limits.specs.Ranges.{verdict_in}
-use Rattle.part_limits.specs.declared.entries.Limit.{Limit}
-use Rattle.part_limits.specs.declared.ranges.Range.{Range}
-use Rattle.part_limits.specs.declared.ranges.Verdict.{Verdict}
-use Rattle.part_limits.specs.declared.ranges.Verdict.TheVariants.{Inside, Outside}
+use Rattle.deviations.specs.Limits.{range_for}
+use Rattle.deviations.specs.Ranges.{verdict_in}
+use Rattle.deviations.specs.declared.entries.Limit.{Limit}
+use Rattle.deviations.specs.declared.ranges.Range.{Range}
+use Rattle.deviations.specs.declared.ranges.Verdict.{Verdict}
+use Rattle.deviations.specs.declared.ranges.Verdict.TheVariants.{Inside, Outside}
 use Rattle.deviations.specs.Rows.{Row}
 
 -- a deviation along a normal and the range for it, if both are there

@@ -4,3 +4,7 @@ pub mod Judged
 pub mod Compared
 pub mod Records
 pub mod Json
+pub mod Ranges
+pub mod Entries
+pub mod Limits
+pub mod LimitMessages

@@ -14,8 +14,8 @@ use Rattle.contact_ledger.specs.Fields.{point_fields}
 use Rattle.deviations.specs.declared.along.Deviation.{Deviation}
 use Rattle.deviations.specs.Judged.{row_verdict, verdict_word}
 use Rattle.deviations.specs.Rows.{Row}
-use Rattle.part_limits.specs.declared.entries.Limit.{Limit}
-use Rattle.part_limits.specs.declared.ranges.Verdict.{Verdict}
+use Rattle.deviations.specs.declared.entries.Limit.{Limit}
+use Rattle.deviations.specs.declared.ranges.Verdict.{Verdict}
 
 -- fields joined those of a record
 abbrev pub Joins : {A E : Type 0} → Result A E → ByteRecord → ByteRecord → List (List ℕ) → Type 0

@@ -21,9 +21,9 @@ ghost use Rattle.deviations.specs.Compared.{
 use crate::judged::{row_verdict, verdict_word};
 use crate::printed::Micrometres;
 use crate::rows::Row;
+use crate::{Limits, Range, Verdict};
 use dmis_program::{Program, Wanted};
 use fixed_um::Name;
-use part_limits::{Limits, Range, Verdict};
 use std::alloc::{AllocError, Global};
 use std::marker::Model;
 

@@ -4,7 +4,7 @@ ghost use Rattle.std.specs.Prelude.{◌≡◌};
 ghost use Rattle.deviations.specs.Judged.{verdict_of, row_verdict, verdict_word};
 
 use crate::rows::Row;
-use part_limits::{Limits, Range, Verdict};
+use crate::{Limits, Range, Verdict};
 
 fn verdict_of(range: Option<Range>, along: Option<i128>) -> Option<Verdict>
     ensures { result ≡ verdict_of range along }

@@ -6,23 +6,35 @@
 //! - `records`: the table as comma-separated values; `objects`: as JSON; `printed`: how values are printed
 //! - `forms`: the forms in which results are printed; the crate `drawings` makes the drawing
 //! - `faults`: why there is no table
+//! - `limits`: `Limits`, read from a text, and the range for a feature
+//! - `ranges`: whether a deviation is within its limit
+//! - `limit_faults`: why a text is refused
+//! - `entries`: what one line says
 #![tactic(auto)]
 
 pub mod along;
 mod compared;
+mod entries;
 mod faults;
 pub mod forms;
 mod judged;
+mod limit_faults;
+mod limits;
 mod objects;
 mod printed;
+mod ranges;
 mod records;
 pub mod rows;
 
 pub use along::{Deviation, along_normal, one_length_is_along};
 pub use compared::limit_lines;
+pub use entries::is_in_micrometres;
 pub use faults::RowsFault;
 pub use forms::Form;
 pub use judged::{row_verdict, verdict_word};
+pub use limit_faults::LimitsFault;
+pub use limits::Limits;
 pub use objects::write_json;
+pub use ranges::{Range, Verdict};
 pub use records::write_csv;
 pub use rows::{Row, rows_of};

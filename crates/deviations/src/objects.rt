@@ -40,9 +40,9 @@ use crate::along::Deviation;
 use crate::judged::{row_verdict, verdict_word};
 use crate::printed::{Micrometres, Millionths};
 use crate::rows::Row;
+use crate::{Limits, Verdict};
 use fixed_um::{Dir, Frame, Name, Point};
 use json::Writer;
-use part_limits::{Limits, Verdict};
 use std::alloc::{AllocError, Global};
 
 #[tactic(auto, using(crate::proofs::Numbers::written_is_number))]

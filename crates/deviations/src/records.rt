@@ -27,9 +27,9 @@ use crate::along::Deviation;
 use crate::judged::{row_verdict, verdict_word};
 use crate::printed::{Micrometres, Millionths};
 use crate::rows::Row;
+use crate::{Limits, Verdict};
 use csv::{ByteRecord, WriterBuilder};
 use fixed_um::{Dir, Frame, Point};
-use part_limits::{Limits, Verdict};
 use std::alloc::{AllocError, Global};
 
 fn push_length(alloc: Global, columns: &mut ByteRecord, length: i128) -> Result<(), AllocError>

@@ -12,7 +12,7 @@ use Rattle.deviations.specs.declared.forms.Form.TheVariants.{Csv, Json, Svg}
 use Rattle.dmis_program.specs.Meaning.{Meaning}
 use Rattle.drawings.specs.Drawing.{IsDrawing}
 use Rattle.drawings.specs.Texts.{Adds}
-use Rattle.part_limits.specs.declared.entries.Limit.{Limit}
+use Rattle.deviations.specs.declared.entries.Limit.{Limit}
 use Rattle.dme_orders.specs.Input.{Named, ExportInput, ReadsExport, WhyNoExport, AreUntouched, Limited, ReadsLimited, WhyNoLimited}
 use Rattle.dme_orders.specs.Missing.{IsMissing}
 use Rattle.dme_orders.specs.Orders.{Went, Carries}

@@ -4,7 +4,7 @@ use Rattle.contact_ledger.specs.declared.acts.Act.{Act}
 use Rattle.contact_ledger.specs.declared.features.Feature.{Feature}
 use Rattle.dmis_program.specs.Meaning.{Meaning}
 use Rattle.link_world.specs.declared.texts.schedules.Instruction.{Instruction}
-use Rattle.part_limits.specs.declared.entries.Limit.{Limit}
+use Rattle.deviations.specs.declared.entries.Limit.{Limit}
 use Rattle.record_text.specs.Records.{Recorded}
 use Rattle.tool_rack.specs.Setups.{SetupValue}
 use Rattle.program_review.specs.Reviews.{frames_under}

@@ -16,7 +16,7 @@ use Rattle.dme_orders.specs.Orders.{Went, Carries}
 use Rattle.dme_orders.specs.Reading.{Came}
 use Rattle.dme_orders.specs.Recorded.{IsOfProgram, DiffersAt, features_in, told_in}
 use Rattle.dme_orders.specs.declared.exporting.Exported.{Exported}
-use Rattle.part_limits.specs.declared.entries.Limit.{Limit}
+use Rattle.deviations.specs.declared.entries.Limit.{Limit}
 use Rattle.dme_orders.specs.RunErrors.{errors_in, error_line}
 use Rattle.dme_orders.specs.declared.of_records.RecordNotes.{RecordNotes}
 use Rattle.dme_orders.specs.declared.of_records.RecordText.{RecordText}

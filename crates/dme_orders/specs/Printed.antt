@@ -3,7 +3,7 @@ use Rattle.std.specs.Prelude.{◌≡◌, ℕ, Bool, ◌||◌, false, List, [], s
 use Rattle.tool_rack.specs.declared.faults.SetupFault.TheVariants as setup
 use Rattle.dmis_program.specs.declared.faults.ProgramFault.TheVariants as program
 use Rattle.link_world.specs.declared.texts.schedule_faults.ScheduleFault.TheVariants as schedule
-use Rattle.part_limits.specs.declared.faults.LimitsFault.TheVariants as limits
+use Rattle.deviations.specs.declared.limit_faults.LimitsFault.TheVariants as limits
 use Rattle.record_text.specs.declared.faults.RecordFault.TheVariants as recorded
 use Rattle.dme_orders.specs.declared.reading.FilesFault.{FilesFault}
 use Rattle.dme_orders.specs.declared.reading.FilesFault.TheVariants as files

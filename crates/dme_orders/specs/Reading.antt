@@ -9,9 +9,9 @@ use Rattle.deviations.specs.declared.faults.RowsFault.{RowsFault}
 use Rattle.deviations.specs.declared.faults.RowsFault.TheVariants as rows
 use Rattle.tool_rack.specs.Setups.{SetupValue, setup_of}
 use Rattle.tool_rack.specs.declared.faults.SetupFault.TheVariants as setup
-use Rattle.part_limits.specs.Limits.{limits_of}
-use Rattle.part_limits.specs.declared.entries.Limit.{Limit}
-use Rattle.part_limits.specs.declared.faults.LimitsFault.TheVariants as limits
+use Rattle.deviations.specs.Limits.{limits_of}
+use Rattle.deviations.specs.declared.entries.Limit.{Limit}
+use Rattle.deviations.specs.declared.limit_faults.LimitsFault.TheVariants as limits
 use Rattle.record_text.specs.Reading.{IsDamagedRecord}
 use Rattle.record_text.specs.Reading as texts
 use Rattle.record_text.specs.Records.{Recorded}

@@ -15,10 +15,9 @@ use crate::reading::{FilesFault, features_from, named_limits, named_setup, progr
 use crate::simulating::write_text;
 use byte_ports::{Sink, Source};
 use contact_ledger::{Feature, FeatureLedger};
-use deviations::{Form, Row, limit_lines, rows_of, write_csv, write_json};
+use deviations::{Form, Limits, Row, limit_lines, rows_of, write_csv, write_json};
 use dmis_program::Program;
 use drawings::write_drawing;
-use part_limits::Limits;
 use std::alloc::{AllocError, Global};
 
 /// The files of an export, as sources.

@@ -6,10 +6,10 @@ ghost use Rattle.dme_orders.specs.Printed.{status_of, file_in, is_short, IsUnnam
 
 use crate::reading::{FilesFault, Role};
 use contact_ledger::TextFault;
+use deviations::LimitsFault;
 use dmis_program::ProgramFault;
 use fixed_um::Name;
 use link_world::ScheduleFault;
-use part_limits::LimitsFault;
 use record_text::RecordFault;
 use refusal_guide::{Refused, write_place};
 use std::alloc::{AllocError, AllocFailed, Global};

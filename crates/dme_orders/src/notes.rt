@@ -6,10 +6,10 @@ use dmis_program::{Frames, Program};
 use record_text::{Record, read_record};
 use refusal_guide::{write_audit, write_other_program};
 use std::alloc::{AllocError, Global};
-use told_files::{
+use tool_rack::Setup;
+use witness::{
     ToldLedger, contact_connections, doubts_of, ends_runs, is_told_file, read_audited, read_told,
 };
-use tool_rack::Setup;
 
 /// The program of these files under the frames of their setup, if both are understood.
 fn program_of(alloc: Global, files: &InputFiles) -> Option<Program> {

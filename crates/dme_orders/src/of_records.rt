@@ -22,9 +22,8 @@ use crate::run_errors::errors_of;
 use crate::simulating::write_text;
 use byte_ports::{Sink, Source};
 use contact_ledger::{Feature, FeatureLedger, ServerLedger, write_contacts, write_features};
-use deviations::{Form, rows_of};
+use deviations::{Form, Limits, rows_of};
 use dmis_program::Program;
-use part_limits::Limits;
 use record_text::{Record, other_feature};
 use std::alloc::{AllocError, Global};
 

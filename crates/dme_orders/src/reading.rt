@@ -9,15 +9,14 @@ ghost use Rattle.dme_orders.specs.Input.{named, ReadsNamed, WhyNoNamed, ReadsNam
 
 use byte_ports::{PullFault, Source, pull_all};
 use contact_ledger::{FeatureLedger, ServerLedger, TextFault, read_features};
-use deviations::RowsFault;
+use deviations::{Limits, LimitsFault, RowsFault};
 use dmis_program::{Frames, Program, ProgramFault};
 use fixed_um::Name;
 use link_world::{Schedule, ScheduleFault};
-use part_limits::{Limits, LimitsFault};
 use record_text::{Record, RecordFault, read_record};
 use std::alloc::{AllocError, Global};
-use witness::read_audited;
 use tool_rack::{Setup, SetupFault};
+use witness::read_audited;
 
 /// What a file is to an order.
 #[derive(Clone, Copy, Debug, PartialEq, Eq)]

@@ -5,7 +5,7 @@ use Rattle.tool_rack.specs.declared.faults.SetupFault.TheVariants as setup
 use Rattle.link_world.specs.declared.texts.schedule_faults.ScheduleFault.TheVariants as schedule
 use Rattle.contact_ledger.specs.declared.faults.TextFault.TheVariants as text
 use Rattle.record_text.specs.declared.faults.RecordFault.TheVariants as recorded
-use Rattle.part_limits.specs.declared.faults.LimitsFault.TheVariants as limits
+use Rattle.deviations.specs.declared.limit_faults.LimitsFault.TheVariants as limits
 use Rattle.refusal_guide.specs.Lines.{line_of, shown_from}
 use Rattle.refusal_guide.specs.Windows.{shown_start}
 use Rattle.refusal_guide.specs.Words.{Caused}

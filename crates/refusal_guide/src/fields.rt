@@ -5,8 +5,8 @@ use crate::lines::{Place, first_line};
 use crate::names::name_reason;
 use crate::numerals::length_reason;
 use crate::words::{Explained, Reason, Word};
+use deviations::is_in_micrometres;
 use dmis_text::cut_line;
-use part_limits::is_in_micrometres;
 use std::alloc::Global;
 use tool_rack::fields::{cut_field, has_outer_space, is_word};
 

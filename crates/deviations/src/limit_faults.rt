@@ -18,7 +18,7 @@ pub enum LimitsFault {
 
 impl From<AllocError> for LimitsFault {
     ghost use Rattle.std.specs.Prelude.{◌≡◌};
-    ghost use Rattle.part_limits.specs.declared.faults.LimitsFault.TheVariants.{Memory};
+    ghost use Rattle.deviations.specs.declared.limit_faults.LimitsFault.TheVariants.{Memory};
 
     ghost from_gives = { λ _ e. e ≡ Memory };
 
@@ -29,7 +29,7 @@ impl From<AllocError> for LimitsFault {
 
 impl<T: Drop> From<AllocFailed<T>> for LimitsFault {
     ghost use Rattle.std.specs.Prelude.{◌≡◌};
-    ghost use Rattle.part_limits.specs.declared.faults.LimitsFault.TheVariants.{Memory};
+    ghost use Rattle.deviations.specs.declared.limit_faults.LimitsFault.TheVariants.{Memory};
 
     ghost from_gives = { λ _ e. e ≡ Memory };
 
@@ -40,7 +40,7 @@ impl<T: Drop> From<AllocFailed<T>> for LimitsFault {
 
 impl fmt::Display for LimitsFault {
     ghost use Rattle.std.specs.Prelude.{Some};
-    ghost use Rattle.part_limits.specs.Messages.{fault_text};
+    ghost use Rattle.deviations.specs.LimitMessages.{fault_text};
 
     ghost output = { λ fault. Some (fault_text fault) };
 

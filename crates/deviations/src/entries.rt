@@ -2,10 +2,10 @@ ghost use Rattle.std.specs.Prelude.{◌≡◌, ◌≤◌, ◌==◌, not, length,
 ghost use Rattle.std.specs.List.{list_all, prefix_len};
 ghost use Rattle.tool_rack.specs.Entries.{length_of};
 ghost use Rattle.tool_rack.specs.Fields.{fields_of};
-ghost use Rattle.part_limits.specs.Entries.{is_no_exponent, is_in_micrometres, length_in, label_in, limit_from, limit_fields, entry_on};
-ghost use Rattle.part_limits.specs.Limits.{GivesLimits};
+ghost use Rattle.deviations.specs.Entries.{is_no_exponent, is_in_micrometres, length_in, label_in, limit_from, limit_fields, entry_on};
+ghost use Rattle.deviations.specs.Limits.{GivesLimits};
 
-use crate::faults::LimitsFault;
+use crate::limit_faults::LimitsFault;
 use crate::ranges::Range;
 use fixed_um::{Name, NumeralFault, Um, read_um};
 use std::alloc::{AllocError, Global};

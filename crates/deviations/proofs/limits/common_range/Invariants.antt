@@ -1,5 +1,5 @@
-use Rattle.part_limits.proofs.Names.{◌≡◌, common_range, length}
-use Rattle.part_limits.proofs.limits.common_range.Given as goal
+use Rattle.deviations.proofs.LimitNames.{◌≡◌, common_range, length}
+use Rattle.deviations.proofs.limits.common_range.Given as goal
 
 abbrev pub invariant-loop-left : goal.invariant-loop-left
 invariant-loop-left l = common_range l.left ≡ common_range l.fn.limits

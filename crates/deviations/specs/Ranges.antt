@@ -1,8 +1,8 @@
 -- The deviations that are within a limit (this profile), in whole micrometres.
 use Rattle.std.specs.Prelude.{◌&&◌, ℤ, int_le, Option, Some, None, if◌then◌else◌}
-use Rattle.part_limits.specs.declared.ranges.Range.{Range}
-use Rattle.part_limits.specs.declared.ranges.Verdict.{Verdict}
-use Rattle.part_limits.specs.declared.ranges.Verdict.TheVariants.{Inside, Outside}
+use Rattle.deviations.specs.declared.ranges.Range.{Range}
+use Rattle.deviations.specs.declared.ranges.Verdict.{Verdict}
+use Rattle.deviations.specs.declared.ranges.Verdict.TheVariants.{Inside, Outside}
 
 -- the range from the lower limit to the upper one, unless the lower one is the greater
 abbrev pub range_between : ℤ → ℤ → Option Range

@@ -1,5 +1,5 @@
-use Rattle.part_limits.proofs.Names.{◌+◌, ◌≡◌, ◌≤◌, length, limits_from, limits_of, lines}
-use Rattle.part_limits.proofs.limits.Limits.read.Given as goal
+use Rattle.deviations.proofs.LimitNames.{◌+◌, ◌≡◌, ◌≤◌, length, limits_from, limits_of, lines}
+use Rattle.deviations.proofs.limits.Limits.read.Given as goal
 
 -- the limits so far, after the lines that are left, are those of the whole text
 abbrev pub invariant-loop-line : goal.invariant-loop-line

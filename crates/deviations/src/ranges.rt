@@ -1,6 +1,6 @@
 ghost use Rattle.std.specs.Prelude.{◌≡◌, ◌↔◌, ◌≤ℤ◌};
-ghost use Rattle.part_limits.specs.Ranges.{range_between, verdict_in};
-ghost use Rattle.part_limits.specs.declared.ranges.Verdict.TheVariants.{Inside};
+ghost use Rattle.deviations.specs.Ranges.{range_between, verdict_in};
+ghost use Rattle.deviations.specs.declared.ranges.Verdict.TheVariants.{Inside};
 
 use fixed_um::Um;
 

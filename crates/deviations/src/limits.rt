@@ -1,6 +1,6 @@
 ghost use Rattle.std.specs.Prelude.{◌≡◌, is_some, OnOk, IfErr, Ok};
-ghost use Rattle.part_limits.specs.Entries.{entry_on};
-ghost use Rattle.part_limits.specs.Limits.{
+ghost use Rattle.deviations.specs.Entries.{entry_on};
+ghost use Rattle.deviations.specs.Limits.{
   is_named,
   own_range,
   common_range,
@@ -13,7 +13,7 @@ ghost use Rattle.part_limits.specs.Limits.{
 };
 
 use crate::entries::{Limit, entry_on};
-use crate::faults::LimitsFault;
+use crate::limit_faults::LimitsFault;
 use crate::ranges::Range;
 use dmis_text::cut_line;
 use fixed_um::Name;
@@ -28,7 +28,7 @@ pub struct Limits {
 
 impl Model for Limits {
     ghost use Rattle.std.specs.Prelude.{List};
-    ghost use Rattle.part_limits.specs.declared.entries.Limit.{Limit};
+    ghost use Rattle.deviations.specs.declared.entries.Limit.{Limit};
 
     ghost Value = { List Limit };
 

@@ -1,7 +1,7 @@
 -- How the refusals of limits are printed (this profile): their code, their name, and the line.
 use Rattle.std.specs.Prelude.{ℕ, List, ◌++◌, codes, decimal}
-use Rattle.part_limits.specs.declared.faults.LimitsFault.{LimitsFault}
-use Rattle.part_limits.specs.declared.faults.LimitsFault.TheVariants as fault
+use Rattle.deviations.specs.declared.limit_faults.LimitsFault.{LimitsFault}
+use Rattle.deviations.specs.declared.limit_faults.LimitsFault.TheVariants as fault
 
 -- a refusal with its line
 abbrev pub fault_text : LimitsFault → List ℕ

@@ -3,11 +3,11 @@ use Rattle.std.specs.Prelude.{◌≡◌, ℕ, ◌+◌, Bool, false, List, [], �
 use Rattle.std.specs.Option.{option_or}
 use Rattle.std.specs.Str.{bytes_eq}
 use Rattle.std.specs.Str.Lines.{lines}
-use Rattle.part_limits.specs.Entries.{entry_on}
-use Rattle.part_limits.specs.declared.entries.Limit.{Limit}
-use Rattle.part_limits.specs.declared.faults.LimitsFault.{LimitsFault}
-use Rattle.part_limits.specs.declared.faults.LimitsFault.TheVariants as fault
-use Rattle.part_limits.specs.declared.ranges.Range.{Range}
+use Rattle.deviations.specs.Entries.{entry_on}
+use Rattle.deviations.specs.declared.entries.Limit.{Limit}
+use Rattle.deviations.specs.declared.limit_faults.LimitsFault.{LimitsFault}
+use Rattle.deviations.specs.declared.limit_faults.LimitsFault.TheVariants as fault
+use Rattle.deviations.specs.declared.ranges.Range.{Range}
 
 -- a line names this label
 abbrev pub is_named : Option (List ℕ) → List ℕ → Bool

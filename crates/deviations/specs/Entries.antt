@@ -7,11 +7,11 @@ use Rattle.fixed_um.specs.Names.{is_name_text, folded}
 use Rattle.fixed_um.specs.declared.numerals.NumeralFault.{NumeralFault}
 use Rattle.tool_rack.specs.Entries.{length_of}
 use Rattle.tool_rack.specs.Fields.{fields_of, is_dropped, has_outer_space, is_word}
-use Rattle.part_limits.specs.Ranges.{range_between}
-use Rattle.part_limits.specs.declared.entries.Limit.{Limit}
-use Rattle.part_limits.specs.declared.faults.LimitsFault.{LimitsFault}
-use Rattle.part_limits.specs.declared.faults.LimitsFault.TheVariants.{NotLimit, EmptyRange}
-use Rattle.part_limits.specs.declared.ranges.Range.{Range}
+use Rattle.deviations.specs.Ranges.{range_between}
+use Rattle.deviations.specs.declared.entries.Limit.{Limit}
+use Rattle.deviations.specs.declared.limit_faults.LimitsFault.{LimitsFault}
+use Rattle.deviations.specs.declared.limit_faults.LimitsFault.TheVariants.{NotLimit, EmptyRange}
+use Rattle.deviations.specs.declared.ranges.Range.{Range}
 
 -- how many bytes a numeral has from its point on
 abbrev pub from_point : List ℕ → ℕ

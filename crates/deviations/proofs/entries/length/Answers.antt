@@ -1,5 +1,5 @@
-use Rattle.part_limits.proofs.Names.{length_of-is, sym}
-use Rattle.part_limits.proofs.entries.length.Goals as goal
+use Rattle.deviations.proofs.LimitNames.{length_of-is, sym}
+use Rattle.deviations.proofs.entries.length.Goals as goal
 
 pub returns : goal.returns
 returns c = sym (length_of-is c.args.text.now c.volume_limit.result c.read_um.result c.volume_limit.ensures c.read_um.ensures)

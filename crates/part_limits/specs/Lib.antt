@@ -1,4 +1,0 @@
-pub mod Ranges
-pub mod Entries
-pub mod Limits
-pub mod Messages
