@@ -18,25 +18,38 @@
 //! - `examples`: what the claim refuses, and which check comes first, as examples that the definitions compute
 //! - `ledger_rows`: what is claimed, next to ledgers that are written out
 //!
-//! Whole scripts, with what they report, are the crate `protocol_examples`.
+//! Examples, short programs and what the definitions compute of them:
+//!
+//! - `scripts`: scripts where lines are values, played with a simulated machine, and what they report; a server and a client on their own
+//! - `origins`: where features come from
+//! - `homing`: the question whether the machine is homed
+//! - `turns`: when a client is done
+//! - `plain`: what a program plainly measures, and what that asks of the rack and the machine
+//! - `between`: where a plan continues in the steps of a program
 #![tactic(auto)]
 
+pub mod between;
 pub mod events;
 pub mod examples;
 pub mod held;
+pub mod homing;
 pub mod ledger_rows;
 pub mod lines;
 pub mod machine;
+pub mod origins;
+pub mod plain;
 pub mod plan_laws;
 pub mod plans;
 pub mod positions;
 pub mod quiet;
 pub mod readings;
 pub mod replies;
+pub mod scripts;
 pub mod states;
 pub mod streams;
 pub mod tags;
 pub mod theorem;
+pub mod turns;
 pub mod typed;
 pub mod undisturbed;
 
@@ -58,3 +71,4 @@ pub use tags::numbers_that_are_held_are_passed_over;
 pub use theorem::every_run;
 pub use typed::every_typed_run;
 pub use undisturbed::{homed_machines_are_not_homed_again, undisturbed_prefixes};
+
