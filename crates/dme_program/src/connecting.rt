@@ -16,7 +16,7 @@ use dme_words::Loop;
 use effects::Cause;
 use link_world::LoopPorts;
 use run_opening::lacking_lines;
-use session_parts::{Side, why_unconnected};
+use session_telling::{Side, why_unconnected};
 use std::io::{self, ErrorKind};
 use std::net::{TcpListener, TcpStream};
 

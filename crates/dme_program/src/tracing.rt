@@ -3,7 +3,7 @@
 ghost use Rattle.std.specs.Prelude.{◌≡◌};
 
 use byte_ports::{Failed, Sink, Writing};
-use session_parts::{Lines, Side};
+use session_telling::{Lines, Side};
 use std::net::TcpStream;
 
 /// A sink of what a side writes on connection 1. If asked, each of its lines is shown on standard error once all of it is written. If memory

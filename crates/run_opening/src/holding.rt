@@ -7,7 +7,7 @@ ghost use Rattle.run_opening.specs.Openings as spec;
 use crate::openings::Opening;
 use crate::stages::{Stage, Text};
 use effects::{Answer, Cause};
-use session_parts::{cause_of, why_unwritten};
+use session_telling::{cause_of, why_unwritten};
 use std::alloc::AllocError;
 
 impl Opening {

@@ -6,7 +6,7 @@ ghost use Rattle.run_session.specs.Records as spec;
 use crate::runs::Kept;
 use crate::{Session, Stage};
 use effects::Answer;
-use session_parts::{cause_of, why_unwritten};
+use session_telling::{cause_of, why_unwritten};
 use std::alloc::AllocError;
 
 impl Session {

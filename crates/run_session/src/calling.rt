@@ -8,7 +8,7 @@ use crate::{Session, Stage};
 use dme_orders::{RunEnding, refused_call};
 use effects::{Answer, Cause};
 use refusal_guide::unknown_host;
-use session_parts::{cause_of, why_unconnected};
+use session_telling::{cause_of, why_unconnected};
 use std::alloc::AllocError;
 
 /// The exit status of a run that is not Done though nothing has failed, as one that its stop file has kept from beginning.

@@ -8,7 +8,7 @@ use crate::{Session, Stage};
 use client_core::State;
 use dme_orders::end_report;
 use effects::Answer;
-use session_parts::{cause_of, why_unwritten};
+use session_telling::{cause_of, why_unwritten};
 use std::alloc::AllocError;
 
 const UNPRINTED: &str = "dme: cannot write -\n";

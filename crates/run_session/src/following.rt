@@ -8,7 +8,7 @@ ghost use Rattle.run_session.specs.Records as spec;
 use crate::runs::Kept;
 use crate::{Session, Stage};
 use effects::{Answer, Cause};
-use session_parts::{cause_of, stamped, why_unwritten};
+use session_telling::{cause_of, stamped, why_unwritten};
 use std::alloc::AllocError;
 
 fn has_line(error: &[u8]) -> bool

@@ -7,7 +7,7 @@ ghost use Rattle.run_session.specs.Records as spec;
 use crate::{Session, Stage};
 use client_core::State;
 use effects::Answer;
-use session_parts::Wait;
+use session_telling::Wait;
 use std::alloc::AllocError;
 
 const ASKED: &str = "dme: an empty line continues the run, anything else ends it\n";

@@ -22,7 +22,7 @@ use effects::{Answer, Cause, Effect, Growth as File, Peer};
 use link_world::PumpFault;
 use program_review::{TextPlace, pauses};
 use record_text::Growth;
-use session_parts::{Lapse, Lines, Wait};
+use session_telling::{Lapse, Lines, Wait};
 use std::alloc::{AllocError, Global};
 use std::marker::Model;
 

@@ -7,7 +7,7 @@ use crate::{Session, Stage};
 use client_core::{ClientFault, State};
 use effects::Answer;
 use link_world::PumpFault;
-use session_parts::{Lapse, Side, Wait};
+use session_telling::{Lapse, Side, Wait};
 use std::alloc::AllocError;
 
 /// The most bytes of a line that are shown as the last one.

@@ -7,8 +7,7 @@ use crate::{Session, Stage};
 use client_core::State;
 use dme_orders::{ConnectionEnd, Counts, RunEnding, last_line};
 use link_world::LoopFault;
-use session_parts::lapse_line;
-use session_telling::visible;
+use session_telling::{lapse_line, visible};
 use std::alloc::AllocError;
 
 impl Session {

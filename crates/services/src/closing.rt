@@ -8,7 +8,7 @@ use crate::{Session, Stage};
 use effects::Answer;
 use link_world::{PumpFault, write_contact_rows};
 use server_core::ServerFault;
-use session_parts::lapse_line;
+use session_telling::lapse_line;
 use std::alloc::AllocError;
 
 const UNPRINTED: &str = "dme: cannot write -\n";

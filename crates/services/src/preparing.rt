@@ -6,7 +6,7 @@ ghost use Rattle.services.specs.Sessions as spec;
 
 use crate::{Session, Stage};
 use effects::Answer;
-use session_parts::{cause_of, why_unconnected, why_unwritten};
+use session_telling::{cause_of, why_unconnected, why_unwritten};
 use std::alloc::AllocError;
 
 impl Session {

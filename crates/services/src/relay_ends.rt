@@ -6,7 +6,7 @@ use crate::relaying::{Ended, RelaySession};
 use dme_orders::refused_call;
 use effects::{Answer, Cause};
 use refusal_guide::unknown_host;
-use session_parts::why_unconnected;
+use session_telling::why_unconnected;
 use std::alloc::AllocError;
 
 impl RelaySession {

@@ -4,7 +4,7 @@ use crate::recordings::{Recording, hold_recording, slot_after};
 use crate::relay_stages::RelayStage as Stage;
 use crate::relaying::RelaySession;
 use effects::{Answer, Peer, Slot};
-use session_parts::{cause_of, stamped, why_unconnected, why_unwritten};
+use session_telling::{cause_of, stamped, why_unconnected, why_unwritten};
 use std::alloc::AllocError;
 use watched_ends::add_piece;
 use witness::Side;

@@ -7,7 +7,7 @@ ghost use Rattle.services.specs.Relays as spec;
 use crate::relay_stages::RelayStage as Stage;
 use crate::relaying::{Ended, Ends, RelaySession};
 use effects::{Answer, Cause, Peer};
-use session_parts::{Side, Wait, cause_of};
+use session_telling::{Side, Wait, cause_of};
 use std::alloc::AllocError;
 use watched_ends::LimitedRelay;
 

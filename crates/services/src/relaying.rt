@@ -9,7 +9,7 @@ use crate::recordings::{Recording, slot_after};
 use crate::relay_stages::RelayStage as Stage;
 use crate::relays::Relay;
 use effects::{Answer, Cause, Effect, Growth, Peer, Slot};
-use session_parts::{Lines, Wait};
+use session_telling::{Lines, Wait};
 use std::alloc::{AllocError, Global};
 use std::marker::Model;
 use watched_ends::{LimitedRelay, ORDER_HEADER};

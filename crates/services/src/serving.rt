@@ -10,7 +10,7 @@ use byte_ports::{Pieces, Takes};
 use effects::Answer;
 use link_world::{PumpFault, serve_turns};
 use server_core::ServerFault;
-use session_parts::{Lapse, Side, stamped};
+use session_telling::{Lapse, Side, stamped};
 use std::alloc::AllocError;
 
 impl Session {

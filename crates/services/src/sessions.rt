@@ -9,7 +9,7 @@ use crate::{Service, Stage};
 use effects::{Answer, Effect, Growth, Peer};
 use link_world::{PumpFault, Simulated};
 use server_core::{Server, ServerFault};
-use session_parts::{Lapse, Lines, Wait};
+use session_telling::{Lapse, Lines, Wait};
 use std::alloc::{AllocError, Global};
 use std::marker::Model;
 use tool_rack::Setup;

@@ -7,7 +7,7 @@ use crate::sessions::Break;
 use crate::{Session, Stage};
 use effects::{Answer, Cause};
 use link_world::PumpFault;
-use session_parts::Wait;
+use session_telling::Wait;
 use std::alloc::AllocError;
 
 const UNTAKEN: &str = "dme: a connection cannot be taken\n";

@@ -1,6 +1,6 @@
 // The lines of connections as they are shown.
 
-use session_telling::visible;
+use crate::visible;
 use std::alloc::{AllocError, Global};
 
 /// The most bytes of a line that are kept until it ends: no line of the interface has more.

@@ -1,7 +1,7 @@
 // Whether what comes from a peer ends the time for which it is waited.
 
 ghost use Rattle.std.specs.Prelude.{◌≡◌};
-ghost use Rattle.session_parts.specs.Arriving as spec;
+ghost use Rattle.session_telling.specs.Arriving as spec;
 
 /// How many of the first bytes of a line have come that are those of E0000: 5 once all have, 6 if others have come.
 fn seen_after(seen: u8, byte: u8) -> u8

@@ -1,7 +1,7 @@
 // How long a session waits for its peer.
 
 ghost use Rattle.std.specs.Prelude.{◌≡◌, ◌-◌, Some, None, false};
-ghost use Rattle.session_parts.specs.Waiting as spec;
+ghost use Rattle.session_telling.specs.Waiting as spec;
 
 use crate::arriving::line_came;
 use std::alloc::{AllocError, Global};

@@ -1,9 +1,9 @@
 -- When a client has been silent for too long (this profile). Times are in milliseconds.
 use Rattle.std.specs.Prelude.{ℕ, ◌/◌, Bool, true, false, if◌then◌else◌, List, Option, Some, None, nat_lt}
-use Rattle.session_parts.specs.Arriving.{seen_after_all, ends_asked}
-use Rattle.session_parts.specs.declared.waits.Lapse.{Lapse}
-use Rattle.session_parts.specs.declared.waits.Lapse.TheVariants.{Sent, SentOther}
-use Rattle.session_parts.specs.declared.waits.Wait.{Wait}
+use Rattle.session_telling.specs.Arriving.{seen_after_all, ends_asked}
+use Rattle.session_telling.specs.declared.waits.Lapse.{Lapse}
+use Rattle.session_telling.specs.declared.waits.Lapse.TheVariants.{Sent, SentOther}
+use Rattle.session_telling.specs.declared.waits.Wait.{Wait}
 
 -- since when it is waited
 abbrev pub since : Option ℕ → ℕ → ℕ
