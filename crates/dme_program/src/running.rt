@@ -18,7 +18,7 @@ use dme_orders::{
     check_under_setup, review_program, simulate, status,
 };
 use dme_words::{Audit, Check, Lower, Order, RecordAudit, Review, Simulation, read_words};
-use ledger_session::Job;
+use watched_ends::Job;
 use program_lowering::{Choices, SourceNames, lower_program};
 use program_review::{FindingForm, FindingStyle};
 use std::alloc::{AllocError, Global};

@@ -10,7 +10,7 @@ use crate::files::Sources;
 use dme_hands::RealHands;
 use dme_orders::{InputFiles, read_setup};
 use dme_words::{Run, Service, Watch};
-use ledger_session::{Job, Session as Reading};
+use watched_ends::{Job, Session as Reading};
 use run_opening::Opening;
 use services::{Relay, RelaySession, Service as Values, Session};
 use std::alloc::AllocError;
@@ -29,7 +29,7 @@ pub fn read_recordings(
 ) -> Result<u8, AllocError> {
     let mut session = Reading::new(rt.alloc(), job, up, down)?;
     let mut hands = RealHands::new(rt);
-    let status = ledger_session::run(&mut session, &mut hands).unwrap_or(ENDLESS);
+    let status = watched_ends::run(&mut session, &mut hands).unwrap_or(ENDLESS);
     drop(session);
     drop(hands);
     Ok(status)

@@ -3,3 +3,8 @@ pub mod PlaceLemmas
 pub mod TurnLemmas
 pub mod LimitLemmas
 pub mod PieceLemmas
+pub mod SessionNames
+pub mod Living
+pub mod Leading
+pub mod Refusals
+pub mod Judgements

@@ -4,3 +4,8 @@ pub mod Limits
 pub mod Pieces
 pub mod Recorded
 pub mod Names
+pub mod Jobs
+pub mod Sessions
+pub mod Outside
+pub mod Claims
+pub mod Examples

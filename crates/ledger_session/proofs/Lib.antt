@@ -1,5 +1,0 @@
-pub mod Names
-pub mod Living
-pub mod Leading
-pub mod Refusals
-pub mod Judgements

@@ -1,6 +1,0 @@
-use Rattle.std.proofs.Common.{◌++◌, refl, ap, ◌∙◌}
-use Rattle.ledger_session.specs.Sessions.{cannot_read}
-use Rattle.ledger_session.proofs.sessions.Session.blame.Goals as goal
-
-pub returns : goal.returns
-returns c = record { stage = refl; said = c.in_ok-self-inside.ensures.ok ∙ ap (λ x. c.args.notes.now ++ cannot_read x) c.name-name.ensures; status = refl }

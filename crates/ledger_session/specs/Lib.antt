@@ -1,5 +1,0 @@
-pub mod Jobs
-pub mod Sessions
-pub mod Outside
-pub mod Claims
-pub mod Examples
