@@ -2,7 +2,6 @@ pub mod Names
 pub mod LinesShown
 pub mod LoopingLemmas
 pub mod OrderLemmas
-pub mod PlanLemmas
 pub mod ReadingLemmas
 pub mod RecordLemmas
 pub mod TextReads

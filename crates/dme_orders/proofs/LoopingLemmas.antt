@@ -8,7 +8,7 @@ use Rattle.link_world.specs.LinkRuns.{client_side, LoopRan, LoopStopped, server_
 use Rattle.link_world.specs.Watching.{TellsRun}
 use Rattle.dme_orders.specs.Looping.{LeavesLoop, LoopCame, LoopsOver, LoopTold, StopsLoop}
 use Rattle.link_world.specs.declared.connections.links.LoopFault.{LoopFault}
-use Rattle.dme_orders.specs.declared.ended.ConnectionEnd.{ConnectionEnd}
+use Rattle.order_parts.specs.declared.ended.ConnectionEnd.{ConnectionEnd}
 
 -- both ends, where they began as the client of a program and the server of a setup
 abbrev loops_over : (window : ℕ) (setup : SetupValue) (program : Meaning) (ports now : LoopTold) (shifts : List Point)

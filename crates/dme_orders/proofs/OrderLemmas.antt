@@ -1,7 +1,7 @@
 -- What an order leaves that stops.
 use Rattle.dme_orders.proofs.Names.{[], ◌<◌, ◌∷◌, ◌≡◌, ◌⊎◌, arith, blamed, Bool, Carries, Err, false, IfErr, inl, inr, IsErrAnd, IsTorn, length, List}
 use Rattle.dme_orders.proofs.Names.{no_memory, Ok, Prints, refl, Result, subst, sym, torn, Went, ℕ}
-use Rattle.dme_orders.specs.declared.reading.FilesFault.{FilesFault}
+use Rattle.order_parts.specs.declared.faults.FilesFault.{FilesFault}
 
 -- its files were read, and nothing was written
 pub no_room : {A B W : Type 0} (Reads : A → Type 0) (Leaves : A → B → List ℕ → Type 0) (w : Went W) (WhyNo : FilesFault → Type 0)

@@ -8,8 +8,8 @@ use Rattle.contact_ledger.specs.Ledgers.{HaveOrigins}
 use Rattle.contact_ledger.specs.Lines.{text_of}
 use Rattle.contact_ledger.specs.declared.features.Feature.{Feature}
 use Rattle.dmis_program.specs.Programs.{IsProgram}
-use Rattle.dme_orders.specs.OfRecords.{IsFeaturesText}
-use Rattle.dme_orders.proofs.PlanLemmas.{some_after}
+use Rattle.order_parts.specs.Kept.{IsFeaturesText}
+use Rattle.order_parts.proofs.PlanLemmas.{some_after}
 
 -- features of a program can be written
 pub ours_can_be_written : (program : Meaning) (features : List Feature) → IsProgram program → are_ours program.features features ≡ true

@@ -11,7 +11,7 @@ use Rattle.dme_orders.specs.Input.{ReadsAudit, WhyNoAudit}
 use Rattle.dme_orders.specs.Orders.{Went, Carries}
 use Rattle.dme_orders.specs.Reading.{Came}
 use Rattle.dme_orders.specs.Verdicts.{verdict_status, verdict_text}
-use Rattle.dme_orders.specs.declared.reading.FilesFault.{FilesFault}
+use Rattle.order_parts.specs.declared.faults.FilesFault.{FilesFault}
 
 -- a verdict on features and a ledger: the least starts of runs, or the fewest first features that have none
 pub record IsVerdict (wanted : List Wanted) (features : List Feature) (ledger : List (ℕ × Act)) (verdict : Verdict) : Type 0 where

@@ -10,7 +10,7 @@ use Rattle.dmis_program.specs.declared.faults.Refusal.{Refusal}
 use Rattle.dmis_program.specs.declared.faults.ProgramFault.TheVariants as ProgramFault
 use Rattle.dme_orders.specs.declared.check.CheckFault.{CheckFault}
 use Rattle.dme_orders.specs.declared.check.CheckFault.TheVariants as fault
-use Rattle.dme_orders.specs.Plan.{plan_text}
+use Rattle.order_parts.specs.Plan.{plan_text}
 
 -- the source has failed, or a million pulls each gave bytes
 abbrev pub IsUnread : {S : Type 0} → (S → Option (List ℕ)) → (S → Bool) → S → S → Type 0

@@ -18,8 +18,8 @@ use Rattle.dme_orders.specs.Missing.{IsMissing}
 use Rattle.dme_orders.specs.Orders.{Went, Carries}
 use Rattle.dme_orders.specs.Reading.{Came}
 use Rattle.dme_orders.specs.declared.exporting.Exported.{Exported}
-use Rattle.dme_orders.specs.declared.reading.FilesFault.{FilesFault}
-use Rattle.dme_orders.specs.declared.reading.FilesFault.TheVariants as files
+use Rattle.order_parts.specs.declared.faults.FilesFault.{FilesFault}
+use Rattle.order_parts.specs.declared.faults.FilesFault.TheVariants as files
 
 -- the declaration of a text in XML, with its line's end
 unfoldable pub xml : List ℕ

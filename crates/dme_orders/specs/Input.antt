@@ -8,7 +8,7 @@ use Rattle.deviations.specs.declared.entries.Limit.{Limit}
 use Rattle.record_text.specs.Records.{Recorded}
 use Rattle.tool_rack.specs.Setups.{SetupValue}
 use Rattle.program_review.specs.Reviews.{frames_under}
-use Rattle.dme_orders.specs.declared.reading.FilesFault.{FilesFault}
+use Rattle.order_parts.specs.declared.faults.FilesFault.{FilesFault}
 use Rattle.dme_orders.specs.Reading.{Came, came, IsUntouched, ReadsSetup, WhyNoSetup, ReadsSchedule, WhyNoSchedule, ReadsFeatures}
 use Rattle.dme_orders.specs.Reading.{WhyNoFeatures, ReadsContacts, WhyNoContacts, ReadsRecord, WhyNoRecord, ReadsLimits, WhyNoLimits}
 use Rattle.dme_orders.specs.Reading.{ReadsProgram, WhyNoProgram}

@@ -1,9 +1,5 @@
-pub mod Calls
 pub mod Confirming
-pub mod Plan
-pub mod Numbered
 pub mod Checked
-pub mod Printed
 pub mod Verdicts
 pub mod Reading
 pub mod Input
@@ -11,14 +7,10 @@ pub mod Orders
 pub mod UnderSetup
 pub mod Simulating
 pub mod Auditing
-pub mod Broken
-pub mod Ends
 pub mod Looping
 pub mod Reviewing
 pub mod Explaining
 pub mod Missing
-pub mod Kept
-pub mod LastLine
 pub mod Exporting
 pub mod Recorded
 pub mod OfRecords

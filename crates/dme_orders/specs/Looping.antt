@@ -10,8 +10,8 @@ use Rattle.link_world.specs.Machines.{simulated}
 use Rattle.link_world.specs.Reports.{report_text}
 use Rattle.link_world.specs.Watching.{Note, TellsRun}
 use Rattle.link_world.specs.declared.connections.links.LoopFault.{LoopFault}
-use Rattle.dme_orders.specs.Ends.{first_client, first_server, ends_shown}
-use Rattle.dme_orders.specs.declared.ended.ConnectionEnd.{ConnectionEnd}
+use Rattle.order_parts.specs.Ends.{first_client, first_server, ends_shown}
+use Rattle.order_parts.specs.declared.ended.ConnectionEnd.{ConnectionEnd}
 
 -- what the four ports of a connection's two ends and the client's watcher report
 pub record LoopTold : Type 0 where

@@ -3,16 +3,13 @@ use Rattle.std.specs.Prelude.{◌≡◌, ◌==◌, if◌then◌else◌, ℕ, Lis
 use Rattle.std.specs.List.{flat_map}
 use Rattle.contact_ledger.specs.declared.features.Feature.{Feature}
 use Rattle.dmis_program.specs.declared.features.Wanted.{Wanted}
+use Rattle.order_parts.specs.LastLine.{feature_noun}
 use Rattle.dme_orders.specs.declared.missing.Missing.{Missing}
 
 -- the labels of features that a program asks for
 abbrev pub labels_of : List Wanted → List (List ℕ)
 labels_of [] = []
 labels_of (w ∷ wanted) = w.label ∷ labels_of wanted
-
--- features are counted in words: one feature, two features
-abbrev pub feature_noun : ℕ → List ℕ
-feature_noun n = if n == 1 then codes "feature" else codes "features"
 
 -- labels after the first one, each after a comma
 abbrev pub more_labels : List (List ℕ) → List ℕ

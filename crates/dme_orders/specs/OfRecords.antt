@@ -3,10 +3,10 @@ use Rattle.std.specs.Prelude.{◌≡◌, ◌⊎◌, ℕ, List, codes, Option, tr
 use Rattle.std.specs.List.{flat_map}
 use Rattle.client_core.specs.Clients.{are_ours}
 use Rattle.contact_ledger.specs.ContactTexts.{contacts_text}
-use Rattle.contact_ledger.specs.FeatureTexts.{features_text, header}
 use Rattle.contact_ledger.specs.declared.acts.Act.{Act}
 use Rattle.contact_ledger.specs.declared.features.Feature.{Feature}
 use Rattle.dmis_program.specs.Meaning.{Meaning}
+use Rattle.order_parts.specs.Kept.{IsFeaturesText}
 use Rattle.record_text.specs.Records.{Recorded}
 use Rattle.dme_orders.specs.Auditing.{LeavesVerdict}
 use Rattle.dme_orders.specs.Exporting.{LeavesTable, Compares}
@@ -21,12 +21,8 @@ use Rattle.dme_orders.specs.RunErrors.{errors_in, error_line}
 use Rattle.dme_orders.specs.declared.of_records.RecordNotes.{RecordNotes}
 use Rattle.dme_orders.specs.declared.of_records.RecordText.{RecordText}
 use Rattle.dme_orders.specs.declared.of_records.RecordText.TheVariants.{Table, Features, Contacts}
-use Rattle.dme_orders.specs.declared.reading.FilesFault.{FilesFault}
-use Rattle.dme_orders.specs.declared.reading.FilesFault.TheVariants as files
-
--- the written form of these features, in the present version
-abbrev pub IsFeaturesText : List Feature → List ℕ → Type 0
-IsFeaturesText features text = (version : _) × (header version ≡ codes "DME-FEATURES 2") × (text ≡ features_text version features)
+use Rattle.order_parts.specs.declared.faults.FilesFault.{FilesFault}
+use Rattle.order_parts.specs.declared.faults.FilesFault.TheVariants as files
 
 -- a record is not of a program: this feature differs; or memory ran out
 abbrev pub RefusesRecord : Option Recorded → Meaning → FilesFault → Type 0

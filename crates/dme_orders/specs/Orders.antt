@@ -2,8 +2,8 @@
 use Rattle.std.specs.Prelude.{◌≡◌, ◌⊎◌, ℕ, List, [], Bool, true, false, Option, Result, Ok, Err}
 use Rattle.std.specs.Io.KnownBytes.{Appends}
 use Rattle.byte_ports.specs.Transfers.{AppendsFront}
-use Rattle.dme_orders.specs.declared.reading.FilesFault.{FilesFault}
-use Rattle.dme_orders.specs.declared.reading.FilesFault.TheVariants as fault
+use Rattle.order_parts.specs.declared.faults.FilesFault.{FilesFault}
+use Rattle.order_parts.specs.declared.faults.FilesFault.TheVariants as fault
 
 -- a sink before and after a call: the bytes that it has taken, if it reports them, and whether it has failed
 pub record Went (W : Type 0) : Type 0 where

@@ -5,8 +5,6 @@ use Rattle.contact_ledger.specs.FeatureTexts.{IsFeatures, IsDamagedFeatures}
 use Rattle.contact_ledger.specs.declared.acts.Act.{Act}
 use Rattle.contact_ledger.specs.declared.features.Feature.{Feature}
 use Rattle.contact_ledger.specs.declared.faults.TextFault.TheVariants as ledger
-use Rattle.deviations.specs.declared.faults.RowsFault.{RowsFault}
-use Rattle.deviations.specs.declared.faults.RowsFault.TheVariants as rows
 use Rattle.tool_rack.specs.Setups.{SetupValue, setup_of}
 use Rattle.tool_rack.specs.declared.faults.SetupFault.TheVariants as setup
 use Rattle.deviations.specs.Limits.{limits_of}
@@ -23,15 +21,10 @@ use Rattle.witness.specs.Either.{AreAudited, IsDamagedAudited}
 use Rattle.dmis_program.specs.Meaning.{Meaning, program_of}
 use Rattle.dmis_program.specs.declared.faults.ProgramFault.TheVariants as program
 use Rattle.dme_orders.specs.Checked.{IsUnread}
-use Rattle.dme_orders.specs.declared.reading.Role.{Role}
-use Rattle.dme_orders.specs.declared.reading.Role.TheVariants as role
-use Rattle.dme_orders.specs.declared.reading.FilesFault.{FilesFault}
-use Rattle.dme_orders.specs.declared.reading.FilesFault.TheVariants as fault
-
--- what features without a table are to an order
-abbrev pub told_of_rows : RowsFault → FilesFault
-told_of_rows rows.NotOurs = fault.NotOurs
-told_of_rows rows.Memory = fault.Memory
+use Rattle.order_parts.specs.declared.faults.Role.{Role}
+use Rattle.order_parts.specs.declared.faults.Role.TheVariants as role
+use Rattle.order_parts.specs.declared.faults.FilesFault.{FilesFault}
+use Rattle.order_parts.specs.declared.faults.FilesFault.TheVariants as fault
 
 -- a source that reported this text was read to its end, and this holds of the text
 pub record WasRead (left : Option (List ℕ)) (Holds : List ℕ → Type 0) (text : List ℕ) : Type 0 where

@@ -8,8 +8,8 @@ use Rattle.program_review.specs.declared.printing.FindingForm.{FindingForm}
 use Rattle.dme_orders.specs.Input.{Named, InTurn, WhyNoNamed}
 use Rattle.dme_orders.specs.Orders.{Went, Carries}
 use Rattle.dme_orders.specs.Reading.{Came, came, Reads, IsUntouched, WhyNoText}
-use Rattle.dme_orders.specs.declared.reading.FilesFault.{FilesFault}
-use Rattle.dme_orders.specs.declared.reading.Role.TheVariants as role
+use Rattle.order_parts.specs.declared.faults.FilesFault.{FilesFault}
+use Rattle.order_parts.specs.declared.faults.Role.TheVariants as role
 
 -- the exit status: 1 if the program is refused, else 0
 abbrev pub review_status : Bool → ℕ

@@ -18,7 +18,7 @@ use Rattle.link_world.specs.declared.texts.schedules.Instruction.{Instruction}
 use Rattle.dme_orders.specs.Input.{SimulationInput, ReadsSimulation, WhyNoSimulation}
 use Rattle.dme_orders.specs.Orders.{Went, went, Carries}
 use Rattle.dme_orders.specs.Reading.{Came}
-use Rattle.dme_orders.specs.declared.reading.FilesFault.{FilesFault}
+use Rattle.order_parts.specs.declared.faults.FilesFault.{FilesFault}
 
 -- what is shown of a world
 abbrev pub shown_of : World → Report

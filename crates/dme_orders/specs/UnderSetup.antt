@@ -2,9 +2,9 @@
 use Rattle.std.specs.Prelude.{◌≡◌, Result}
 use Rattle.dme_orders.specs.Input.{Named, ReadsCheck, WhyNoCheck}
 use Rattle.dme_orders.specs.Orders.{Went, Carries}
-use Rattle.dme_orders.specs.Plan.{plan_text}
+use Rattle.order_parts.specs.Plan.{plan_text}
 use Rattle.dme_orders.specs.Reading.{Came}
-use Rattle.dme_orders.specs.declared.reading.FilesFault.{FilesFault}
+use Rattle.order_parts.specs.declared.faults.FilesFault.{FilesFault}
 
 -- the text of the plan of the program was written, or the check was not carried out
 abbrev pub Checks : {S R W : Type 0} → Named S → Came R → Went W → Result (Unit {0}) FilesFault → Type 0

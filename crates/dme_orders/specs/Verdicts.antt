@@ -1,18 +1,10 @@
--- What is printed of an audit, and the exit statuses of orders that were carried out (this profile).
+-- What is printed of an audit, and its exit status (this profile).
 use Rattle.std.specs.Prelude.{ℕ, ◌-◌, List, [], ◌++◌, codes, decimal, slice_get}
 use Rattle.std.specs.List.{flat_map}
 use Rattle.std.specs.Option.{option_map_or}
 use Rattle.contact_ledger.specs.declared.features.Feature.{Feature}
 use Rattle.ledger_audit.specs.declared.verdicts.Verdict.{Verdict}
 use Rattle.ledger_audit.specs.declared.verdicts.Verdict.TheVariants.{Starts, NoRun}
-use Rattle.protocol_model.specs.declared.states.State.{State}
-use Rattle.protocol_model.specs.declared.states.State.TheVariants.{Halted, Faulted}
-
--- 3 if the client was stopped, or met an unexpected line or mark
-abbrev pub status_of_state : State → ℕ
-status_of_state Halted = 3
-status_of_state Faulted = 3
-status_of_state _ = 0
 
 -- the numbers at which runs begin, a space before each
 abbrev pub start_fields : List ℕ → List ℕ

@@ -7,13 +7,14 @@ ghost use Rattle.dme_orders.specs.Input.{ReadsAudit, WhyNoAudit};
 ghost use Rattle.dme_orders.specs.Orders.{went};
 ghost use Rattle.dme_orders.specs.Reading.{came};
 
-use crate::reading::{FilesFault, contacts_from, features_from, read_program, read_setup};
+use crate::reading::{contacts_from, features_from, read_program, read_setup};
 use crate::simulating::write_text;
 use crate::verdicts::write_verdict;
 use byte_ports::{Sink, Source};
 use contact_ledger::{Feature, FeatureLedger, ServerLedger};
 use dmis_program::Program;
 use ledger_audit::audit;
+use order_parts::FilesFault;
 use std::alloc::{AllocError, Global};
 
 /// The exit status of an audit, and its line. Fails only if out of memory.

@@ -4,9 +4,9 @@ ghost use Rattle.std.specs.Prelude.{◌≡◌, ◌⊎◌, ◌<◌, ◌≤◌, �
 ghost use Rattle.dmis_program.specs.Meaning.{program_of};
 ghost use Rattle.dme_orders.specs.Checked.{IsUnread, Prints, PrintsFront, BlamesProgram, UnlessWrite, IsNotWrite, HasText};
 
-use crate::plan::plan_text;
 use byte_ports::{Failed, PullFault, Sink, Source, pull_all, push_all};
 use dmis_program::{Frames, Program, ProgramFault};
+use order_parts::plan_text;
 use std::alloc::{AllocError, Global};
 
 /// Why `check_plan` has not printed a plan.

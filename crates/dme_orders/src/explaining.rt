@@ -5,9 +5,9 @@ ghost use Rattle.refusal_guide.specs.Pages.{page_text};
 ghost use Rattle.dme_orders.specs.Explaining.{IsPage};
 ghost use Rattle.dme_orders.specs.Orders.{went, Prints};
 
-use crate::reading::FilesFault;
 use crate::simulating::write_text;
 use byte_ports::Sink;
+use order_parts::FilesFault;
 use refusal_guide::{Page, Topic, write_page};
 use std::alloc::{AllocError, Global};
 

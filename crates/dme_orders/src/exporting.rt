@@ -11,13 +11,14 @@ ghost use Rattle.dme_orders.specs.Orders.{went};
 ghost use Rattle.dme_orders.specs.Reading.{came};
 
 use crate::missing::{Missing, missing_of};
-use crate::reading::{FilesFault, features_from, named_limits, named_setup, program_under};
+use crate::reading::{features_from, named_limits, named_setup, program_under};
 use crate::simulating::write_text;
 use byte_ports::{Sink, Source};
 use contact_ledger::{Feature, FeatureLedger};
 use deviations::{Form, Limits, Row, limit_lines, rows_of, write_csv, write_json};
 use dmis_program::Program;
 use drawings::write_drawing;
+use order_parts::FilesFault;
 use std::alloc::{AllocError, Global};
 
 /// The files of an export, as sources.

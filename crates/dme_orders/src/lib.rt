@@ -12,59 +12,40 @@
 //! - `preparing`: the files of an order over a connection are read before there is one
 //! - `looping`: a program is run over one connection between both ends
 //! - `confirming`: the answer that begins a run
-//! - `ends`, `ended`: the two ends of a connection and their reports; how it has ended, and what is shown of that; `run_beginnings`,
-//!   `run_endings`: what a run says before it connects, and last
-//! - `calls`: why a server that was called has not answered
 //! - `check`: the command lines of a program, from any reader to any writer
-//! - `plan`: the commands of a program on a new connection, as text
 //! - `reviewing`: everything that stands between a program and its run is listed
-//! - `verdicts`: the verdict of an audit as a line, and the exit statuses of orders that were carried out
-//! - `faults`: what is shown for an order that was not carried out, and its exit status
+//! - `verdicts`: the verdict of an audit as a line, and its exit status
 #![tactic(auto)]
 
 mod auditing;
-mod calls;
 mod check;
 mod confirming;
-mod ended;
-mod ends;
 mod explaining;
 mod exporting;
-mod faults;
 mod looping;
 mod missing;
 mod notes;
 mod of_records;
 mod orders;
-mod plan;
 mod preparing;
 mod reading;
 mod reviewing;
-mod run_beginnings;
-mod run_endings;
 mod run_errors;
 mod simulating;
 mod verdicts;
 
 pub use auditing::{AuditFiles, audit_files};
-pub use calls::refused_call;
 pub use check::{CheckFault, check_plan};
 pub use confirming::is_confirmed;
-pub use ended::{ConnectionEnd, shown_break};
-pub use ends::{end_report, kept_client};
 pub use explaining::explain;
 pub use exporting::{ExportFiles, Exported, export_files};
-pub use faults::{InputFile, InputFiles, OrderFault, place_of, shown_fault};
 pub use looping::{LoopTask, loop_over};
 pub use missing::Missing;
 pub use notes::{audit_notes, other_program_notes};
 pub use of_records::{RecordFiles, RecordNotes, RecordText, audit_record, export_record};
 pub use orders::check_under_setup;
-pub use plan::{first_lines, plan_text};
 pub use preparing::setup_and_program;
-pub use reading::{FilesFault, Role, read_setup};
+pub use reading::read_setup;
 pub use reviewing::review_program;
-pub use run_beginnings::kept_text;
-pub use run_endings::{Counts, LastLine, RunEnding, StopCause, last_line};
 pub use simulating::{SimulationFiles, simulate};
-pub use verdicts::{status, write_verdict};
+pub use verdicts::write_verdict;

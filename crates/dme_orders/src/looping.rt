@@ -4,19 +4,17 @@ ghost use Rattle.std.specs.Prelude.{◌≡◌, ◌<◌, [], length, true, IfOk, 
 ghost use Rattle.client_core.specs.Clients.{is_window};
 ghost use Rattle.link_world.specs.LinkRuns.{client_side, server_side};
 ghost use Rattle.link_world.specs.Reports.{report_text};
-ghost use Rattle.dme_orders.specs.Ends.{first_client, first_server, ends_shown};
-ghost use Rattle.dme_orders.specs.Broken.{BlamesClient, BlamesServer};
+ghost use Rattle.order_parts.specs.Ends.{first_client, first_server, ends_shown};
+ghost use Rattle.order_parts.specs.Broken.{BlamesClient, BlamesServer};
 ghost use Rattle.dme_orders.specs.Looping.{loop_told, LoopCame, LeavesLoop, StopsLoop};
 ghost use Rattle.dme_orders.specs.Orders.{went, Prints};
 
-use crate::ended::ConnectionEnd;
-use crate::ends::{ends_report, first_client, first_server};
-use crate::reading::FilesFault;
 use crate::simulating::write_text;
 use byte_ports::{Sink, Source};
 use client_core::Client;
 use dmis_program::Program;
 use link_world::{LoopPorts, Simulated, Watcher, loop_link};
+use order_parts::{ConnectionEnd, FilesFault, ends_report, first_client, first_server};
 use server_core::Server;
 use std::alloc::{AllocError, Global};
 use tool_rack::Setup;

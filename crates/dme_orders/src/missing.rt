@@ -3,7 +3,6 @@
 ghost use Rattle.std.specs.Prelude.{◌≡◌, ◌++◌, drop, length, string_bytes, IfOk, OnOk};
 ghost use Rattle.dme_orders.specs.Missing.{
   labels_of,
-  feature_noun,
   more_labels,
   missing_verb,
   missing_text,
@@ -14,6 +13,7 @@ ghost use Rattle.dme_orders.specs.Missing.{
 use contact_ledger::Feature;
 use dmis_program::{Program, Wanted};
 use fixed_um::Name;
+use order_parts::feature_noun;
 use std::alloc::{AllocError, Global};
 
 /// Which features of a program are missing. If there are none, the part is complete.
@@ -51,12 +51,6 @@ fn labels_of(alloc: Global, wanted: &[Wanted]) -> Result<Vec<Name>, AllocError>
         left = others;
     }
     Ok(labels)
-}
-
-pub(crate) fn feature_noun(count: usize) -> &'static str
-    ensures { result.now ≡ feature_noun count }
-{
-    if count == 1 { "feature" } else { "features" }
 }
 
 /// Appends labels, each after a comma. Fails only if out of memory.

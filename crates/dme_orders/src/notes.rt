@@ -1,10 +1,9 @@
 // What an audit found, and in what a record differs from a program, besides what an order prints: from the texts that the order read.
 
-use crate::faults::InputFiles;
 use contact_ledger::{FeatureLedger, ServerLedger, read_features};
 use dmis_program::{Frames, Program};
 use record_text::{Record, read_record};
-use refusal_guide::{write_audit, write_other_program};
+use refusal_guide::{InputFiles, write_audit, write_other_program};
 use std::alloc::{AllocError, Global};
 use tool_rack::Setup;
 use witness::{

@@ -7,11 +7,11 @@ ghost use Rattle.dme_orders.specs.Reading.{came};
 ghost use Rattle.dme_orders.specs.UnderSetup.{Checks};
 ghost use Rattle.tool_rack.specs.Setups.{SetupValue};
 
-use crate::plan::plan_text;
-use crate::reading::{FilesFault, named_setup, program_under};
+use crate::reading::{named_setup, program_under};
 use crate::simulating::write_text;
 use byte_ports::{Sink, Source};
 use dmis_program::Program;
+use order_parts::{FilesFault, plan_text};
 use std::alloc::Global;
 
 /// Reads a setup if one is named, then a program under the setup's frames, each to the end of its text; the setup is understood before

@@ -4,9 +4,10 @@ ghost use Rattle.std.specs.Prelude.{IfOk, IfErr};
 ghost use Rattle.dme_orders.specs.Input.{WhyNoProgramUnder};
 ghost use Rattle.dme_orders.specs.Reading.{came, ReadsSetup, ReadsProgram};
 
-use crate::reading::{FilesFault, read_program, read_setup};
+use crate::reading::{read_program, read_setup};
 use byte_ports::Source;
 use dmis_program::Program;
+use order_parts::FilesFault;
 use std::alloc::Global;
 use tool_rack::Setup;
 

@@ -9,87 +9,14 @@ ghost use Rattle.dme_orders.specs.Input.{named, ReadsNamed, WhyNoNamed, ReadsNam
 
 use byte_ports::{PullFault, Source, pull_all};
 use contact_ledger::{FeatureLedger, ServerLedger, TextFault, read_features};
-use deviations::{Limits, LimitsFault, RowsFault};
+use deviations::{Limits, LimitsFault};
 use dmis_program::{Frames, Program, ProgramFault};
-use fixed_um::Name;
 use link_world::{Schedule, ScheduleFault};
+use order_parts::{FilesFault, Role};
 use record_text::{Record, RecordFault, read_record};
-use std::alloc::{AllocError, Global};
+use std::alloc::Global;
 use tool_rack::{Setup, SetupFault};
 use witness::read_audited;
-
-/// What a file is to an order.
-#[derive(Clone, Copy, Debug, PartialEq, Eq)]
-pub enum Role {
-    /// The machine's setup.
-    Setup,
-    /// The schedule of a simulation.
-    Schedule,
-    /// The features of an audit.
-    Features,
-    /// The contacts of an audit.
-    Contacts,
-    /// The record of a run.
-    Record,
-    /// The limits of a part.
-    Limits,
-    /// The DMIS program.
-    Program,
-}
-
-/// Why an order was not carried out.
-#[derive(Debug, Drop)]
-pub enum FilesFault {
-    /// The setup is refused; never because memory ran out.
-    Setup(SetupFault),
-    /// The schedule is refused; never because memory ran out.
-    Schedule(ScheduleFault),
-    /// The features are refused; never because memory ran out.
-    Features(TextFault),
-    /// The contacts are refused; never because memory ran out.
-    Contacts(TextFault),
-    /// The record is refused; never because memory ran out.
-    Record(RecordFault),
-    /// The limits are refused; never because memory ran out.
-    Limits(LimitsFault),
-    /// The program is refused, under the setup's frames; never because memory ran out.
-    Program(ProgramFault),
-    /// A source has failed, or a million pulls have not come to the end of its text.
-    Unread(Role),
-    /// The record is not of this program under this setup: this feature differs.
-    OtherProgram(Name),
-    /// The features are not the first ones of the program, by labels and counts of points.
-    NotOurs,
-    /// The sink has failed; it may have taken a prefix of the text.
-    Write,
-    /// Out of memory.
-    Memory,
-}
-
-impl From<RowsFault> for FilesFault {
-    ghost use Rattle.std.specs.Prelude.{◌≡◌};
-    ghost use Rattle.dme_orders.specs.Reading.{told_of_rows};
-
-    ghost from_gives = { λ cause e. e ≡ told_of_rows cause };
-
-    fn from(cause: RowsFault) -> FilesFault {
-        match cause {
-            RowsFault::NotOurs => FilesFault::NotOurs,
-            RowsFault::Memory => FilesFault::Memory,
-        }
-    }
-}
-
-impl From<AllocError> for FilesFault {
-    ghost use Rattle.std.specs.Prelude.{◌≡◌};
-    ghost use Rattle.dme_orders.specs.declared.reading.FilesFault.TheVariants as fault;
-
-    ghost from_gives = { λ _ e. e ≡ fault.Memory };
-
-    fn from(_error: AllocError) -> FilesFault {
-        FilesFault::Memory
-    }
-}
 
 pub(crate) fn read_text<S: Source>(
     alloc: Global,

@@ -7,8 +7,9 @@ ghost use Rattle.dme_orders.specs.Orders.{went};
 ghost use Rattle.dme_orders.specs.Reading.{came};
 ghost use Rattle.dme_orders.specs.Reviewing.{ReadsStored, Reviews, review_status};
 
-use crate::reading::{FilesFault, Role, read_text};
+use crate::reading::read_text;
 use byte_ports::{Failed, Sink, Source, push_all};
+use order_parts::{FilesFault, Role};
 use program_review::{FindingStyle, ReviewTexts, review_report};
 use std::alloc::Global;
 use tool_rack::{Setup, SetupFault};

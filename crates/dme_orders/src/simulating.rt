@@ -13,11 +13,12 @@ ghost use Rattle.dme_orders.specs.Orders.{went};
 ghost use Rattle.dme_orders.specs.Reading.{came};
 ghost use Rattle.dme_orders.specs.Simulating.{IsPlayed, shown_of, LeavesReport, Simulates, AreTraced, IsShown, ShowsLines, LeavesLines, SimulatesLines};
 
-use crate::reading::{FilesFault, read_program, read_schedule, read_setup};
+use crate::reading::{read_program, read_schedule, read_setup};
 use byte_ports::{Failed, Sink, Source, push_all};
 use client_core::State;
 use dmis_program::Program;
 use link_world::{NewFault, Schedule, Trace, World, write_report};
+use order_parts::FilesFault;
 use std::alloc::{AllocError, Global};
 use tool_rack::Setup;
 

@@ -1,24 +1,13 @@
-// The verdict of an audit as a line, and the exit statuses of orders that were carried out.
+// The verdict of an audit as a line, and its exit status.
 
 ghost use Rattle.std.specs.Prelude.{◌≡◌, ◌≤◌, ◌++◌, length, IfOk, OnOk, string_bytes};
 ghost use Rattle.fixed_um.specs.Calls.{Writes};
 ghost use Rattle.ledger_audit.specs.Verdicts.{IfNoRun};
-ghost use Rattle.dme_orders.specs.Verdicts.{start_fields, status_of_state, verdict_status, verdict_text};
+ghost use Rattle.dme_orders.specs.Verdicts.{start_fields, verdict_status, verdict_text};
 
-use client_core::State;
 use contact_ledger::Feature;
 use ledger_audit::Verdict;
 use std::alloc::{AllocError, Global};
-
-/// The exit status of a run that ended with its client in this state: 3 if it was stopped or has met something unexpected, else 0.
-pub fn status(state: State) -> u8
-    ensures { result ≡ status_of_state state }
-{
-    match state {
-        State::Halted | State::Faulted => 3,
-        State::Apart | State::Running | State::Failing | State::Aborting | State::Done => 0,
-    }
-}
 
 /// Appends the numbers at which runs begin. Fails only if out of memory.
 fn push_starts(text: &mut String, starts: &[u64]) -> Result<(), AllocError>

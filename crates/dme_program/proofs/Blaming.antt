@@ -4,11 +4,11 @@ use Rattle.tool_rack.specs.Setups.{SetupValue}
 use Rattle.program_review.specs.Reviews.{frames_under}
 use Rattle.dme_orders.specs.Input.{Named, IsBlamed, ReadsCheck, WhyNoCheck}
 use Rattle.dme_orders.specs.Orders.{Went, Stops, blamed, no_memory, torn}
-use Rattle.dme_orders.specs.Plan.{plan_text}
+use Rattle.order_parts.specs.Plan.{plan_text}
 use Rattle.dme_orders.specs.Reading.{Came, WhyNoProgram}
 use Rattle.dme_orders.specs.UnderSetup.{Checks}
-use Rattle.dme_orders.specs.declared.reading.FilesFault.{FilesFault}
-use Rattle.dme_orders.specs.declared.reading.Role.{Role}
+use Rattle.order_parts.specs.declared.faults.FilesFault.{FilesFault}
+use Rattle.order_parts.specs.declared.faults.Role.{Role}
 use Rattle.dme_program.specs.Blamed.{OnSetup}
 
 on_any : (P : Type 0) (cause : FilesFault) → P → OnSetup P cause

@@ -1,7 +1,7 @@
 -- What the fault of a check says about its setup (this profile).
-use Rattle.dme_orders.specs.declared.reading.FilesFault.{FilesFault}
-use Rattle.dme_orders.specs.declared.reading.FilesFault.TheVariants as files
-use Rattle.dme_orders.specs.declared.reading.Role.TheVariants as role
+use Rattle.order_parts.specs.declared.faults.FilesFault.{FilesFault}
+use Rattle.order_parts.specs.declared.faults.FilesFault.TheVariants as files
+use Rattle.order_parts.specs.declared.faults.Role.TheVariants as role
 
 -- a fact for each fault of the setup
 abbrev pub OnSetup : Type 0 → FilesFault → Type 0

@@ -2,8 +2,8 @@
 use Rattle.std.specs.Prelude.{ℕ}
 use Rattle.dme_words.specs.declared.words.WordsFault.{WordsFault}
 use Rattle.dme_words.specs.declared.words.WordsFault.TheVariants as words
-use Rattle.dme_orders.specs.Printed.{status_of}
-use Rattle.dme_orders.specs.declared.faults.OrderFault.TheVariants as order
+use Rattle.order_parts.specs.Faults.{status_of}
+use Rattle.order_parts.specs.declared.faults.OrderFault.TheVariants as order
 use Rattle.dme_program.specs.declared.faults.Fault.{Fault}
 use Rattle.dme_program.specs.declared.faults.Fault.TheVariants as fault
 

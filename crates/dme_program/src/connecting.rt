@@ -9,12 +9,12 @@ use crate::files::Sources;
 use crate::progress::Progress;
 use crate::tracing::TracingPort;
 use byte_ports::{Ports, Reading, Writing};
-use dme_orders::{
-    ConnectionEnd, FilesFault, InputFiles, LoopTask, OrderFault, loop_over, setup_and_program,
-};
+use dme_orders::{LoopTask, loop_over, setup_and_program};
 use dme_words::Loop;
 use effects::Cause;
 use link_world::LoopPorts;
+use order_parts::{ConnectionEnd, FilesFault, OrderFault};
+use refusal_guide::InputFiles;
 use run_opening::lacking_lines;
 use session_telling::{Side, why_unconnected};
 use std::io::{self, ErrorKind};

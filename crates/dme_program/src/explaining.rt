@@ -1,6 +1,8 @@
 // What is shown for an order whose files are refused.
 
-use dme_orders::{FilesFault, InputFiles, audit_notes, other_program_notes, place_of, shown_fault};
+use dme_orders::{audit_notes, other_program_notes};
+use order_parts::FilesFault;
+use refusal_guide::{InputFiles, place_of, shown_fault};
 use std::alloc::AllocError;
 use std::io::Write;
 

@@ -4,11 +4,11 @@ use crate::explaining::refused;
 use crate::files::{NamedSource, Sources, file_of};
 use byte_ports::Writing;
 use dme_orders::{
-    ExportFiles, Exported, FilesFault, InputFiles, RecordFiles, RecordText, explain, export_files,
-    export_record,
+    ExportFiles, Exported, RecordFiles, RecordText, explain, export_files, export_record,
 };
 use dme_words::{Export, RecordExport, RecordForm};
-use refusal_guide::Topic;
+use order_parts::FilesFault;
+use refusal_guide::{InputFiles, Topic};
 use std::io;
 
 /// The exit status of an export, after which standard error shows what it says besides what it prints, or why it was not carried out.

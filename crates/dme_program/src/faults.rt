@@ -3,8 +3,8 @@
 ghost use Rattle.std.specs.Prelude.{◌≡◌, ◌≢◌, ◌↔◌};
 ghost use Rattle.dme_program.specs.Printed.{exit_status, short};
 
-use dme_orders::OrderFault;
 use dme_words::WordsFault;
+use order_parts::OrderFault;
 use std::alloc::AllocError;
 use std::fmt;
 use std::io::ErrorKind;

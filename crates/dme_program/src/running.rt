@@ -14,10 +14,12 @@ use crate::serving::{read_recordings, run_program, serve, watch};
 use crate::version;
 use byte_ports::Writing;
 use dme_orders::{
-    AuditFiles, FilesFault, InputFiles, RecordFiles, SimulationFiles, audit_files, audit_record,
-    check_under_setup, review_program, simulate, status,
+    AuditFiles, RecordFiles, SimulationFiles, audit_files, audit_record, check_under_setup,
+    review_program, simulate,
 };
 use dme_words::{Audit, Check, Lower, Order, RecordAudit, Review, Simulation, read_words};
+use order_parts::{FilesFault, status};
+use refusal_guide::InputFiles;
 use watched_ends::Job;
 use program_lowering::{Choices, SourceNames, lower_program};
 use program_review::{FindingForm, FindingStyle};

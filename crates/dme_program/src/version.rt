@@ -1,7 +1,7 @@
 // Which program this is. `tools/release` writes the commit and the toolchain.
 
 use crate::faults::Fault;
-use dme_orders::OrderFault;
+use order_parts::OrderFault;
 
 /// The version of `dme`.
 const VERSION: &str = "1.0.0";

@@ -7,9 +7,9 @@ use Rattle.program_review.specs.Reviews.{frames_under}
 use Rattle.dme_orders.specs.Input.{InTurn, Named, ReadsNamed, WhyNoNamed}
 use Rattle.dme_orders.specs.Orders.{Carries, Went}
 use Rattle.dme_orders.specs.Reading.{Came, IsUntouched, Reads, WhyNoText}
-use Rattle.dme_orders.specs.declared.reading.FilesFault.{FilesFault}
-use Rattle.dme_orders.specs.declared.reading.FilesFault.TheVariants as fault
-use Rattle.dme_orders.specs.declared.reading.Role.TheVariants as role
+use Rattle.order_parts.specs.declared.faults.FilesFault.{FilesFault}
+use Rattle.order_parts.specs.declared.faults.FilesFault.TheVariants as fault
+use Rattle.order_parts.specs.declared.faults.Role.TheVariants as role
 use Rattle.program_lowering.specs.Heads.{Names}
 use Rattle.program_lowering.specs.Lowered.{IsLowered}
 use Rattle.program_lowering.specs.Lowering.{lowered_meaning}

@@ -12,8 +12,9 @@ use crate::heads::SourceNames;
 use crate::lowering::{Lowered, lower};
 use crate::words::Choices;
 use byte_ports::{Failed, PullFault, Sink, Source, pull_all, push_all};
-use dme_orders::{FilesFault, Role, read_setup};
+use dme_orders::read_setup;
 use dmis_program::{Frames, ProgramFault};
+use order_parts::{FilesFault, Role};
 use std::alloc::Global;
 use tool_rack::Setup;
 

@@ -28,7 +28,8 @@ pub use Rattle.program_review.specs.Remarks.{above, merged, not_above, travel_re
 pub use Rattle.program_review.specs.StepLacks.{lacks_some}
 pub use Rattle.program_review.specs.TaskLines.{after_touch, command_lines_of, frame_again, frame_line, last_line, lines_of, task_lines_of, task_on}
 pub use Rattle.program_review.specs.TaskLines.{task_said, tool_again, tool_line, touches_left, up_to_touch}
-pub use Rattle.program_review.specs.Texts.{Held, pauses_from, pauses_of, place_on, place_seen, places_below, places_of, text_seen, texts_from}
+pub use Rattle.order_parts.specs.Pauses.{Held, place_seen}
+pub use Rattle.program_review.specs.Texts.{place_on, places_below, places_of, text_seen, texts_from}
 pub use Rattle.program_review.specs.Texts.{texts_of}
 pub use Rattle.program_review.specs.Travels.{at_home, is_above, legs_from, travels_in}
 pub use Rattle.program_review.specs.UnderSetup.{is_outside, lack_of, lack_on, lacks_from, recalled, recalls_other, selected_after, when}

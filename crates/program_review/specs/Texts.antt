@@ -8,6 +8,7 @@ use Rattle.dmis_program.specs.Sayings.{is_badly_formed}
 use Rattle.dmis_program.specs.declared.keywords.Keyword.TheVariants as word
 use Rattle.dmis_program.specs.declared.sayings.StatementMeaning.{StatementMeaning}
 use Rattle.dmis_program.specs.declared.sayings.StatementMeaning.TheVariants as said
+use Rattle.order_parts.specs.Pauses.{Held}
 use Rattle.program_review.specs.Notices.{begins_with}
 use Rattle.program_review.specs.PlanLines.{unlabelled}
 use Rattle.program_review.specs.TaskLines.{up_to_touch, after_touch, last_line, command_lines_of}
@@ -16,7 +17,6 @@ use Rattle.program_review.specs.declared.tasks.Task.{Task}
 use Rattle.program_review.specs.declared.tasks.Task.TheVariants as task
 use Rattle.program_review.specs.declared.tasks.TaskLine.{TaskLine}
 use Rattle.program_review.specs.declared.texts.OperatorText.{OperatorText}
-use Rattle.program_review.specs.declared.texts.TextPlace.{TextPlace}
 
 -- a text for the operator is `TEXT/OPER` or `TEXT/MAN`, unless it is refused for its form
 abbrev pub is_operator_text : Statement → Bool
@@ -78,21 +78,13 @@ is_touch _ = false
 abbrev pub is_above_touches : List TaskLine → ℕ → Bool
 is_above_touches left line = nat_eq (count_by (λ t. is_touch t.task && nat_lt t.line line) left) 0
 
--- what is known of a text in a run: how many commands it holds back, whether the run waits there, and whether it stands above each touch that is left
-pub record Held : Type 0 where
-  pub count : ℕ
-  pub waits : Bool
-  pub first : Bool
-
+-- what is known of a text in a run
 abbrev pub place_of : Bool → Bool → List (Option ℕ) → List TaskLine → ℕ × Bool → Held
 place_of waits confirmed lines left text = record {
   count = held_at lines left text.0;
   waits = waits && is_waited confirmed text.1 (held_at lines left text.0);
   first = is_above_touches left text.0;
 }
-
-abbrev pub place_seen : TextPlace → Held
-place_seen p = record { count = p.held; waits = p.is_waited; first = p.is_first }
 
 -- a text, if it is below what is done, of which this is the last line
 abbrev pub place_on : Bool → Bool → Option ℕ → List (Option ℕ) → List TaskLine → ℕ × Bool → List Held
@@ -107,15 +99,6 @@ places_below waits confirmed last lines left (text ∷ texts) =
 abbrev pub places_of : Bool → Bool → ℕ → List TaskLine → List (ℕ × Bool) → List Held
 places_of waits confirmed touches tasks texts = places_below waits confirmed (last_line None (up_to_touch touches tasks))
     (command_lines_of touches tasks) (after_touch touches tasks) texts
-
--- how many commands are held back at each pause: at texts with no command between them, there is one
-abbrev pub pauses_from : ℕ → List Held → List ℕ
-pauses_from before [] = []
-pauses_from before (h ∷ places) = if h.waits && not (nat_eq h.count before) then h.count ∷ pauses_from h.count places
-    else pauses_from before places
-
-abbrev pub pauses_of : List Held → List ℕ
-pauses_of places = pauses_from 0 places
 
 -- examples: a text, tasks on the lines 3, 5 and 8, and places at which a run waits or does not
 abbrev pub text_on_line : ℕ → List ℕ → Statement

@@ -13,7 +13,8 @@ ghost use Rattle.program_review.specs.PlanLines.{HaveLines, statement_commands, 
 ghost use Rattle.program_review.specs.Travels.{travels_of, replaced, meas_on, ptmeas_on, endmes_on, goto_on, feature_on, travel_on};
 ghost use Rattle.program_review.specs.Notices.{notices_of};
 ghost use Rattle.dmis_program.specs.declared.sayings.StatementMeaning.TheVariants.{Begins, Ends};
-ghost use Rattle.program_review.specs.Texts.{all_commands, held_at, is_open_after, is_waited, pauses_of, shown, tasks_on, text_on_line, texts_of, waited};
+ghost use Rattle.program_review.specs.Texts.{all_commands, held_at, is_open_after, is_waited, shown, tasks_on, text_on_line, texts_of, waited};
+ghost use Rattle.order_parts.specs.Pauses.{pauses_of};
 
 /// The lines of `command_lines` are those of the commands of a client's plan that carry out statements, one for one, after any number of
 /// completed features: each is the line of a statement that its command carries out. A command that selects the machine's own frame has none.

@@ -49,8 +49,6 @@ pub use printing::{FindingForm, FindingStyle};
 pub use remarks::{Remark, What};
 pub use reports::{Report, ReviewTexts, review_report};
 pub use tasks::{Task, TaskLine, command_lines, task_lines};
-pub use texts::{
-    OperatorText, TextPlace, Waits, is_operator_text, operator_texts, pauses, text_places,
-};
+pub use texts::{OperatorText, Waits, is_operator_text, operator_texts, text_places};
 pub use under_setup::Lack;
 pub use variables::without_cart;

@@ -2,6 +2,7 @@
 
 ghost use Rattle.std.specs.Prelude.{◌≡◌, ◌++◌, None, map, IfOk, OnOk};
 ghost use Rattle.dmis_text.specs.Reading.{text_reading};
+ghost use Rattle.order_parts.specs.Pauses.{place_seen};
 ghost use Rattle.program_review.specs.TaskLines.{last_line, up_to_touch};
 ghost use Rattle.program_review.specs.Texts as spec;
 
@@ -12,6 +13,7 @@ use crate::tasks::{Left, Task, TaskLine, command_lines, left_after};
 use crate::under_setup::meaning_of;
 use dmis_program::{Keyword, StatementMeaning, keyword_of_word};
 use dmis_text::{Statement, Statements, TextFault};
+use order_parts::TextPlace;
 use session_telling::visible;
 use std::alloc::{AllocError, Global};
 
@@ -21,17 +23,6 @@ use std::alloc::{AllocError, Global};
 pub struct OperatorText {
     pub line: u64,
     pub is_inside: bool,
-    pub shown: String,
-}
-
-/// What a run holds back at a text for the operator: how many of its plan's last commands, all if `usize::MAX`; whether it waits there; whether
-/// the text stands above each touch that is left; and its line, and the statement as it is shown.
-#[derive(Drop)]
-pub struct TextPlace {
-    pub held: usize,
-    pub is_waited: bool,
-    pub is_first: bool,
-    pub line: u64,
     pub shown: String,
 }
 
@@ -180,7 +171,7 @@ fn place_of(
     left: &[TaskLine],
     text: &OperatorText,
 ) -> Result<TextPlace, AllocError>
-    ensures { IfOk result (λ place. spec.place_seen place
+    ensures { IfOk result (λ place. place_seen place
         ≡ spec.place_of waits.at_texts waits.at_begin lines.now left.now (spec.text_seen text.now)) }
 {
     let held = held_at(lines, left, text.line);
@@ -202,8 +193,8 @@ fn push_place(
     left: &[TaskLine],
     text: &OperatorText,
 ) -> Result<(), AllocError>
-    ensures { OnOk result (map spec.place_seen places.new.items
-        ≡ map spec.place_seen places.old.items
+    ensures { OnOk result (map place_seen places.new.items
+        ≡ map place_seen places.old.items
         ++ spec.place_on waits.at_texts waits.at_begin last lines.now left.now
         (spec.text_seen text.now)) }
 {
@@ -223,7 +214,7 @@ pub fn text_places(
     tasks: &[TaskLine],
     texts: &[OperatorText],
 ) -> Result<Vec<TextPlace>, AllocError>
-    ensures { IfOk result (λ places. map spec.place_seen places.items
+    ensures { IfOk result (λ places. map place_seen places.items
         ≡ spec.places_of waits.at_texts waits.at_begin touches tasks.now
         (map spec.text_seen texts.now)) }
 {
@@ -236,20 +227,4 @@ pub fn text_places(
         push_place(&mut places, waits, last, lines, left, text)?;
     }
     Ok(places)
-}
-
-/// How many commands a run holds back at each of its pauses: at texts with no command between them, there is one. Fails only if out of memory.
-pub fn pauses(alloc: Global, places: &[TextPlace]) -> Result<Vec<usize>, AllocError>
-    ensures { IfOk result (λ pauses. pauses.items
-        ≡ spec.pauses_of (map spec.place_seen places.now)) }
-{
-    let mut pauses = Vec::new(alloc);
-    let mut before = 0;
-    for place in places {
-        if place.is_waited && place.held != before {
-            pauses.push(place.held)?;
-            before = place.held;
-        }
-    }
-    Ok(pauses)
 }

@@ -1,6 +1,6 @@
 pub mod Titles
 pub mod Codes
-pub mod Hosts
+pub mod Files
 pub mod Pages
 pub mod Lines
 pub mod Windows

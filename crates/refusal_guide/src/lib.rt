@@ -25,7 +25,7 @@ mod causes;
 mod contacts;
 pub mod examples;
 mod fields;
-mod hosts;
+mod files;
 mod ledgers;
 mod lines;
 mod names;
@@ -44,7 +44,7 @@ mod words;
 mod written;
 
 pub use audits::write_audit;
-pub use hosts::unknown_host;
+pub use files::{InputFile, InputFiles, place_of, shown_fault};
 pub use places::{Refused, write_place};
 pub use sentences::{Passage, write_sentence};
 pub use strangers::{write_other_part, write_other_program};

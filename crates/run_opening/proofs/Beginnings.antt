@@ -4,7 +4,7 @@ use Rattle.run_opening.proofs.Names.{Err, false, Feature, HasClient, HasGiven, i
 use Rattle.run_opening.proofs.Names.{IsRecordRead, IsSetupRead, Keeps, Leads, length, List, may_connect, Meaning, new_client_end, None, Ok, OnOk}
 use Rattle.run_opening.proofs.Names.{Option, OrderFault, part_of, Result, Run, SetupValue, Some, Start, Starts, StartsClient, State, status_of, subst}
 use Rattle.run_opening.proofs.Names.{sym, TakesClient, true, true≢false, ℕ, ◌<◌, ◌∙◌, ◌≡◌}
-use Rattle.dme_orders.specs.declared.faults.OrderFault.TheVariants as fault
+use Rattle.order_parts.specs.declared.faults.OrderFault.TheVariants as fault
 
 program_read : (setup : Option SetupValue) (a : Answered) (p : Meaning) → IsSetupRead setup a.setup → IsProgramRead setup (Some p) a.program
     → IsProgramOf p a

@@ -1,8 +1,8 @@
 -- The names of the crates below, and of the definitions of this one, that its proofs use.
 pub use Rattle.client_core.specs.Clients.{are_ours, may_connect}
 pub use Rattle.contact_ledger.specs.declared.features.Feature.{Feature}
-pub use Rattle.dme_orders.specs.Printed.{status_of}
-pub use Rattle.dme_orders.specs.declared.faults.OrderFault.{OrderFault}
+pub use Rattle.order_parts.specs.Faults.{status_of}
+pub use Rattle.order_parts.specs.declared.faults.OrderFault.{OrderFault}
 pub use Rattle.dme_words.specs.declared.orders.Run.{Run}
 pub use Rattle.dmis_program.specs.Meaning.{Meaning}
 pub use Rattle.protocol_model.specs.Ends.{ClientEnd, end_connected, new_client_end}

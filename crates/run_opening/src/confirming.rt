@@ -6,8 +6,8 @@ ghost use Rattle.run_opening.specs.Openings as spec;
 
 use crate::openings::Opening;
 use crate::stages::Stage;
-use dme_orders::{RunEnding, last_line};
 use effects::Answer;
+use order_parts::{RunEnding, last_line};
 use std::alloc::AllocError;
 
 const UNCONFIRMED: &str = "dme: not confirmed, nothing has moved\n";

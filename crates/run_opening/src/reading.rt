@@ -8,10 +8,11 @@ use crate::openings::Opening;
 use crate::sayings::lacking_lines;
 use crate::stages::{Stage, Text};
 use contact_ledger::{FeatureLedger, TextFault, read_features};
-use dme_orders::{FilesFault, InputFile, Role, RunEnding, last_line};
 use dmis_program::{Frames, Program, ProgramFault};
 use effects::Answer;
+use order_parts::{FilesFault, Role, RunEnding, last_line};
 use program_review::{operator_texts, task_lines};
+use refusal_guide::InputFile;
 use std::alloc::AllocError;
 use tool_rack::{Setup, SetupFault};
 

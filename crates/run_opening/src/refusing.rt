@@ -5,7 +5,8 @@ ghost use Rattle.run_opening.specs.Openings as spec;
 
 use crate::openings::Opening;
 use crate::stages::Stage;
-use dme_orders::{Counts, FilesFault, InputFiles, LastLine, OrderFault, place_of, shown_fault};
+use order_parts::{Counts, FilesFault, LastLine, OrderFault};
+use refusal_guide::{InputFiles, place_of, shown_fault};
 use std::alloc::AllocError;
 
 impl Opening {

@@ -2,10 +2,10 @@
 
 use client_core::Client;
 use contact_ledger::Feature;
-use dme_orders::{first_lines, kept_text};
 use dmis_program::{Program, Touch, Wanted};
 use fixed_um::Frame;
-use program_review::{Lack, Task, TaskLine, TextPlace, What, lacking_for};
+use order_parts::{TextPlace, first_lines, kept_text};
+use program_review::{Lack, Task, TaskLine, What, lacking_for};
 use std::alloc::{AllocError, Global};
 use tool_rack::Setup;
 

@@ -13,8 +13,8 @@ use Rattle.record_laws.specs.Recordings.{Pair, told_unless}
 use Rattle.effects.specs.declared.vocabulary.Growth.TheVariants as growth
 use Rattle.effects.specs.declared.vocabulary.Peer.TheVariants.{Server}
 use Rattle.effects.specs.Effects.{Ask, Byte, Append, Keep, Send, Replace, Print, Exit, Reply, Done, Bytes}
-use Rattle.dme_orders.specs.Ends.{end_shown}
-use Rattle.dme_orders.specs.OfRecords.{IsFeaturesText}
+use Rattle.order_parts.specs.Ends.{end_shown}
+use Rattle.order_parts.specs.Kept.{IsFeaturesText}
 use Rattle.run_session.specs.declared.stages.Stage.{Stage}
 use Rattle.run_session.specs.declared.stages.Stage.TheVariants as stage
 

@@ -5,9 +5,8 @@ ghost use Rattle.run_session.specs.Records as spec;
 
 use crate::sessions::LOOK_MS;
 use crate::{Session, Stage};
-use dme_orders::{RunEnding, refused_call};
 use effects::{Answer, Cause};
-use refusal_guide::unknown_host;
+use order_parts::{RunEnding, refused_call, unknown_host};
 use session_telling::{cause_of, why_unconnected};
 use std::alloc::AllocError;
 

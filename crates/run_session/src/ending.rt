@@ -6,8 +6,8 @@ ghost use Rattle.run_session.specs.Records as spec;
 use crate::runs::Kept;
 use crate::{Session, Stage};
 use client_core::State;
-use dme_orders::end_report;
 use effects::Answer;
+use order_parts::end_report;
 use session_telling::{cause_of, why_unwritten};
 use std::alloc::AllocError;
 

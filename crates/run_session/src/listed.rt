@@ -1,7 +1,7 @@
 // The features file, and what it is to have next.
 
 ghost use Rattle.std.specs.Prelude.{OnOk};
-ghost use Rattle.dme_orders.specs.OfRecords.{IsFeaturesText};
+ghost use Rattle.order_parts.specs.Kept.{IsFeaturesText};
 
 use client_core::Client;
 use contact_ledger::lines::cut_line;

@@ -5,8 +5,8 @@ ghost use Rattle.run_session.specs.Records as spec;
 
 use crate::{Session, Stage};
 use client_core::State;
-use dme_orders::{ConnectionEnd, Counts, RunEnding, last_line};
 use link_world::LoopFault;
+use order_parts::{ConnectionEnd, Counts, RunEnding, last_line};
 use session_telling::{lapse_line, visible};
 use std::alloc::AllocError;
 

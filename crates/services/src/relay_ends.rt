@@ -3,9 +3,8 @@
 use crate::recordings::slot_after;
 use crate::relay_stages::RelayStage as Stage;
 use crate::relaying::{Ended, RelaySession};
-use dme_orders::refused_call;
 use effects::{Answer, Cause};
-use refusal_guide::unknown_host;
+use order_parts::{refused_call, unknown_host};
 use session_telling::why_unconnected;
 use std::alloc::AllocError;
 

@@ -1,0 +1,9 @@
+pub mod Faults
+pub mod Calls
+pub mod Broken
+pub mod Ends
+pub mod Plan
+pub mod Numbered
+pub mod Pauses
+pub mod Kept
+pub mod LastLine
