@@ -1,3 +1,4 @@
 pub mod Pieces
 pub mod Takes
 pub mod Transfers
+pub mod Names

@@ -1,7 +1,6 @@
 // Moving all bytes, over any port.
 ghost use Rattle.std.specs.Prelude.{◌≡◌, ◌⊎◌, ◌<◌, ◌≤◌, ◌*◌, ◌-◌, [], true, false, length, vec_len, IfOk, OnOk, OnErr, IfSome, IsErrOf};
-ghost use Rattle.std.specs.Io.KnownBytes.{Appends};
-ghost use Rattle.byte_ports.specs.Transfers.{AppendsFront, ConsumesFront, GaveTimes};
+ghost use Rattle.byte_ports.specs.Names.{Appends, AppendsFront, ConsumesFront, GaveTimes};
 
 use crate::ports::{Failed, Sink, Source};
 use std::alloc::{AllocError, Global};

@@ -5,3 +5,4 @@ pub mod Clients
 pub mod Refusals
 pub mod Calls
 pub mod Always
+pub mod Names

@@ -1,20 +1,8 @@
 // The client with the bytes of its connection.
 
 ghost use Rattle.std.specs.Prelude.{◌≡◌, ◌≢◌, ◌↔◌, ◌⊎◌, ◌≤◌, ◌+◌, ◌&&◌, not, nat_le, true, false, None, Some, Ok, Err, length, IsTrue, IsOk, IfOk, IfErr, OnOk, OnErr, IfSome, IsSome, IsNone, is_some, MatchOption};
-ghost use Rattle.std.specs.Result.{IsErrOf};
-ghost use Rattle.fixed_um.specs.Calls.{Leads, Shows};
-ghost use Rattle.std.specs.List.{AllByRecursion};
-ghost use Rattle.contact_ledger.specs.FeatureTexts.{CanBeWritten};
-ghost use Rattle.contact_ledger.specs.Ledgers.{HaveOrigins, connection_most};
-ghost use Rattle.line_framing.specs.Next.{next_of};
-ghost use Rattle.line_framing.specs.Framing.{IsLineDue};
-ghost use Rattle.protocol_model.specs.Open.{count_open, is_asking};
-ghost use Rattle.protocol_model.specs.Client.{due, may_abort, may_resume};
-ghost use Rattle.protocol_model.specs.Ends.{new_client_end, end_connected, end_sent, end_aborted, end_fed, end_read, end_resumed, end_left, end_restarted, end_taken};
-ghost use Rattle.client_core.specs.Tables.{planned_command};
-ghost use Rattle.client_core.specs.Always.{IsReached, FitsState, IsQuiet};
-ghost use Rattle.client_core.specs.Clients.{are_ours, is_faulted, is_window, may_connect, may_read, window_most};
-ghost use Rattle.client_core.specs.Refusals.{IsRefused, IsReadRefused, IsSendRefused};
+ghost use Rattle.client_core.specs.Names.{IsErrOf, Leads, Shows, AllByRecursion, CanBeWritten, HaveOrigins, connection_most, next_of, IsLineDue, count_open, is_asking, due, may_abort, may_resume, new_client_end, end_connected, end_sent, end_aborted, end_fed, end_read, end_resumed, end_left, end_restarted, end_taken, planned_command, FitsState, IsQuiet, are_ours, is_faulted, is_window, may_connect, may_read, window_most, IsRefused, IsReadRefused, IsSendRefused};
+ghost use Rattle.client_core.specs.Always.{IsReached};
 
 use crate::executor::Executor;
 use crate::faults::{ClientFault, NewFault};

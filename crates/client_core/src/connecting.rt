@@ -1,7 +1,6 @@
 // A client comes to a connection, and begins its plan again on it (this profile).
 
-ghost use Rattle.fixed_um.specs.Calls.{Leads};
-ghost use Rattle.protocol_model.specs.Client.{client_connected, client_resumed};
+ghost use Rattle.client_core.specs.Names.{Leads, client_connected, client_resumed};
 
 use crate::executor::Executor;
 use protocol_model::{Start, State};

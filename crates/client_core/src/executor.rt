@@ -1,14 +1,7 @@
 // What a client keeps other than the bytes of its connection.
 
 ghost use Rattle.std.specs.Prelude.{◌≡◌, ◌≤◌, ◌&&◌, length, drop, None, Some, OnOk, OnErr, IfOk, MatchOption, is_some, true, false};
-ghost use Rattle.fixed_um.specs.Calls.{Shows};
-ghost use Rattle.contact_ledger.specs.Ledgers.{HaveOrigins};
-ghost use Rattle.protocol_model.specs.Client.{new_client, client_left, client_restarted, due, faulted, is_whole, first_state, last_state, state_behind};
-ghost use Rattle.protocol_model.specs.Open.{count_open};
-ghost use Rattle.protocol_model.specs.Client.{may_abort, may_resume};
-ghost use Rattle.client_core.specs.Tables.{planned_command};
-ghost use Rattle.client_core.specs.Clients.{is_faulted, may_connect, may_read};
-ghost use Rattle.client_core.specs.Refusals.{IsRefusal};
+ghost use Rattle.client_core.specs.Names.{Shows, HaveOrigins, new_client, client_left, client_restarted, due, faulted, is_whole, first_state, last_state, state_behind, count_open, may_abort, may_resume, planned_command, is_faulted, may_connect, may_read, IsRefusal};
 
 use crate::faults::ClientFault;
 use crate::progress::Progress;

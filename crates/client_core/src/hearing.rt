@@ -1,17 +1,7 @@
 // What a client makes of a reply (this profile).
 
 ghost use Rattle.std.specs.Prelude.{◌≡◌, Some, true, false};
-ghost use Rattle.fixed_um.specs.Calls.{Leads};
-ghost use Rattle.dme_tags.specs.Answers.{cause_of, effect_heard};
-ghost use Rattle.dme_tags.specs.Data.{may_be_given};
-ghost use Rattle.dme_tags.specs.Opened.{heard, kind_under};
-ghost use Rattle.protocol_model.specs.Replies.{Mark, tag_is};
-ghost use Rattle.protocol_model.specs.Open.{Effect};
-ghost use Rattle.dme_line.specs.Tags.{is_event_tag};
-ghost use Rattle.protocol_model.specs.Client.{client_read, ends_abort, faulted};
-ghost use Rattle.protocol_model.specs.declared.states.Cause.{Cause as Why};
-ghost use Rattle.client_core.specs.Tables.{opened_of, counts_standard};
-ghost use Rattle.contact_ledger.specs.Ledgers.{IsConnection};
+ghost use Rattle.client_core.specs.Names.{Leads, cause_of, effect_heard, may_be_given, heard, kind_under, Mark, tag_is, Effect, is_event_tag, client_read, ends_abort, faulted, Cause as Why, opened_of, counts_standard, IsConnection};
 ghost use Rattle.dme_line.specs.declared.tags.Tag.TheVariants as tags;
 
 use crate::executor::Executor;

@@ -1,13 +1,7 @@
 // What follows from the definitions for a client, whatever its peer sends. Each function has laws for its contract and does nothing.
 
 ghost use Rattle.std.specs.Prelude.{◌≡◌, ℕ, List, Some, true, false};
-ghost use Rattle.contact_ledger.specs.declared.features.Feature.{Feature as OneFeature};
-ghost use Rattle.dmis_program.specs.Meaning.{Meaning};
-ghost use Rattle.dmis_program.specs.Programs.{IsProgram};
-ghost use Rattle.dme_line.specs.declared.commands.Kind.{Kind};
-ghost use Rattle.protocol_model.specs.Replies.{Mark};
-ghost use Rattle.client_core.specs.Calls.{Call, client_behind, plans_begun, is_told, has_homing, AreCounted, counted_by, next_kind};
-ghost use Rattle.client_core.specs.Clients.{are_ours};
+ghost use Rattle.client_core.specs.Names.{Feature as OneFeature, Meaning, IsProgram, Kind, Mark, Call, client_behind, plans_begun, is_told, has_homing, AreCounted, counted_by, next_kind, are_ours};
 
 /// After every list of calls of a client, from any program and any features of it that are kept, whatever bytes are fed:
 ///

@@ -1,13 +1,8 @@
 // What a client makes of a line (this profile).
 
 ghost use Rattle.std.specs.Prelude.{◌≡◌, false, OnOk, OnErr};
-ghost use Rattle.fixed_um.specs.Calls.{Leads};
-ghost use Rattle.contact_ledger.specs.Ledgers.{IsConnection};
-ghost use Rattle.dme_line.specs.Responses.{the_mark};
+ghost use Rattle.client_core.specs.Names.{Leads, IsConnection, the_mark, response_of, tag_is, given, response_read, line_read};
 ghost use Rattle.dme_line.specs.declared.tags.Tag.TheVariants as tags;
-ghost use Rattle.protocol_model.specs.Readings.{response_of};
-ghost use Rattle.protocol_model.specs.Replies.{tag_is};
-ghost use Rattle.protocol_model.specs.Ends.{given, response_read, line_read};
 
 use crate::executor::Executor;
 use crate::hearing::is_unasked;

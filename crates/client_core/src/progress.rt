@@ -1,9 +1,7 @@
 // What a client counts.
 
 ghost use Rattle.std.specs.Prelude.{◌≡◌, ◌≤◌, [], ◌∷◌, ◌++◌, ◌<◌, Bool, false, Some, length, take, drop, vec_len, vec_capacity, OnOk, OnErr, IfOk};
-ghost use Rattle.protocol_model.specs.Client.{Tally, act_of, joined, measured, counted_next, passed_over, tells_homed, without_homing};
-ghost use Rattle.client_core.specs.Progress.{tally_of, measured_so, listed, is_contact};
-ghost use Rattle.contact_ledger.specs.Ledgers.{IsConnection};
+ghost use Rattle.client_core.specs.Names.{Tally, act_of, joined, measured, counted_next, passed_over, tells_homed, without_homing, tally_of, measured_so, listed, is_contact, IsConnection};
 
 use contact_ledger::{Act, Feature, FeatureLedger, Origin, Points};
 use dme_line::{Command, Kind};

@@ -1,9 +1,7 @@
 // A client writes its commands.
 
 ghost use Rattle.std.specs.Prelude.{◌≡◌, ◌++◌, IsSome};
-ghost use Rattle.fixed_um.specs.Calls.{Grows, HasRoom, Leads, Writes};
-ghost use Rattle.protocol_model.specs.Lines.{command_bytes};
-ghost use Rattle.protocol_model.specs.Client.{client_sent, client_aborted, due};
+ghost use Rattle.client_core.specs.Names.{Grows, HasRoom, Leads, Writes, command_bytes, client_sent, client_aborted, due};
 
 use crate::executor::Executor;
 use dme_line::{Command, Kind, write_command_reserved, write_line_end_reserved};

@@ -1,7 +1,6 @@
 // What follows for lists of calls. Each function has a law for its contract and does nothing.
 ghost use Rattle.std.specs.Prelude.{◌≡◌, List, [], ◌++◌};
-ghost use Rattle.protocol_model.specs.declared.lines.Waiting.{Waiting};
-ghost use Rattle.command_queue.specs.Calls.{Call, Do, put_by, taken_by};
+ghost use Rattle.command_queue.specs.Names.{Waiting, Call, Do, put_by, taken_by};
 
 /// First in, first out: whatever the calls on a new queue were, what was taken, followed by what waits, is what was put, in order.
 /// So no command is lost, none comes twice, and none overtakes another.

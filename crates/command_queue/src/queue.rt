@@ -1,11 +1,8 @@
 // The waiting commands.
 
-ghost use Rattle.fixed_um.specs.Calls.{Leads};
 ghost use Rattle.std.specs.Prelude.{◌≡◌, ◌↔◌, ◌<◌, ◌≤◌, [], ◌∷◌, ◌++◌, length, drop, IsOk, IsTrue, IfOk, IfErr, OnOk, OnErr, MatchOption};
-ghost use Rattle.std.specs.List.{list_any};
+ghost use Rattle.command_queue.specs.Names.{Leads, list_any, tag_is, waits_under};
 ghost use Rattle.command_queue.specs.Limits.{places};
-ghost use Rattle.protocol_model.specs.Replies.{tag_is};
-ghost use Rattle.protocol_model.specs.Server.{waits_under};
 
 use circular_buffer::HeapCircularBuffer;
 use dme_line::Tag;

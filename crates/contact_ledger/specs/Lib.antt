@@ -6,3 +6,4 @@ pub mod FeatureTexts
 pub mod ContactTexts
 pub mod Messages
 pub mod Places
+pub mod Names

@@ -1,9 +1,7 @@
 // Reading the line of an act.
 
 ghost use Rattle.std.specs.Prelude.{◌≡◌, ◌∷◌, [], codes, IfOk};
-ghost use Rattle.fixed_um.specs.Calls.{Finds};
-ghost use Rattle.contact_ledger.specs.Lines.{fields_behind};
-ghost use Rattle.contact_ledger.specs.ContactTexts.{IsWrittenAct, IsEntry, act_fields, act_line};
+ghost use Rattle.contact_ledger.specs.Names.{Finds, fields_behind, IsWrittenAct, IsEntry, act_fields, act_line};
 
 use crate::acts::Act;
 use crate::forms::{Forms, read_name, read_number};

@@ -1,8 +1,7 @@
 // What follows from the definitions for the text of acts. Each function has laws for its contract and does nothing.
 
 ghost use Rattle.std.specs.Prelude.{◌≡◌, ◌≤◌, ◌<◌, ◌+◌, ℕ, List, [], length, take};
-ghost use Rattle.contact_ledger.specs.ContactTexts.{AreEntries, contacts_text, IsContacts, IsDamagedContacts};
-ghost use Rattle.contact_ledger.specs.declared.acts.Act.{Act};
+ghost use Rattle.contact_ledger.specs.Names.{AreEntries, contacts_text, IsContacts, IsDamagedContacts, Act};
 
 /// A written text of acts is read as these acts (this profile).
 #[tactic(auto, using(crate::proofs::ContactLaws::written_read))]

@@ -1,10 +1,7 @@
 // The text of a server's acts (this profile).
 
 ghost use Rattle.std.specs.Prelude.{◌≡◌, ◌++◌, ◌∷◌, [], ℕ, OnOk, Err};
-ghost use Rattle.contact_ledger.specs.ContactTexts.{IsEntry, act_line, IsContacts, IsDamagedContacts};
-ghost use Rattle.contact_ledger.specs.Damage.{ReadsText};
-ghost use Rattle.contact_ledger.specs.declared.acts.Act.{Act};
-ghost use Rattle.contact_ledger.specs.declared.faults.TextFault.TheVariants.{Damaged};
+ghost use Rattle.contact_ledger.specs.Names.{IsEntry, act_line, IsContacts, IsDamagedContacts, ReadsText, Act, Damaged};
 
 use crate::act_reading::read_entry;
 use crate::faults::TextFault;

@@ -1,13 +1,7 @@
 // Writing the acts of a server.
 
 ghost use Rattle.std.specs.Prelude.{◌≡◌, ◌++◌, ◌∷◌, [], map, codes, OnOk};
-ghost use Rattle.std.specs.List.{AllByRecursion};
-ghost use Rattle.fixed_um.specs.Calls.{Writes};
-ghost use Rattle.fixed_um.specs.Names.{IsName};
-ghost use Rattle.contact_ledger.specs.Lines.{text_of, spaced};
-ghost use Rattle.contact_ledger.specs.Fields.{IsOnWire, IsFrame, IsTouch, point_fields, frame_fields, direction_fields};
-ghost use Rattle.contact_ledger.specs.Ledgers.{IsConnection};
-ghost use Rattle.contact_ledger.specs.ContactTexts.{IsWrittenAct, IsEntry, AreEntries, homed_field, act_fields, act_line, contacts_text};
+ghost use Rattle.contact_ledger.specs.Names.{AllByRecursion, Writes, IsName, text_of, spaced, IsOnWire, IsFrame, IsTouch, point_fields, frame_fields, direction_fields, IsConnection, IsWrittenAct, IsEntry, AreEntries, homed_field, act_fields, act_line, contacts_text};
 
 use crate::acts::Act;
 use crate::fields::{add_direction, add_frame, add_name, add_point};

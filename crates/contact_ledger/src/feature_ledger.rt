@@ -1,7 +1,7 @@
 // The features that a client holds.
 ghost use Rattle.std.specs.Prelude.{◌≡◌, ◌≤◌, [], ◌∷◌, ◌++◌, length, take, IfErr};
-ghost use Rattle.fixed_um.specs.Calls.{Leads, Shows};
-ghost use Rattle.contact_ledger.specs.Ledgers.{IsOrigin, HaveOrigins};
+ghost use Rattle.contact_ledger.specs.Names.{Leads, Shows, IsOrigin};
+ghost use Rattle.contact_ledger.specs.Ledgers.{HaveOrigins};
 
 use crate::features::Feature;
 use std::alloc::{AllocFailed, Global};

@@ -1,9 +1,7 @@
 // The text of a list of features (this profile).
 
 ghost use Rattle.std.specs.Prelude.{◌≡◌, IfOk};
-ghost use Rattle.std.specs.List.{AllByRecursion};
-ghost use Rattle.contact_ledger.specs.Damage.{ReadsText};
-ghost use Rattle.contact_ledger.specs.FeatureTexts.{CanBeWritten, IsFeatures, IsDamagedFeatures};
+ghost use Rattle.contact_ledger.specs.Names.{AllByRecursion, ReadsText, CanBeWritten, IsFeatures, IsDamagedFeatures};
 
 use crate::faults::TextFault;
 use crate::feature_ledger::FeatureLedger;

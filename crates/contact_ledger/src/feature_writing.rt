@@ -1,14 +1,7 @@
 // Writing a list of features.
 
 ghost use Rattle.std.specs.Prelude.{◌≡◌, ◌≤◌, ◌++◌, ◌∷◌, [], length, map, All, codes, decimal, OnOk};
-ghost use Rattle.std.specs.List.{AllByRecursion};
-ghost use Rattle.fixed_um.specs.Calls.{Writes};
-ghost use Rattle.contact_ledger.specs.Ledgers.{IsOrigin};
-ghost use Rattle.contact_ledger.specs.Lines.{text_of, spaced};
-ghost use Rattle.contact_ledger.specs.Fields.{IsOnWire};
-ghost use Rattle.contact_ledger.specs.FeatureTexts.{CanBeWritten, IsFeature, AreFeatures, IsWrittenOrigin};
-ghost use Rattle.contact_ledger.specs.FeatureTexts.{origin_fields, point_line, feature_lines, lines_of_all, features_text};
-ghost use Rattle.contact_ledger.specs.declared.openings.Version.TheVariants.{Second};
+ghost use Rattle.contact_ledger.specs.Names.{AllByRecursion, Writes, IsOrigin, text_of, spaced, IsOnWire, CanBeWritten, IsFeature, AreFeatures, IsWrittenOrigin, origin_fields, point_line, feature_lines, lines_of_all, features_text, Second};
 
 use crate::features::{Feature, Origin};
 use crate::fields::{add_first_length, add_frame, add_length, add_name, add_number};

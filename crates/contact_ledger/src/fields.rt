@@ -1,10 +1,7 @@
 // Values as fields of a line: a space, and the value in its written form.
 
 ghost use Rattle.std.specs.Prelude.{◌≡◌, ◌≤◌, ◌++◌, ◌∷◌, [], decimal, OnOk};
-ghost use Rattle.fixed_um.specs.Names.{IsName};
-ghost use Rattle.fixed_um.specs.Written.{written};
-ghost use Rattle.contact_ledger.specs.Lines.{spaced};
-ghost use Rattle.contact_ledger.specs.Fields.{IsLength, IsOnWire, IsFrame, IsTouch, point_fields, frame_fields, direction_fields};
+ghost use Rattle.contact_ledger.specs.Names.{IsName, written, spaced, IsLength, IsOnWire, IsFrame, IsTouch, point_fields, frame_fields, direction_fields};
 
 use fixed_um::{Dir, Frame, Name, Point, Um, write_dir, write_um};
 use itoa::Buffer;

@@ -1,16 +1,7 @@
 // Fields that have their written form.
 
 ghost use Rattle.std.specs.Prelude.{◌≡◌, ◌≢◌, ◌↔◌, ◌≤◌, ◌+◌, ◌++◌, ◌∷◌, [], ℕ, List, Option, decimal, codes, vec_capacity, MatchOption, IfOk, IsTrue, Ok, Some};
-ghost use Rattle.fixed_um.specs.Calls.{Finds};
-ghost use Rattle.fixed_um.specs.Names.{IsName};
-ghost use Rattle.fixed_um.specs.Numerals.{ReadsDirection};
-ghost use Rattle.fixed_um.specs.Shapes.{Direction, IsDirection};
-ghost use Rattle.fixed_um.specs.Written.{written, written_component};
-ghost use Rattle.fixed_um.specs.declared.lengths.Point.{Point};
-ghost use Rattle.fixed_um.specs.declared.frames.Frame.{Frame};
-ghost use Rattle.contact_ledger.specs.Lines.{fields_of, fields_behind};
-ghost use Rattle.contact_ledger.specs.Fields.{IsLength, IsOnWire, IsFrame, IsTouch, point_fields, frame_fields, direction_fields};
-ghost use Rattle.contact_ledger.specs.FeatureTexts.{IsWrittenOrigin, IsKnown, known_fields, origin_fields, point_line};
+ghost use Rattle.contact_ledger.specs.Names.{Finds, IsName, ReadsDirection, Direction, IsDirection, written, written_component, Point, Frame, fields_of, fields_behind, IsLength, IsOnWire, IsFrame, IsTouch, point_fields, frame_fields, direction_fields, IsWrittenOrigin, IsKnown, known_fields, origin_fields, point_line};
 
 use crate::features::Origin;
 use crate::lines::{first_field, next_field};

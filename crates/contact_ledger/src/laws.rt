@@ -1,10 +1,7 @@
 // What follows from the definitions alone. Each function has laws for its contract and does nothing.
 
 ghost use Rattle.std.specs.Prelude.{◌≡◌, ◌<◌, ◌++◌, ◌∷◌, [], ℕ, List, length, take};
-ghost use Rattle.contact_ledger.specs.Lines.{text_of};
-ghost use Rattle.contact_ledger.specs.FeatureTexts.{IsFeature, AreFeatures, IsFeatures, IsDamagedFeatures, header, feature_lines, features_text};
-ghost use Rattle.contact_ledger.specs.declared.features.Feature.{Feature};
-ghost use Rattle.contact_ledger.specs.declared.openings.Version.{Version};
+ghost use Rattle.contact_ledger.specs.Names.{text_of, IsFeature, AreFeatures, IsFeatures, IsDamagedFeatures, header, feature_lines, features_text, Feature, Version};
 
 /// A text of features is read in one way: it says one list, or a line of it is damaged.
 pub fn features_are_read_in_one_way()

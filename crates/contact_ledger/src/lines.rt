@@ -1,8 +1,7 @@
 // The lines of a text and the fields of a line.
 
 ghost use Rattle.std.specs.Prelude.{◌≡◌, ◌<◌, ◌∷◌, ◌==◌, [], length, MatchOption, IfSome};
-ghost use Rattle.std.specs.List.{position};
-ghost use Rattle.contact_ledger.specs.Lines.{whole_lines, fields_of, fields_behind};
+ghost use Rattle.contact_ledger.specs.Names.{position, whole_lines, fields_of, fields_behind};
 
 fn place_of(bytes: &[u8], mark: u8) -> Option<usize>
     ensures place { result ≡ position (λ b. b == mark) bytes.now }

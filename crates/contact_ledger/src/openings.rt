@@ -1,8 +1,7 @@
 // What the opening line of a feature says.
 
 ghost use Rattle.std.specs.Prelude.{◌≡◌, IfOk};
-ghost use Rattle.fixed_um.specs.Calls.{Finds};
-ghost use Rattle.contact_ledger.specs.FeatureTexts.{IsOpening, header, opening_line};
+ghost use Rattle.contact_ledger.specs.Names.{Finds, IsOpening, header, opening_line};
 
 use crate::features::Origin;
 use crate::forms::{Forms, read_name, read_number};

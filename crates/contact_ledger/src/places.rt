@@ -1,14 +1,7 @@
 // The places of a text of features, line by line.
 
 ghost use Rattle.std.specs.Prelude.{◌≡◌, ◌≤◌, ◌++◌, ◌∷◌, [], ℕ, List, length, ◌<◌, OnOk, Ok, Err, IfOk};
-ghost use Rattle.fixed_um.specs.Calls.{Finds};
-ghost use Rattle.contact_ledger.specs.Fields.{IsOnWire};
-ghost use Rattle.contact_ledger.specs.FeatureTexts.{IsFeature, point_line};
-ghost use Rattle.contact_ledger.specs.Places.{IsSound, Next};
-ghost use Rattle.contact_ledger.specs.declared.features.Feature.{Feature};
-ghost use Rattle.contact_ledger.specs.declared.places.Place.{Place};
-ghost use Rattle.contact_ledger.specs.declared.places.Place.TheVariants.{Start, Between, Within};
-ghost use Rattle.contact_ledger.specs.declared.faults.TextFault.TheVariants.{Damaged};
+ghost use Rattle.contact_ledger.specs.Names.{Finds, IsOnWire, IsFeature, point_line, IsSound, Next, Feature, Place, Start, Between, Within, Damaged};
 
 use crate::faults::TextFault;
 use crate::feature_ledger::FeatureLedger;

@@ -1,7 +1,7 @@
 // The acts of a server.
 ghost use Rattle.std.specs.Prelude.{◌≡◌, [], ◌∷◌, ◌++◌, IfErr};
-ghost use Rattle.fixed_um.specs.Calls.{Leads, Shows};
-ghost use Rattle.contact_ledger.specs.Ledgers.{is_contact, contact_count, IsConnection, AreOnConnections};
+ghost use Rattle.contact_ledger.specs.Names.{Leads, Shows, is_contact, IsConnection};
+ghost use Rattle.contact_ledger.specs.Ledgers.{contact_count, AreOnConnections};
 
 use crate::acts::Act;
 use std::alloc::{AllocFailed, Global};

@@ -8,3 +8,4 @@ pub mod Ranges
 pub mod Entries
 pub mod Limits
 pub mod LimitMessages
+pub mod Names

@@ -1,22 +1,8 @@
 // Deviations, and their part along a direction.
 
 ghost use Rattle.std.specs.Prelude.{◌≡◌, ◌≤◌, ◌<◌, ◌*◌, ◌+◌, ◌^◌, ◌+ℤ◌, ◌-ℤ◌, ◌*ℤ◌, unsigned_abs};
-ghost use Rattle.fixed_um.specs.Limits.{volume_limit, component_limit};
-ghost use Rattle.fixed_um.specs.Points.{IsInVolume};
-ghost use Rattle.deviations.specs.Along.{
-  deviation,
-  deviation_limit,
-  on_side_of,
-  IsDeviation,
-  scalar_product,
-  squared,
-  squared_length,
-  IsNearestRoot,
-  IsAlong,
-};
+ghost use Rattle.deviations.specs.Names.{volume_limit, component_limit, IsInVolume, deviation, deviation_limit, on_side_of, IsDeviation, scalar_product, squared, squared_length, IsNearestRoot, IsAlong, Direction, Deviation};
 ghost use Rattle.std.specs.Prelude.{ℤ};
-ghost use Rattle.fixed_um.specs.Shapes.{Direction};
-ghost use Rattle.deviations.specs.declared.along.Deviation.{Deviation};
 
 use fixed_um::{Dir, Point, Um};
 

@@ -1,22 +1,7 @@
 // The lines that compare the points of a part with limits.
 
 ghost use Rattle.std.specs.Prelude.{◌≡◌, ◌-ℤ◌, ◌++◌, ◌≤◌, ◌^◌, take, drop, IfOk, OnOk, string_bytes, None, unsigned_abs};
-ghost use Rattle.std.specs.Int.{int_min};
-ghost use Rattle.deviations.specs.Compared.{
-  margin,
-  worse,
-  worse_row,
-  worst_after,
-  worst_line,
-  worst_text,
-  feature_text,
-  features_text,
-  is_out,
-  compared_count,
-  out_count,
-  part_text,
-  compared_text,
-};
+ghost use Rattle.deviations.specs.Names.{int_min, margin, worse, worse_row, worst_after, worst_line, worst_text, feature_text, features_text, is_out, compared_count, out_count, part_text, compared_text};
 
 use crate::judged::{row_verdict, verdict_word};
 use crate::printed::Micrometres;

@@ -1,9 +1,7 @@
 ghost use Rattle.std.specs.Prelude.{◌≡◌, ◌≤◌, ◌==◌, not, length, IfOk};
-ghost use Rattle.std.specs.List.{list_all, prefix_len};
-ghost use Rattle.tool_rack.specs.Entries.{length_of};
+ghost use Rattle.deviations.specs.Names.{list_all, prefix_len, length_of, is_no_exponent, is_in_micrometres, length_in, label_in, limit_from, entry_on, GivesLimits};
 ghost use Rattle.tool_rack.specs.Fields.{fields_of};
-ghost use Rattle.deviations.specs.Entries.{is_no_exponent, is_in_micrometres, length_in, label_in, limit_from, limit_fields, entry_on};
-ghost use Rattle.deviations.specs.Limits.{GivesLimits};
+ghost use Rattle.deviations.specs.Entries.{limit_fields};
 
 use crate::limit_faults::LimitsFault;
 use crate::ranges::Range;

@@ -1,16 +1,5 @@
 ghost use Rattle.std.specs.Prelude.{◌≡◌, is_some, OnOk, IfErr, Ok};
-ghost use Rattle.deviations.specs.Entries.{entry_on};
-ghost use Rattle.deviations.specs.Limits.{
-  is_named,
-  own_range,
-  common_range,
-  range_under,
-  range_for,
-  judged,
-  limits_of,
-  GivesLimits,
-  IsDue,
-};
+ghost use Rattle.deviations.specs.Names.{entry_on, is_named, own_range, common_range, range_under, range_for, judged, limits_of, GivesLimits, IsDue};
 
 use crate::entries::{Limit, entry_on};
 use crate::limit_faults::LimitsFault;

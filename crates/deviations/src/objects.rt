@@ -1,40 +1,7 @@
 // The table as JSON.
 
 ghost use Rattle.std.specs.Prelude.{◌≡◌, ◌++◌, ◌∷◌, [], IfOk, OnOk, decimal};
-ghost use Rattle.json.specs.Token.{key, number, string, null};
-ghost use Rattle.json.specs.Lex.{tokens};
-ghost use Rattle.fixed_um.specs.Calls.{Writes};
-ghost use Rattle.deviations.specs.Json.{
-  Puts,
-  length_member,
-  length_members,
-  null_members,
-  component_member,
-  components_of,
-  length_or_null,
-  kind_of,
-  place_of,
-  feature_member,
-  count_member,
-  nominal_members,
-  normal_members,
-  measured_members,
-  deviation_members,
-  along_member,
-  tool_member,
-  kind_member,
-  place_members,
-  connection_member,
-  verdict_member,
-  limit_member,
-  asked_members,
-  found_members,
-  means_members,
-  row_tokens,
-  json_tokens,
-  array_text,
-  json_of,
-};
+ghost use Rattle.deviations.specs.Names.{key, number, string, null, tokens, Writes, Puts, length_member, length_members, null_members, component_member, components_of, length_or_null, kind_of, place_of, feature_member, count_member, nominal_members, normal_members, measured_members, deviation_members, along_member, tool_member, kind_member, place_members, connection_member, verdict_member, limit_member, asked_members, found_members, means_members, row_tokens, json_tokens, array_text, json_of};
 
 use crate::along::Deviation;
 use crate::judged::{row_verdict, verdict_word};

@@ -1,6 +1,5 @@
 ghost use Rattle.std.specs.Prelude.{◌≡◌, ◌↔◌, ◌≤ℤ◌};
-ghost use Rattle.deviations.specs.Ranges.{range_between, verdict_in};
-ghost use Rattle.deviations.specs.declared.ranges.Verdict.TheVariants.{Inside};
+ghost use Rattle.deviations.specs.Names.{range_between, verdict_in, Inside};
 
 use fixed_um::Um;
 

@@ -1,27 +1,9 @@
 // The table as comma-separated values.
 
 ghost use Rattle.std.specs.Prelude.{◌≡◌, ◌++◌, ◌∷◌, [], IfOk, OnOk, map, decimal};
-ghost use Rattle.csv.specs.Records.{fields_of, partial_of};
-ghost use Rattle.csv.specs.Writing.{default_writer, row_text};
-ghost use Rattle.fixed_um.specs.Calls.{Writes};
-ghost use Rattle.fixed_um.specs.Written.{written, written_component};
-ghost use Rattle.contact_ledger.specs.Fields.{point_fields};
-ghost use Rattle.deviations.specs.Records.{
-  Joins,
-  normal_fields,
-  measured_fields,
-  deviation_fields,
-  along_fields,
-  frame_columns,
-  connection_fields,
-  header,
-  record_of,
-  verdict_field,
-  limit_header,
-  limit_fields,
-  records_text,
-  csv_text,
-};
+ghost use Rattle.deviations.specs.Names.{partial_of, default_writer, row_text, Writes, written, written_component, point_fields, Joins, normal_fields, measured_fields, deviation_fields, along_fields, frame_columns, connection_fields, header, record_of, verdict_field, limit_header, records_text, csv_text};
+ghost use Rattle.csv.specs.Records.{fields_of};
+ghost use Rattle.deviations.specs.Records.{limit_fields};
 
 use crate::along::Deviation;
 use crate::judged::{row_verdict, verdict_word};

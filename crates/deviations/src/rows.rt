@@ -1,24 +1,8 @@
 // The rows of a table of deviations.
 
 ghost use Rattle.std.specs.Prelude.{◌≡◌, ◌≤◌, ◌+◌, ◌^◌, ◌++◌, length, true, false, IfOk, IfErr, IfSome, OnOk, unsigned_abs};
-ghost use Rattle.std.specs.List.{AllByRecursion, AllZip};
-ghost use Rattle.client_core.specs.Clients.{is_ours, are_ours};
-ghost use Rattle.contact_ledger.specs.Ledgers.{HaveOrigins};
-ghost use Rattle.dmis_program.specs.Programs.{IsFeature, IsTouch};
+ghost use Rattle.deviations.specs.Names.{AllByRecursion, AllZip, is_ours, are_ours, HaveOrigins, IsFeature, IsTouch, NotOurs, IsDeviation, connection_of, places_from, feature_places, open_places, missing_places, places_of, IsAlongNormal, IsAway, IsRow};
 ghost use Rattle.fixed_um.specs.Points.{IsInVolume};
-ghost use Rattle.deviations.specs.declared.faults.RowsFault.TheVariants.{NotOurs};
-ghost use Rattle.deviations.specs.Along.{IsDeviation};
-ghost use Rattle.deviations.specs.Rows.{
-  connection_of,
-  places_from,
-  feature_places,
-  open_places,
-  missing_places,
-  places_of,
-  IsAlongNormal,
-  IsAway,
-  IsRow,
-};
 
 use crate::along::{Deviation, along_normal};
 use crate::faults::RowsFault;

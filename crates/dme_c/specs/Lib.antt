@@ -12,3 +12,4 @@ pub mod Recordings
 pub mod Refusals
 pub mod ServerCalls
 pub mod Touches
+pub mod Names

@@ -1,11 +1,8 @@
 // The calls of a client, for C.
 
 ghost use Rattle.std.specs.Prelude.{◌≡◌, ◌≢◌, ◌<◌, ◌≤◌, length, take, drop, None, Some, IsSome, IfSome, IfOk, option_map};
-ghost use Rattle.dme_c.specs.Calls.{Called};
-ghost use Rattle.dme_c.specs.Codes.{call_answer, read_answer, state_number};
-ghost use Rattle.contact_ledger.specs.FeatureTexts.{IsFeatures};
-ghost use Rattle.protocol_model.specs.Ends.{end_left};
-ghost use Rattle.dme_c.specs.ClientCalls.{Aborts, Connects, Feeds, HasText, IsTextOf, Reads, Resumes, Sends, Takes};
+ghost use Rattle.dme_c.specs.Names.{Called, call_answer, read_answer, state_number, IsFeatures, end_left, Aborts, HasText, IsTextOf, Sends};
+ghost use Rattle.dme_c.specs.ClientCalls.{Connects, Feeds, Reads, Resumes, Takes};
 
 use crate::client_handles::ClientHandle;
 use crate::codes::{call_number, number_of_state, read_number};

@@ -1,10 +1,7 @@
 // A client from the texts that a caller has.
 
 ghost use Rattle.std.specs.Prelude.{◌≡◌, ◌≢◌, ◌⊎◌, ◌≤◌, Ok, Some, IfOk, IfErr, IsSome, IfSome, None};
-ghost use Rattle.tool_rack.specs.Setups.{SetupValue, setup_of};
-ghost use Rattle.dmis_program.specs.Meaning.{program_of};
-ghost use Rattle.protocol_model.specs.Ends.{ClientEnd};
-ghost use Rattle.dme_c.specs.Making.{AnswersJust, IsBadSetup, IsBadProgram, IsBadFeatures, IsBadWindow, IsNotOurs, IsClientOf, IsWhy};
+ghost use Rattle.dme_c.specs.Names.{SetupValue, setup_of, program_of, ClientEnd, AnswersJust, IsBadSetup, IsBadProgram, IsBadFeatures, IsBadWindow, IsNotOurs, IsClientOf, IsWhy};
 
 use crate::client_handles::ClientHandle;
 use crate::codes::{NotMade, refusal_number};

@@ -1,9 +1,7 @@
 // The calls that follow the errors of a server, for C.
 
 ghost use Rattle.std.specs.Prelude.{◌≡◌, ◌≢◌, ◌⊎◌, [], false, None, Some, IsSome, option_map};
-ghost use Rattle.dme_c.specs.Calls.{Called};
-ghost use Rattle.dme_c.specs.Codes.{call_answer};
-ghost use Rattle.dme_c.specs.Hearings.{Passes, PassesCame, PassesSent, TakesError, joined, silence};
+ghost use Rattle.dme_c.specs.Names.{Called, call_answer, Passes, PassesCame, PassesSent, TakesError, joined, silence};
 
 use crate::codes::call_number;
 use crate::error_handles::ErrorsHandle;

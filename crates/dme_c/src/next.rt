@@ -1,10 +1,7 @@
 // What a client sends and measures next, for C.
 
 ghost use Rattle.std.specs.Prelude.{◌≡◌, None, IsSome, IfSome, option_map};
-ghost use Rattle.protocol_model.specs.Client.{due};
-ghost use Rattle.client_core.specs.Tables.{planned_command};
-ghost use Rattle.dme_c.specs.Next.{command_normal, command_number, command_place, kind_number, next_feature};
-ghost use Rattle.dme_c.specs.ServerCalls.{AreZero};
+ghost use Rattle.dme_c.specs.Names.{due, planned_command, command_normal, command_number, command_place, kind_number, next_feature, AreZero};
 
 use crate::client_handles::ClientHandle;
 use client_core::Client;

@@ -1,9 +1,8 @@
 // The calls of a record, for C.
 
 ghost use Rattle.std.specs.Prelude.{◌≡◌, None, Some, IsSome};
-ghost use Rattle.dme_c.specs.Calls.{Called};
-ghost use Rattle.dme_c.specs.Codes.{call_answer};
-ghost use Rattle.dme_c.specs.Recordings.{CalledBoth, Connects, Follows, Resumes, Takes};
+ghost use Rattle.dme_c.specs.Names.{Called, call_answer, CalledBoth, Follows};
+ghost use Rattle.dme_c.specs.Recordings.{Connects, Resumes, Takes};
 
 use crate::client_handles::ClientHandle;
 use crate::codes::call_number;

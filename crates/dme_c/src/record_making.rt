@@ -1,18 +1,7 @@
 // A client from the texts and the record that a caller has.
 
 ghost use Rattle.std.specs.Prelude.{ℕ, List, ◌≡◌, ◌≢◌, ◌↔◌, ◌≤◌, ◌<◌, [], IfOk, OnOk, IfErr, IsSome, IfSome, IsTrue, None, option_map, length, take, drop, true};
-ghost use Rattle.fixed_um.specs.Names.{IsName};
-ghost use Rattle.contact_ledger.specs.Lines.{text_of};
-ghost use Rattle.record_text.specs.Heads.{IsPartGiven, head_lines};
-ghost use Rattle.protocol_model.specs.Claims.{Sound};
-ghost use Rattle.protocol_model.specs.Ends.{new_client_end};
-ghost use Rattle.client_core.specs.Clients.{is_window};
-ghost use Rattle.dme_c.specs.Beginning.{Asks, IsBadPart, IsBegun, IsLabel, IsNoWindow, IsNumberOf, IsOfRecord, IsWhyNot};
-ghost use Rattle.dme_c.specs.Beginning.{RefusesRecord, label_in, line_in, not_begun_number, part_of};
-ghost use Rattle.dme_c.specs.Continuing.{ContinuesBytes, IsDue, IsDueFor, IsOfTexts, RefusesBytes};
-ghost use Rattle.dme_c.specs.Making.{AnswersJust, IsBadSetup, IsBadProgram, Means};
-ghost use Rattle.dme_c.specs.Recordings.{next_number};
-ghost use Rattle.record_text.specs.Beginnings.{BeginsWith};
+ghost use Rattle.dme_c.specs.Names.{IsName, text_of, IsPartGiven, head_lines, Sound, new_client_end, is_window, Asks, IsBadPart, IsBegun, IsLabel, IsNoWindow, IsNumberOf, IsOfRecord, IsWhyNot, RefusesRecord, label_in, line_in, not_begun_number, part_of, ContinuesBytes, IsDue, IsDueFor, IsOfTexts, RefusesBytes, AnswersJust, IsBadSetup, IsBadProgram, Means, next_number, BeginsWith};
 ghost use Rattle.record_text.specs.declared.opening.RecordRefusal.TheVariants as refusal;
 
 use crate::client_handles::ClientHandle;

@@ -1,12 +1,7 @@
 // The record of a run, in memory: what of it has its lines, and the lines that a caller has not taken yet.
 
 ghost use Rattle.std.specs.Prelude.{◌≡◌, ◌⊎◌, ◌≤◌, ◌++◌, true, drop, length, OnOk, OnErr, IfErr};
-ghost use Rattle.fixed_um.specs.Calls.{Leads};
-ghost use Rattle.protocol_model.specs.Client.{may_resume};
-ghost use Rattle.protocol_model.specs.Ends.{end_connected, end_resumed};
-ghost use Rattle.client_core.specs.Clients.{may_connect};
-ghost use Rattle.client_core.specs.Refusals.{IsRefused};
-ghost use Rattle.dme_c.specs.Recordings.{IsKept, connected, followed, next_number, resumed};
+ghost use Rattle.dme_c.specs.Names.{Leads, may_resume, end_connected, end_resumed, may_connect, IsRefused, IsKept, connected, followed, next_number, resumed};
 
 use client_core::{Client, ClientFault};
 use line_framing::ByteQueue;

@@ -1,8 +1,7 @@
 // Why the text of a program is refused, for C.
 
 ghost use Rattle.std.specs.Prelude.{◌≡◌, ◌≢◌, ◌⊎◌, ◌≤◌};
-ghost use Rattle.dme_c.specs.Making.{AnswersJust, IsAccepted, IsBadProgram, IsBadSetup};
-ghost use Rattle.dme_c.specs.Refusals.{IsRefusedFor, cause_number, numeral_number};
+ghost use Rattle.dme_c.specs.Names.{AnswersJust, IsAccepted, IsBadProgram, IsBadSetup, IsRefusedFor, cause_number, numeral_number};
 
 use crate::codes::{NotMade, refusal_number};
 use crate::texts::setup_read;

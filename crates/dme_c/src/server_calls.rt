@@ -1,14 +1,9 @@
 // The calls of a server, for C.
 
 ghost use Rattle.std.specs.Prelude.{◌≡◌, ◌≢◌, ◌⊎◌, ◌≤◌, unsigned_abs, None, Some, Ok, IsOk, IsSome, IfSome, option_map};
-ghost use Rattle.fixed_um.specs.Limits.{wire_limit};
-ghost use Rattle.protocol_model.specs.Ends.{serving_left};
+ghost use Rattle.dme_c.specs.Names.{wire_limit, serving_left, new_serving, with_end, setup_of, Called, AnswersJust, IsBadSetup, Accepts, Ends, Turns, line_served, served, server_fault};
 ghost use Rattle.protocol_model.specs.declared.machine.Outcome.TheVariants as outcome;
-ghost use Rattle.server_core.specs.Serving.{new_serving, with_end};
-ghost use Rattle.tool_rack.specs.Setups.{setup_of};
-ghost use Rattle.dme_c.specs.Calls.{Called};
-ghost use Rattle.dme_c.specs.Making.{AnswersJust, IsBadSetup};
-ghost use Rattle.dme_c.specs.ServerCalls.{Accepts, Ends, Feeds, Reads, Takes, Turns, line_served, served, server_fault};
+ghost use Rattle.dme_c.specs.ServerCalls.{Feeds, Reads, Takes};
 
 use crate::codes::refusal_number;
 use crate::room::copy_front;

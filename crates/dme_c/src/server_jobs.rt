@@ -1,8 +1,7 @@
 // What a server asks of its machine, for C.
 
 ghost use Rattle.std.specs.Prelude.{◌≡◌, ◌<◌, ◌≤◌, None, IsSome, IfSome, length, take, drop};
-ghost use Rattle.protocol_model.specs.Server.{running_job};
-ghost use Rattle.dme_c.specs.ServerCalls.{AreZero, job_number, job_place, job_normal, job_tool};
+ghost use Rattle.dme_c.specs.Names.{running_job, AreZero, job_number, job_place, job_normal, job_tool};
 
 use crate::next::components;
 use crate::room::copy_whole;

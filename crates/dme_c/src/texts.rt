@@ -1,10 +1,7 @@
 // What the texts of a caller say, and why one is refused.
 
 ghost use Rattle.std.specs.Prelude.{◌≡◌, Ok, IfOk, IfErr, IsErr};
-ghost use Rattle.contact_ledger.specs.FeatureTexts.{IsFeatures};
-ghost use Rattle.dmis_program.specs.Meaning.{program_of};
-ghost use Rattle.tool_rack.specs.Setups.{setup_of};
-ghost use Rattle.dme_c.specs.Making.{AreDamaged, IsBadSetup, Refuses};
+ghost use Rattle.dme_c.specs.Names.{IsFeatures, program_of, setup_of, AreDamaged, IsBadSetup, Refuses};
 
 use crate::codes::NotMade;
 use contact_ledger::{FeatureLedger, TextFault, read_features};

@@ -11,3 +11,4 @@ pub mod CommandText
 pub mod Homed
 pub mod Responses
 pub mod Errors
+pub mod Names

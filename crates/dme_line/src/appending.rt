@@ -1,8 +1,7 @@
 // Appending a text where there is room for it, and putting one in front of another.
 
 ghost use Rattle.std.specs.Prelude.{◌≡◌, ◌+◌, ◌++◌, ◌≤◌, drop, length};
-ghost use Rattle.fixed_um.specs.Calls.{Grows, HasRoom};
-ghost use Rattle.dme_line.specs.Words.{quoted};
+ghost use Rattle.dme_line.specs.Names.{Grows, HasRoom, quoted};
 
 /// Appends a text; the caller must have made room for it.
 pub(crate) fn append_reserved(out: &mut Vec<u8>, text: &[u8])

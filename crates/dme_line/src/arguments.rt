@@ -1,9 +1,7 @@
 // The arguments of commands.
 
 ghost use Rattle.std.specs.Prelude.{◌≡◌, ◌++◌, ◌∷◌, [], ◌↔◌, ℕ, List, IsTrue, MatchOption};
-ghost use Rattle.dme_line.specs.Tokens.{Token, Close, Comma, Word, tokens};
-ghost use Rattle.dme_line.specs.Arguments.{Argument as GivenArgument, Seven, argument_tokens, list_tokens, enclosed, IsOneWord, seven_tokens};
-ghost use Rattle.dme_line.specs.Taken.{the_argument, the_list, IsPlaceLong, the_seven};
+ghost use Rattle.dme_line.specs.Names.{Token, Close, Comma, Word, tokens, Argument as GivenArgument, Seven, argument_tokens, list_tokens, enclosed, IsOneWord, seven_tokens, the_argument, the_list, IsPlaceLong, the_seven};
 
 use crate::tokens::{is_end, is_word, take_mark, take_word};
 

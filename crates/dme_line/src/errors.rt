@@ -1,11 +1,7 @@
 // Error lines.
 
 ghost use Rattle.std.specs.Prelude.{◌≡◌, ◌≤◌, ◌<◌, ◌⊎◌, ◌+◌, ◌++◌, length, codes, MatchOption};
-ghost use Rattle.fixed_um.specs.Calls.{Grows, HasRoom, Writes};
-ghost use Rattle.dme_line.specs.Limits.{error_most};
-ghost use Rattle.dme_line.specs.Tags.{HasRoomUnder, IsTag};
-ghost use Rattle.dme_line.specs.Words.{quoted};
-ghost use Rattle.dme_line.specs.Errors.{number_of, text_of, numbered, error_name, error_report, written_error};
+ghost use Rattle.dme_line.specs.Names.{Grows, HasRoom, Writes, error_most, HasRoomUnder, IsTag, quoted, number_of, text_of, numbered, error_name, error_report, written_error};
 
 use crate::appending::{append_quoted_reserved, append_reserved};
 use crate::commands::Kind;

@@ -1,9 +1,7 @@
 // The answer to `IsHomed`: what a data line carries.
 
 ghost use Rattle.std.specs.Prelude.{◌≡◌, ◌++◌, Bool, IfOk, OnErr};
-ghost use Rattle.fixed_um.specs.Calls.{Grows, HasRoom, Writes};
-ghost use Rattle.dme_line.specs.Limits.{homed_most};
-ghost use Rattle.dme_line.specs.Homed.{homed_digit, written_homed, IsHomedCall, ReadsHomed};
+ghost use Rattle.dme_line.specs.Names.{Grows, HasRoom, Writes, homed_most, homed_digit, written_homed, IsHomedCall, ReadsHomed};
 
 use crate::appending::append_reserved;
 use crate::arguments::read_word;

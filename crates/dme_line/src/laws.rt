@@ -1,18 +1,7 @@
 // What holds of the texts of this crate, whoever writes and reads them. These functions do nothing: their contracts are the laws.
 
 ghost use Rattle.std.specs.Prelude.{◌≡◌, ℕ, Bool, List, length, Option, Result, Ok};
-ghost use Rattle.dme_line.specs.Limits.{command_most, data_most, error_most, homed_data_most, homed_most, line_end_length, point_most, response_most};
-ghost use Rattle.dme_line.specs.Words.{IsWireText, line_end};
-ghost use Rattle.dme_line.specs.Tags.{IsTag};
-ghost use Rattle.dme_line.specs.Points.{written_point, IsOnWire, ReadsPoint};
-ghost use Rattle.dme_line.specs.Homed.{homed_digit, written_homed, ReadsHomed};
-ghost use Rattle.dme_line.specs.Written.{written_command, IsWritable};
-ghost use Rattle.dme_line.specs.CommandText.{IsCommandText, ReadsCommand};
-ghost use Rattle.dme_line.specs.Responses.{written_response, IsWritableResponse, IsResponseLine, ReadsResponse, data_response, homed_response};
-ghost use Rattle.dme_line.specs.Errors.{error_response, written_error};
-ghost use Rattle.fixed_um.specs.declared.lengths.Point.{Point};
-ghost use Rattle.dme_line.specs.declared.points.NotPoint.{NotPoint};
-ghost use Rattle.dme_line.specs.declared.homed.NotHomedText.{NotHomedText};
+ghost use Rattle.dme_line.specs.Names.{command_most, data_most, error_most, homed_data_most, homed_most, line_end_length, point_most, response_most, IsWireText, line_end, IsTag, written_point, IsOnWire, ReadsPoint, homed_digit, written_homed, ReadsHomed, written_command, IsWritable, IsCommandText, ReadsCommand, written_response, IsWritableResponse, IsResponseLine, ReadsResponse, data_response, homed_response, error_response, written_error, Point, NotPoint, NotHomedText};
 
 use crate::commands::{Command, Kind};
 use crate::errors::ERROR_MAX;

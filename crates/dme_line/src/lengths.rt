@@ -1,11 +1,7 @@
 // Lengths within the limits of this profile, and directions.
 
 ghost use Rattle.std.specs.Prelude.{◌≡◌, ◌<◌, ◌≤◌, ◌+◌, ◌++◌, ◌≤ℤ◌, ℤ, pos, unsigned_abs, codes, drop, length, Ok};
-ghost use Rattle.fixed_um.specs.Calls.{Finds, Grows, HasRoom};
-ghost use Rattle.fixed_um.specs.Limits.{wire_limit, volume_limit};
-ghost use Rattle.fixed_um.specs.Numerals.{Reads};
-ghost use Rattle.fixed_um.specs.Shapes.{IsDirection};
-ghost use Rattle.fixed_um.specs.Written.{written, written_direction};
+ghost use Rattle.dme_line.specs.Names.{Finds, Grows, HasRoom, wire_limit, volume_limit, Reads, IsDirection, written, written_direction};
 
 use fixed_um::{Dir, Um, read_um, write_dir_reserved, write_um_before, write_um_reserved};
 

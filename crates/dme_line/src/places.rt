@@ -1,12 +1,7 @@
 // What the arguments of a move, a touch or a transformation say.
 
 ghost use Rattle.std.specs.Prelude.{◌≡◌, ◌∷◌, MatchOption, IfSome, Option, Some, None};
-ghost use Rattle.fixed_um.specs.Calls.{Finds};
-ghost use Rattle.std.specs.Option.{option_copied, option_map};
-ghost use Rattle.fixed_um.specs.Shapes.{Direction};
-ghost use Rattle.dme_line.specs.Arguments.{single_of, triple_of, single_named, triple_named, IsAxis, IsAlong, IsTarget, IsPlace, EndsWithAlong};
-ghost use Rattle.dme_line.specs.Taken.{the_argument, the_list, the_words};
-ghost use Rattle.dme_line.specs.Tokens.{Open, tokens};
+ghost use Rattle.dme_line.specs.Names.{Finds, option_copied, option_map, Direction, single_of, triple_of, single_named, triple_named, IsAxis, IsAlong, IsTarget, IsPlace, EndsWithAlong, the_argument, the_list, the_words, Open, tokens};
 
 use crate::arguments::{Argument, Place, is_closed, read_place, take_next};
 use crate::lengths::wire_length;

@@ -1,11 +1,7 @@
 // The text of a point: what a data line carries, and the front of the arguments of moves and touches.
 
 ghost use Rattle.std.specs.Prelude.{◌≡◌, ◌+◌, ◌++◌, ◌∷◌, [], ℕ, List, true, OnOk, IfSome, MatchOption};
-ghost use Rattle.fixed_um.specs.Calls.{Finds, Grows, HasRoom, Writes};
-ghost use Rattle.dme_line.specs.Limits.{point_most};
-ghost use Rattle.dme_line.specs.Tokens.{Token, tokens};
-ghost use Rattle.dme_line.specs.Arguments.{Single, argument_tokens};
-ghost use Rattle.dme_line.specs.Points.{written_point, IsOnWire, HasCoordinates, IsPointText, ReadsPoint, BeginsWithPoint, point_tokens};
+ghost use Rattle.dme_line.specs.Names.{Finds, Grows, HasRoom, Writes, point_most, Token, tokens, Single, argument_tokens, written_point, IsOnWire, HasCoordinates, IsPointText, ReadsPoint, BeginsWithPoint, point_tokens};
 
 use crate::appending::{append_reserved, put_before};
 use crate::arguments::{Argument, take_argument};

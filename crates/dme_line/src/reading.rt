@@ -1,13 +1,7 @@
 // Reading command lines.
 
 ghost use Rattle.std.specs.Prelude.{◌≡◌, ◌≤◌, ℕ, List, length, find, true, MatchOption, IfSome, IfOk, OnErr};
-ghost use Rattle.fixed_um.specs.Calls.{Finds};
-ghost use Rattle.std.specs.List.{prefix_len};
-ghost use Rattle.dme_line.specs.Words.{is_word};
-ghost use Rattle.dme_line.specs.Kinds.{kind_name};
-ghost use Rattle.dme_line.specs.Tokens.{tokens};
-ghost use Rattle.dme_line.specs.Arguments.{Says, IsOneWord};
-ghost use Rattle.dme_line.specs.CommandText.{is_name_part, IsNamed, IsTagged, IsCommandOf, HoldsTool, ReadsCommand};
+ghost use Rattle.dme_line.specs.Names.{Finds, prefix_len, is_word, kind_name, tokens, Says, IsOneWord, is_name_part, IsNamed, IsTagged, IsCommandOf, HoldsTool, ReadsCommand};
 
 use crate::arguments::is_empty_list;
 use crate::commands::{Command, Kind};

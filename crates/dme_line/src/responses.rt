@@ -1,12 +1,8 @@
 // Responses, and the lines that carry them.
 
 ghost use Rattle.std.specs.Prelude.{◌≡◌, ◌+◌, ◌++◌, [], codes, OnOk, OnErr, IfOk, MatchOption, Option};
-ghost use Rattle.fixed_um.specs.Calls.{Grows, HasRoom, Writes};
-ghost use Rattle.dme_line.specs.Limits.{bare_most, data_most, homed_data_most, response_most, text_most};
-ghost use Rattle.dme_line.specs.Tags.{written_tag, HasRoomUnder, IsTag};
+ghost use Rattle.dme_line.specs.Names.{Grows, HasRoom, Writes, bare_most, data_most, homed_data_most, response_most, text_most, written_tag, HasRoomUnder, IsTag, written_mark, written_response, IsWritableResponse, HasText, are_spaces, IsMarkText, HoldsText, HoldsResponseText, ReadsResponse, data_response, homed_response, the_mark, the_response, the_reading, IsOnWire};
 ghost use Rattle.dme_line.specs.declared.responses.Mark.TheVariants as mark;
-ghost use Rattle.dme_line.specs.Responses.{written_mark, written_response, IsWritableResponse, HasText, are_spaces, IsMarkText, HoldsText, HoldsResponseText, ReadsResponse, data_response, homed_response, the_mark, the_response, the_reading};
-ghost use Rattle.dme_line.specs.Points.{IsOnWire};
 
 use crate::appending::append_reserved;
 use crate::homed::write_homed_reserved;

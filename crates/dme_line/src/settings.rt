@@ -1,11 +1,7 @@
 // What the arguments of the commands say that select something: a report list, a tool, a coordinate system, a transformation.
 
 ghost use Rattle.std.specs.Prelude.{◌≡◌, ◌↔◌, ◌∷◌, ℕ, List, true, IsTrue, MatchOption, IfOk, OnErr};
-ghost use Rattle.fixed_um.specs.Calls.{Finds};
-ghost use Rattle.dme_line.specs.Words.{is_word};
-ghost use Rattle.dme_line.specs.Tokens.{Token, Open, Close, Word, tokens};
-ghost use Rattle.dme_line.specs.Arguments.{IsReport, IsTool, IsSystem, IsOneWord, HasLengths, HasNoAngles, IsTransformation};
-ghost use Rattle.dme_line.specs.Taken.{bare_word, the_seven};
+ghost use Rattle.dme_line.specs.Names.{Finds, is_word, Token, Open, Close, Word, tokens, IsReport, IsTool, IsSystem, IsOneWord, HasLengths, HasNoAngles, IsTransformation, bare_word, the_seven};
 
 use crate::arguments::{Transformation, is_closed, read_transformation, read_word};
 use crate::commands::Csy;

@@ -1,10 +1,7 @@
 // Tags: which command a line belongs to.
 
 ghost use Rattle.std.specs.Prelude.{◌≡◌, ◌≤◌, ◌+◌, ◌++◌, ◌∷◌, [], ℕ, List, IsTrue, ◌↔◌, ◌&&◌, MatchOption};
-ghost use Rattle.std.specs.Char.{is_ascii_digit};
-ghost use Rattle.fixed_um.specs.Calls.{Grows, HasRoom};
-ghost use Rattle.dme_line.specs.Tags.{four_digits, five_digits, written_tag, IsTag, IsNumbered, is_event_tag};
-ghost use Rattle.fixed_um.specs.Written.{last_digit};
+ghost use Rattle.dme_line.specs.Names.{is_ascii_digit, Grows, HasRoom, four_digits, five_digits, written_tag, IsTag, IsNumbered, is_event_tag, last_digit};
 
 /// The tag of a line: five decimal digits, or `E` and four digits. A response has the tag of its command;
 /// the event tag number 0 marks what a server says unasked (I++ DME Interface version 1).

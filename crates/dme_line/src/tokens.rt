@@ -1,9 +1,7 @@
 // Taking marks and words off the start of a text. Spaces in front of them mean nothing.
 
 ghost use Rattle.std.specs.Prelude.{◌≡◌, ◌≢◌, ◌≤◌, ◌↔◌, ℕ, true, List, [], ◌∷◌, length, IsTrue, MatchOption};
-ghost use Rattle.std.specs.List.{prefix_len};
-ghost use Rattle.dme_line.specs.Words.{is_word};
-ghost use Rattle.dme_line.specs.Tokens.{Token, Word, tokens, is_mark, mark_token, is_word_byte};
+ghost use Rattle.dme_line.specs.Names.{prefix_len, is_word, Token, Word, tokens, is_mark, mark_token, is_word_byte};
 
 /// Whether a word is a name that the interface knows, its letters in any case.
 pub(crate) fn is_word(name: &[u8], word: &[u8]) -> bool

@@ -1,11 +1,7 @@
 // Writing command lines.
 
 ghost use Rattle.std.specs.Prelude.{◌≡◌, ◌+◌, ◌++◌, ◌∷◌, codes, OnOk};
-ghost use Rattle.fixed_um.specs.Calls.{Grows, HasRoom, Writes};
-ghost use Rattle.dme_line.specs.Limits.{command_most, line_end_length};
-ghost use Rattle.dme_line.specs.Words.{line_end};
-ghost use Rattle.dme_line.specs.Kinds.{kind_of, kind_name, IsTagOf};
-ghost use Rattle.dme_line.specs.Written.{written_ijk, written_transformation, written_arguments, written_command, HasVolumeLengths, HasArguments, IsIjk, IsWritable};
+ghost use Rattle.dme_line.specs.Names.{Grows, HasRoom, Writes, command_most, line_end_length, line_end, kind_of, kind_name, IsTagOf, written_ijk, written_transformation, written_arguments, written_command, HasVolumeLengths, HasArguments, IsIjk, IsWritable};
 
 use crate::appending::{append_quoted_reserved, append_reserved};
 use crate::commands::{Command, Kind};

@@ -1,11 +1,7 @@
 // An audit as a whole, over ports: a client's features are judged by a server's contacts and a program.
 
 ghost use Rattle.std.specs.Prelude.{◌<◌, length, IfOk, IfErr};
-ghost use Rattle.tool_rack.specs.Setups.{SetupValue};
-ghost use Rattle.dme_orders.specs.Auditing.{LeavesVerdict, Audits};
-ghost use Rattle.dme_orders.specs.Input.{ReadsAudit, WhyNoAudit};
-ghost use Rattle.dme_orders.specs.Orders.{went};
-ghost use Rattle.dme_orders.specs.Reading.{came};
+ghost use Rattle.dme_orders.specs.Names.{SetupValue, LeavesVerdict, Audits, ReadsAudit, WhyNoAudit, went, came};
 
 use crate::reading::{contacts_from, features_from, read_program, read_setup};
 use crate::simulating::write_text;

@@ -1,8 +1,7 @@
 // The answer that begins a run.
 
 ghost use Rattle.std.specs.Prelude.{◌≡◌, ◌⊎◌, ◌∷◌, [], IfSome, IfNone, true, false};
-ghost use Rattle.std.specs.Io.KnownBytes.{Consumes, IsAtEnd};
-ghost use Rattle.dme_orders.specs.Confirming.{TakesEmptyLine, BeginNoEmptyLine};
+ghost use Rattle.dme_orders.specs.Names.{Consumes, IsAtEnd, TakesEmptyLine, BeginNoEmptyLine};
 
 use byte_ports::Source;
 

@@ -1,9 +1,8 @@
 // What a refusal means is printed.
 
 ghost use Rattle.std.specs.Prelude.{◌≡◌, ◌<◌, length, IfOk};
-ghost use Rattle.refusal_guide.specs.Pages.{page_text};
-ghost use Rattle.dme_orders.specs.Explaining.{IsPage};
-ghost use Rattle.dme_orders.specs.Orders.{went, Prints};
+ghost use Rattle.dme_orders.specs.Names.{page_text, IsPage, went};
+ghost use Rattle.dme_orders.specs.Orders.{Prints};
 
 use crate::simulating::write_text;
 use byte_ports::Sink;

@@ -1,14 +1,7 @@
 // An export as a whole, over ports: what was measured of features next to what a program asks for.
 
 ghost use Rattle.std.specs.Prelude.{◌≡◌, ◌<◌, length, Option, IfOk, IfErr, string_bytes};
-ghost use Rattle.tool_rack.specs.Setups.{SetupValue};
-ghost use Rattle.drawings.specs.Drawing.{IsDrawing};
-ghost use Rattle.drawings.specs.Texts.{Adds};
-ghost use Rattle.dme_orders.specs.Exporting.{xml, IsInForm, LeavesTable, Compares, RefusesFeatures, Exports};
-ghost use Rattle.dme_orders.specs.Input.{named, ReadsExport, WhyNoExport, AreUntouched, ReadsLimited, WhyNoLimited};
-ghost use Rattle.dme_orders.specs.Missing.{IsMissing};
-ghost use Rattle.dme_orders.specs.Orders.{went};
-ghost use Rattle.dme_orders.specs.Reading.{came};
+ghost use Rattle.dme_orders.specs.Names.{SetupValue, IsDrawing, Adds, xml, IsInForm, LeavesTable, Compares, RefusesFeatures, Exports, named, ReadsExport, WhyNoExport, AreUntouched, ReadsLimited, WhyNoLimited, IsMissing, went, came};
 
 use crate::missing::{Missing, missing_of};
 use crate::reading::{features_from, named_limits, named_setup, program_under};

@@ -1,13 +1,8 @@
 // A program is run over one connection between both ends, over ports.
 
 ghost use Rattle.std.specs.Prelude.{◌≡◌, ◌<◌, [], length, true, IfOk, OnErr, IsErrOf};
-ghost use Rattle.client_core.specs.Clients.{is_window};
-ghost use Rattle.link_world.specs.LinkRuns.{client_side, server_side};
-ghost use Rattle.link_world.specs.Reports.{report_text};
-ghost use Rattle.order_parts.specs.Ends.{first_client, first_server, ends_shown};
-ghost use Rattle.order_parts.specs.Broken.{BlamesClient, BlamesServer};
-ghost use Rattle.dme_orders.specs.Looping.{loop_told, LoopCame, LeavesLoop, StopsLoop};
-ghost use Rattle.dme_orders.specs.Orders.{went, Prints};
+ghost use Rattle.dme_orders.specs.Names.{is_window, client_side, server_side, report_text, first_client, first_server, ends_shown, BlamesClient, BlamesServer, loop_told, LoopCame, LeavesLoop, StopsLoop, went};
+ghost use Rattle.dme_orders.specs.Orders.{Prints};
 
 use crate::simulating::write_text;
 use byte_ports::{Sink, Source};

@@ -1,19 +1,7 @@
 // The record of a run is audited and exported, over ports.
 
 ghost use Rattle.std.specs.Prelude.{◌≡◌, ◌<◌, length, Option, OnOk, IfOk, IfErr, true, string_bytes};
-ghost use Rattle.client_core.specs.Clients.{are_ours};
-ghost use Rattle.contact_ledger.specs.ContactTexts.{contacts_text};
-ghost use Rattle.contact_ledger.specs.Ledgers.{HaveOrigins};
-ghost use Rattle.tool_rack.specs.Setups.{SetupValue};
-ghost use Rattle.dme_orders.specs.Auditing.{LeavesVerdict};
-ghost use Rattle.order_parts.specs.Kept.{IsFeaturesText};
-ghost use Rattle.dme_orders.specs.OfRecords.{RefusesRecord, IsRecordText, AuditsRecord, ExportsRecord};
-ghost use Rattle.dme_orders.specs.Exporting.{Compares, RefusesFeatures};
-ghost use Rattle.dme_orders.specs.Input.{named, ReadsHeld, WhyNoneHeld, AreUntouched, ReadsLimited, WhyNoLimited};
-ghost use Rattle.dme_orders.specs.Missing.{IsMissing};
-ghost use Rattle.dme_orders.specs.Orders.{went};
-ghost use Rattle.dme_orders.specs.Reading.{came};
-ghost use Rattle.dme_orders.specs.Recorded.{IsOfProgram, features_in, told_in};
+ghost use Rattle.dme_orders.specs.Names.{are_ours, contacts_text, HaveOrigins, SetupValue, LeavesVerdict, IsFeaturesText, RefusesRecord, IsRecordText, AuditsRecord, ExportsRecord, Compares, RefusesFeatures, named, ReadsHeld, WhyNoneHeld, AreUntouched, ReadsLimited, WhyNoLimited, IsMissing, went, came, IsOfProgram, features_in, told_in};
 
 use crate::auditing::audited;
 use crate::exporting::{Exported, compared_lines, table_text};

@@ -1,11 +1,7 @@
 // A check as a whole, over ports: a program is checked under a setup, if one is named.
 
 ghost use Rattle.std.specs.Prelude.{Option, IfOk, IfErr};
-ghost use Rattle.dme_orders.specs.Input.{named, ReadsCheck, WhyNoCheck, CheckInput};
-ghost use Rattle.dme_orders.specs.Orders.{went};
-ghost use Rattle.dme_orders.specs.Reading.{came};
-ghost use Rattle.dme_orders.specs.UnderSetup.{Checks};
-ghost use Rattle.tool_rack.specs.Setups.{SetupValue};
+ghost use Rattle.dme_orders.specs.Names.{named, ReadsCheck, WhyNoCheck, CheckInput, went, came, Checks, SetupValue};
 
 use crate::reading::{named_setup, program_under};
 use crate::simulating::write_text;

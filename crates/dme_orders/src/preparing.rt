@@ -1,8 +1,7 @@
 // The files of an order over a connection are read before there is one.
 
 ghost use Rattle.std.specs.Prelude.{IfOk, IfErr};
-ghost use Rattle.dme_orders.specs.Input.{WhyNoProgramUnder};
-ghost use Rattle.dme_orders.specs.Reading.{came, ReadsSetup, ReadsProgram};
+ghost use Rattle.dme_orders.specs.Names.{WhyNoProgramUnder, came, ReadsSetup, ReadsProgram};
 
 use crate::reading::{read_program, read_setup};
 use byte_ports::Source;

@@ -1,11 +1,7 @@
 // The files of an order are read, each to its end, and understood.
 
 ghost use Rattle.std.specs.Prelude.{◌≡◌, Ok, IfOk, IfErr};
-ghost use Rattle.dme_orders.specs.Reading.{came, Reads, WhyNoText, ReadsSetup, WhyNoSetup, ReadsSchedule, WhyNoSchedule, ReadsProgram, WhyNoProgram};
-ghost use Rattle.dme_orders.specs.Reading.{ReadsFeatures, WhyNoFeatures, ReadsContacts, WhyNoContacts, ReadsRecord, WhyNoRecord};
-ghost use Rattle.dme_orders.specs.Reading.{ReadsLimits, WhyNoLimits};
-ghost use Rattle.program_review.specs.Reviews.{frames_under};
-ghost use Rattle.dme_orders.specs.Input.{named, ReadsNamed, WhyNoNamed, ReadsNamedLimits, WhyNoNamedLimits};
+ghost use Rattle.dme_orders.specs.Names.{came, Reads, WhyNoText, ReadsSetup, WhyNoSetup, ReadsSchedule, WhyNoSchedule, ReadsProgram, WhyNoProgram, ReadsFeatures, WhyNoFeatures, ReadsContacts, WhyNoContacts, ReadsRecord, WhyNoRecord, ReadsLimits, WhyNoLimits, frames_under, named, ReadsNamed, WhyNoNamed, ReadsNamedLimits, WhyNoNamedLimits};
 
 use byte_ports::{PullFault, Source, pull_all};
 use contact_ledger::{FeatureLedger, ServerLedger, TextFault, read_features};

@@ -1,11 +1,7 @@
 // Everything that stands between a program and its run is listed.
 
 ghost use Rattle.std.specs.Prelude.{◌≡◌, IfOk, IfErr};
-ghost use Rattle.program_review.specs.Printed.{names_of};
-ghost use Rattle.dme_orders.specs.Input.{named, WhyNoNamed};
-ghost use Rattle.dme_orders.specs.Orders.{went};
-ghost use Rattle.dme_orders.specs.Reading.{came};
-ghost use Rattle.dme_orders.specs.Reviewing.{ReadsStored, Reviews, review_status};
+ghost use Rattle.dme_orders.specs.Names.{names_of, named, WhyNoNamed, went, came, ReadsStored, Reviews, review_status};
 
 use crate::reading::read_text;
 use byte_ports::{Failed, Sink, Source, push_all};

@@ -1,8 +1,7 @@
 // The errors that a record names for the features of its part.
 
 ghost use Rattle.std.specs.Prelude.{◌≡◌, IfOk, string_bytes};
-ghost use Rattle.std.specs.List.{flat_map};
-ghost use Rattle.dme_orders.specs.RunErrors.{error_line, errors_in};
+ghost use Rattle.dme_orders.specs.Names.{flat_map, error_line, errors_in};
 
 use record_text::{Record, RunError};
 use session_telling::visible;

@@ -1,17 +1,7 @@
 // A simulation as a whole, over ports: a program is run by a schedule on the simulated machine of a setup.
 
 ghost use Rattle.std.specs.Prelude.{◌≡◌, ◌<◌, length, true, false, OnOk, OnErr, IfOk, IfErr};
-ghost use Rattle.std.specs.Io.KnownBytes.{Appends};
-ghost use Rattle.byte_ports.specs.Transfers.{AppendsFront};
-ghost use Rattle.link_world.specs.Reports.{report_text};
-ghost use Rattle.client_core.specs.Clients.{is_window};
-ghost use Rattle.protocol_model.specs.World.{start};
-ghost use Rattle.link_world.specs.Machines.{simulated};
-ghost use Rattle.link_world.specs.Schedules.{Plays};
-ghost use Rattle.dme_orders.specs.Input.{ReadsSimulation, WhyNoSimulation};
-ghost use Rattle.dme_orders.specs.Orders.{went};
-ghost use Rattle.dme_orders.specs.Reading.{came};
-ghost use Rattle.dme_orders.specs.Simulating.{IsPlayed, shown_of, LeavesReport, Simulates, AreTraced, IsShown, ShowsLines, LeavesLines, SimulatesLines};
+ghost use Rattle.dme_orders.specs.Names.{Appends, AppendsFront, report_text, is_window, start, simulated, Plays, ReadsSimulation, WhyNoSimulation, went, came, IsPlayed, shown_of, LeavesReport, Simulates, AreTraced, IsShown, ShowsLines, LeavesLines, SimulatesLines};
 
 use crate::reading::{read_program, read_schedule, read_setup};
 use byte_ports::{Failed, Sink, Source, push_all};

@@ -1,9 +1,7 @@
 // The verdict of an audit as a line, and its exit status.
 
 ghost use Rattle.std.specs.Prelude.{◌≡◌, ◌≤◌, ◌++◌, length, IfOk, OnOk, string_bytes};
-ghost use Rattle.fixed_um.specs.Calls.{Writes};
-ghost use Rattle.ledger_audit.specs.Verdicts.{IfNoRun};
-ghost use Rattle.dme_orders.specs.Verdicts.{start_fields, verdict_status, verdict_text};
+ghost use Rattle.dme_orders.specs.Names.{Writes, IfNoRun, start_fields, verdict_status, verdict_text};
 
 use contact_ledger::Feature;
 use ledger_audit::Verdict;

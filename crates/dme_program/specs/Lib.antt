@@ -1,2 +1,3 @@
 pub mod Blamed
 pub mod Printed
+pub mod Names

@@ -1,9 +1,7 @@
 // An order is carried out on files and the standard streams.
 
 ghost use Rattle.std.specs.Prelude.{◌≡◌, true, is_some, IfOk, IfErr};
-ghost use Rattle.client_core.specs.Clients.{is_window};
-ghost use Rattle.dme_words.specs.Ordered.{IsReady};
-ghost use Rattle.dme_program.specs.Blamed.{OnSetup};
+ghost use Rattle.dme_program.specs.Names.{is_window, IsReady, OnSetup};
 
 use crate::connecting::loop_program;
 use crate::explaining::{refused, tell_audit};

@@ -9,3 +9,4 @@ pub mod Sorts
 pub mod Places
 pub mod Kept
 pub mod Tables
+pub mod Names

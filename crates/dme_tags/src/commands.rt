@@ -1,8 +1,7 @@
 // The open commands of one sort of tags, in sending order.
 
 ghost use Rattle.std.specs.Prelude.{◌≡◌, ◌<◌, cond, [], ◌∷◌, ◌++◌, length, get_or, slice_set, remove, false, OnOk, OnErr};
-ghost use Rattle.protocol_model.specs.Client.{held_now};
-ghost use Rattle.protocol_model.specs.Open.{count_open, is_asking, is_failed};
+ghost use Rattle.dme_tags.specs.Names.{held_now, count_open, is_asking, is_failed};
 ghost use Rattle.dme_tags.specs.Kept.{is_open, is_open_question};
 
 use dme_line::{Kind, Tag};

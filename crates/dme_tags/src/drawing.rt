@@ -1,13 +1,7 @@
 // The tag that is drawn next.
 
 ghost use Rattle.std.specs.Prelude.{◌≡◌, ◌≤◌, ◌+◌, ◌-◌, ◌<◌, ℕ, true, false, IfSome, IfNone, IfOk, IfErr, OnErr};
-ghost use Rattle.dme_line.specs.Kinds.{is_event_kind};
-ghost use Rattle.dme_line.specs.Tags.{IsNumbered, is_event_tag};
-ghost use Rattle.protocol_model.specs.Open.{is_held};
-ghost use Rattle.protocol_model.specs.Client.{first_free, next_number};
-ghost use Rattle.dme_tags.specs.Limits.{last_number};
-ghost use Rattle.dme_tags.specs.Opened.{tagged, number_of};
-ghost use Rattle.dme_tags.specs.Sorts.{numbered, is_event_sort, AreSpent};
+ghost use Rattle.dme_tags.specs.Names.{is_event_kind, IsNumbered, is_event_tag, is_held, first_free, next_number, last_number, tagged, number_of, numbered, is_event_sort, AreSpent};
 
 use crate::commands::Commands;
 use crate::faults::TagFault;

@@ -1,16 +1,7 @@
 // What the open commands have to do with the client of `protocol_model`. These functions do nothing: their contracts are the laws.
 
 ghost use Rattle.std.specs.Prelude.{◌≡◌, false, List, Some, None, Ok, Err};
-ghost use Rattle.dme_line.specs.Kinds.{is_event_kind};
-ghost use Rattle.dme_line.specs.declared.tags.Tag.TheVariants.{Std, Event};
-ghost use Rattle.protocol_model.specs.Replies.{Mark};
-ghost use Rattle.protocol_model.specs.Open.{Effect, asks_data, fits};
-ghost use Rattle.protocol_model.specs.Language.{marks_of, IsRepliesFront, AreAtFront};
-ghost use Rattle.protocol_model.specs.Client.{Client, heard_on, next_number};
-ghost use Rattle.protocol_model.specs.declared.states.Cause.{Cause};
-ghost use Rattle.dme_tags.specs.Opened.{OpenValue, heard, next_tag, number_of, with_drawn, ArePassedOver};
-ghost use Rattle.dme_tags.specs.Calls.{Call, taken_under};
-ghost use Rattle.dme_tags.specs.Tables.{IsTableOf, table_behind};
+ghost use Rattle.dme_tags.specs.Names.{is_event_kind, Std, Event, Mark, Effect, asks_data, fits, marks_of, IsRepliesFront, AreAtFront, Client, heard_on, next_number, Cause, OpenValue, heard, next_tag, number_of, with_drawn, ArePassedOver, Call, taken_under, IsTableOf, table_behind};
 
 use dme_line::{Kind, Tag};
 

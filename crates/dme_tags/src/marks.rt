@@ -1,13 +1,7 @@
 // What each mark does to the open commands of one sort of tags.
 
 ghost use Rattle.std.specs.Prelude.{◌≡◌, ◌≤◌, Bool, true, false, not, ◌&&◌, List, ◌∷◌, length, take, count_by, Some, IfOk, IfErr, OnOk, OnErr};
-ghost use Rattle.std.specs.List.{list_any};
-ghost use Rattle.protocol_model.specs.Replies.{Mark, tag_is};
-ghost use Rattle.protocol_model.specs.Open.{Effect, asks_data, asks_homed, count_open, heard_in, is_asking, is_failed, is_held, judged, settled};
-ghost use Rattle.protocol_model.specs.Ends.{held_kind};
-ghost use Rattle.dme_tags.specs.Data.{has_its_data, may_be_given, AreFit};
-ghost use Rattle.dme_tags.specs.Answers.{cause_of, effect_of, effect_heard, failure_of, is_counted, IsRefused};
-ghost use Rattle.dme_tags.specs.Places.{IsFound, ahead_of, all_failed};
+ghost use Rattle.dme_tags.specs.Names.{list_any, Mark, tag_is, Effect, asks_data, asks_homed, count_open, heard_in, is_asking, is_failed, is_held, judged, settled, held_kind, has_its_data, may_be_given, AreFit, cause_of, effect_of, effect_heard, failure_of, is_counted, IsRefused, IsFound, ahead_of, all_failed};
 
 use crate::commands::Commands;
 use crate::endings::Ended;

@@ -1,15 +1,8 @@
 // The open commands of a client.
 
 ghost use Rattle.std.specs.Prelude.{◌≡◌, ◌↔◌, Option, Ok, Some, None, ◌≤◌, ◌⊎◌, ◌==◌, true, false, not, IsErrOf, IsOk, IfOk, IfErr, OnOk, OnErr};
-ghost use Rattle.dme_line.specs.Kinds.{IsTagOf};
-ghost use Rattle.protocol_model.specs.Replies.{Mark};
-ghost use Rattle.protocol_model.specs.Open.{Effect, count_open, is_asking, is_held};
-ghost use Rattle.dme_tags.specs.Answers.{cause_of, effect_of, effect_heard, is_counted, Draws, IsRefused, Refuses};
-ghost use Rattle.dme_tags.specs.Data.{has_its_data, may_be_given};
-ghost use Rattle.dme_tags.specs.Endings.{IsEnding};
+ghost use Rattle.dme_tags.specs.Names.{IsTagOf, Mark, Effect, count_open, is_asking, is_held, cause_of, effect_of, effect_heard, is_counted, Draws, IsRefused, Refuses, has_its_data, may_be_given, IsEnding, heard, held_beside, kind_under, next_tag, none_open, number_of, with_drawn, ArePassedOver, IsNext, IsSpentFor, AwaitsData, HasData, IsUnread};
 ghost use Rattle.dme_tags.specs.Limits.{last_number};
-ghost use Rattle.dme_tags.specs.Opened.{heard, held_beside, kind_under, next_tag, none_open, number_of, with_drawn, ArePassedOver, IsNext, IsSpentFor};
-ghost use Rattle.dme_tags.specs.Standing.{AwaitsData, HasData, IsUnread};
 
 use crate::commands::Commands;
 use crate::drawing::{Sort, next_tag};

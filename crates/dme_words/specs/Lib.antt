@@ -1,3 +1,4 @@
 pub mod CommandLine
 pub mod Ordered
 pub mod Arguments
+pub mod Names

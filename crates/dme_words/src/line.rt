@@ -1,10 +1,7 @@
 // The command line of `dme`, as the crate `clap` is given it: a table of its commands, each with its arguments.
 
 ghost use Rattle.std.specs.Prelude.{◌≡◌, IfOk, false, fold};
-ghost use Rattle.clap.specs.declared.builder.command.Command.TheViews.{out-Command};
-ghost use Rattle.clap.specs.Words.{app_of, rule_of};
-ghost use Rattle.dme_words.specs.CommandLine.{bare_line, first_line, text_rule, whole_line};
-ghost use Rattle.dme_words.specs.Arguments.{argument_rule, with_argument, with_line};
+ghost use Rattle.dme_words.specs.Names.{out-Command, app_of, rule_of, bare_line, first_line, text_rule, whole_line, argument_rule, with_argument, with_line};
 
 use Argument::{Flag, Needed, Number, NumberOr, Text, Word, WordOr};
 use clap::builder::ValueParser;

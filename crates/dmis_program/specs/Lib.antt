@@ -11,3 +11,4 @@ pub mod Carrying
 pub mod Programs
 pub mod Order
 pub mod Messages
+pub mod Names

@@ -1,6 +1,5 @@
 ghost use Rattle.std.specs.Prelude.{◌≡◌};
-ghost use Rattle.std.specs.Str.{bytes_eq};
-ghost use Rattle.dmis_program.specs.Keywords.{keyword_of, is_among, definitions, passed};
+ghost use Rattle.dmis_program.specs.Names.{bytes_eq, keyword_of, is_among, definitions, passed};
 
 /// What a statement's word is in this profile (the words are those of ISO 22093).
 #[derive(Clone, Copy, Debug, PartialEq, Eq)]

@@ -1,23 +1,7 @@
 // What follows from the definitions alone. Each function has laws for its contract and does nothing.
 ghost use Rattle.std.specs.Prelude.{◌≡◌, ◌≢◌, ◌↔◌, ℕ, true, false, List, [], ◌∷◌, ◌++◌, length, map, codes, Option, Some, None, Result, Ok, Err};
-ghost use Rattle.std.specs.List.{AllByRecursion};
-ghost use Rattle.fixed_um.specs.Names.{is_name_text, folded};
-ghost use Rattle.fixed_um.specs.declared.frames.Frame.TheVariants.{Machine, Part};
-ghost use Rattle.fixed_um.specs.declared.lengths.Point.{Point};
-ghost use Rattle.dmis_text.specs.declared.elements.Statement.{Statement};
-ghost use Rattle.dmis_text.specs.declared.reading.TextFault.{TextFault};
-ghost use Rattle.dmis_program.specs.Parameters.{name_within};
-ghost use Rattle.dmis_program.specs.Offsets.{AreNamedOnce, AreInVolume, offset_of};
-ghost use Rattle.dmis_program.specs.LookBack.{context_at};
-ghost use Rattle.dmis_program.specs.Judging.{judged};
-ghost use Rattle.dmis_program.specs.Meaning.{Meaning, closes, ended, steps_from, features_of, program_of};
-ghost use Rattle.dmis_program.specs.Order.{AreRead, above_behind, steps_along};
-ghost use Rattle.dmis_program.specs.Programs.{IsProgram, AreBlocks, SelectNoTool, SelectNoFrame, StayInside, StepIsStored, touches_of};
-ghost use Rattle.dmis_program.specs.declared.faults.Refusal.{Refusal};
-ghost use Rattle.dmis_program.specs.declared.sayings.StatementMeaning.{StatementMeaning};
-ghost use Rattle.dmis_program.specs.declared.steps.Step.{Step};
+ghost use Rattle.dmis_program.specs.Names.{AllByRecursion, is_name_text, folded, Machine, Part, Point, Statement, TextFault, name_within, AreNamedOnce, AreInVolume, offset_of, context_at, judged, Meaning, closes, ended, steps_from, features_of, program_of, AreRead, above_behind, steps_along, IsProgram, AreBlocks, SelectNoTool, SelectNoFrame, StayInside, StepIsStored, touches_of, Refusal, StatementMeaning, Step, Touch};
 ghost use Rattle.dmis_program.specs.declared.steps.Step.TheVariants as step;
-ghost use Rattle.dmis_program.specs.declared.features.Touch.{Touch};
 
 /// Of a program's refusals that of the first statement that is refused decides, with its line. If none is refused and none
 /// is the end, the refusal of the text's end does. After the end nothing is read.

@@ -1,6 +1,6 @@
 ghost use Rattle.std.specs.Prelude.{◌≡◌, ◌↔◌, [], ◌∷◌, ◌++◌, IfOk, OnErr, IsTrue, None, if◌then◌else◌};
-ghost use Rattle.dmis_program.specs.Offsets.{offset_of, AreFrames};
-ghost use Rattle.fixed_um.specs.Points.{IsInVolume};
+ghost use Rattle.dmis_program.specs.Names.{offset_of, IsInVolume};
+ghost use Rattle.dmis_program.specs.Offsets.{AreFrames};
 
 use fixed_um::{Name, Point};
 use std::alloc::{AllocError, Global};

@@ -1,11 +1,5 @@
 ghost use Rattle.std.specs.Prelude.{◌≡◌, ◌==◌, ◌∷◌, [], ◌<◌, ◌≤◌, ◌^◌, ◌-◌, true, length, slice_index, IfOk, IfSome, MatchOption, Option, Some, None, codes, nat_eq, option_and_then};
-ghost use Rattle.std.specs.List.{list_all, list_any};
-ghost use Rattle.std.specs.Option.{option_map};
-ghost use Rattle.std.specs.Char.{is_ascii_digit, is_ascii_alphabetic};
-ghost use Rattle.std.specs.Str.{bytes_eq};
-ghost use Rattle.std.specs.Str.Parse.{digits_value};
-ghost use Rattle.fixed_um.specs.Names.{is_name_text, folded};
-ghost use Rattle.dmis_program.specs.Parameters.{is_letters, begins, before_close, name_of, name_within, count_of, without_cart, is_other_coordinates, is_other_recall};
+ghost use Rattle.dmis_program.specs.Names.{list_all, list_any, option_map, is_ascii_digit, is_ascii_alphabetic, bytes_eq, digits_value, is_name_text, folded, is_letters, begins, before_close, name_of, name_within, count_of, without_cart, is_other_coordinates, is_other_recall};
 
 use crate::keywords::is_text;
 use dmis_text::Text;

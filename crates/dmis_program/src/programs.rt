@@ -1,10 +1,6 @@
 ghost use Rattle.std.specs.Prelude.{◌≡◌, ◌∷◌, [], None, length, IfOk, IfSome, IfNone, IfErr};
-ghost use Rattle.std.specs.List.{AllByRecursion};
-ghost use Rattle.std.specs.Str.Lines.{lines};
-ghost use Rattle.dmis_text.specs.Reading.{text_reading, IsDue};
-ghost use Rattle.dmis_program.specs.Outcomes.{GivesProgram, text_refused};
-ghost use Rattle.dmis_text.specs.declared.reading.TextFault.{TextFault};
-ghost use Rattle.dmis_program.specs.Programs.{IsProgram, StepIsStored};
+ghost use Rattle.dmis_program.specs.Names.{AllByRecursion, lines, text_reading, IsDue, GivesProgram, text_refused, TextFault, StepIsStored};
+ghost use Rattle.dmis_program.specs.Programs.{IsProgram};
 
 use crate::faults::ProgramFault;
 use crate::features::Wanted;

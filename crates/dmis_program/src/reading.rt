@@ -1,8 +1,5 @@
 ghost use Rattle.std.specs.Prelude.{false, Ok, ◌≡◌, ◌<◌, ◌≤◌, [], ◌∷◌, ◌++◌, OnOk, Option, Some, None};
-ghost use Rattle.dmis_program.specs.Keywords.{keyword_of};
-ghost use Rattle.dmis_program.specs.Judging.{word_refusal, settled, misplaced, is_start, is_unsupported};
-ghost use Rattle.dmis_program.specs.Meaning.{closes};
-ghost use Rattle.dmis_program.specs.Carrying.{no_statement, context_of, with_step, changed, recalled_at, follows, next, GivesNext};
+ghost use Rattle.dmis_program.specs.Names.{keyword_of, word_refusal, settled, misplaced, is_start, is_unsupported, closes, no_statement, context_of, with_step, changed, recalled_at, follows, next, GivesNext};
 
 use crate::faults::{ProgramFault, Refusal, StatementFault};
 use crate::features::{Touch, Touches, Wanted};

@@ -1,6 +1,5 @@
 ghost use Rattle.std.specs.Prelude.{◌≡◌, ◌≢◌, ◌∷◌, [], Option, Some, None, Ok, IfSome, IsTrue, codes};
-ghost use Rattle.dmis_program.specs.Outcomes.{Gives};
-ghost use Rattle.dmis_program.specs.Sayings.{goes, begins_block, touches_at, touches, without_parameters, selects, recalls_frame, recalls, units, mode, said_by, said_of, is_badly_formed};
+ghost use Rattle.dmis_program.specs.Names.{Gives, goes, begins_block, touches_at, touches, without_parameters, selects, recalls_frame, recalls, units, mode, said_by, said_of, is_badly_formed};
 
 use crate::faults::{Refusal, StatementFault};
 use crate::keywords::{Keyword, is_text};

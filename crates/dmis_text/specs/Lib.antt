@@ -11,3 +11,4 @@ pub mod Found
 pub mod Runs
 pub mod Ends
 pub mod Lent
+pub mod Names

@@ -1,9 +1,5 @@
 ghost use Rattle.std.specs.Prelude.{◌≡◌, ◌++◌, ◌==◌, ◌≤◌, ◌+◌, ◌<◌, length, take, drop, Bool, true, false, not, ◌&&◌, MatchOption, IfSome, IsTrue};
-ghost use Rattle.std.specs.List.{list_all, prefix_len};
-ghost use Rattle.std.specs.Char.{to_ascii_uppercase};
-ghost use Rattle.dmis_text.specs.Runs.{is_unquoted, is_unmarked, is_within, is_kept};
-ghost use Rattle.dmis_text.specs.Elements.{cut_at, folded};
-ghost use Rattle.dmis_text.specs.Texts.{turned, inside_after, is_blank, all_blank, begins_comment, may_stand, without_front_blanks, without_end_blanks};
+ghost use Rattle.dmis_text.specs.Names.{list_all, prefix_len, to_ascii_uppercase, is_unquoted, is_unmarked, is_within, is_kept, cut_at, folded, turned, inside_after, is_blank, all_blank, begins_comment, may_stand, without_front_blanks, without_end_blanks};
 
 use crate::runs::{
     InComment, Settled, Uncut, Unmarked, Unquoted, is_filled_to_end, long_run_end, run_end,

@@ -1,8 +1,5 @@
 ghost use Rattle.std.specs.Prelude.{◌≡◌, ℕ, Bool, true, false, List, [], ◌∷◌, ◌++◌, map, None, IfOk, IsTrue, length};
-ghost use Rattle.std.specs.List.{list_all};
-ghost use Rattle.dmis_text.specs.Texts.{inside_after};
-ghost use Rattle.dmis_text.specs.Runs.{is_bare, is_unquoted};
-ghost use Rattle.dmis_text.specs.Elements.{cut_at, element_of, folded, pieces};
+ghost use Rattle.dmis_text.specs.Names.{list_all, inside_after, is_bare, is_unquoted, cut_at, element_of, folded, pieces};
 
 use crate::bytes::{
     cut_at, cut_comma, cut_from, ends_inside, first_mark, is_all_blank, is_folded, trimmed, turned,

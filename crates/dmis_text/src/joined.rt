@@ -1,10 +1,6 @@
 ghost use Rattle.std.specs.Prelude.{◌≡◌, Bool, true, false, List, [], ◌∷◌, ◌++◌, Option, Some, None, IfOk, OnOk, IsTrue};
-ghost use Rattle.std.specs.Option.{option_to_list};
-ghost use Rattle.dmis_text.specs.Texts.{inside_after};
-ghost use Rattle.dmis_text.specs.Elements.{folded};
-ghost use Rattle.dmis_text.specs.Begun.{is_open, grown};
-ghost use Rattle.dmis_text.specs.Look.{part_text};
-ghost use Rattle.dmis_text.specs.Reading.{ended, finished};
+ghost use Rattle.dmis_text.specs.Names.{option_to_list, inside_after, folded, grown, part_text, ended, finished};
+ghost use Rattle.dmis_text.specs.Begun.{is_open};
 
 use crate::bytes::is_all_blank;
 use crate::elements::{Statement, Text};

@@ -2,18 +2,7 @@
 //! what a function of `specs/` computes.
 
 ghost use Rattle.std.specs.Prelude.{◌≡◌, ◌≢◌, ◌↔◌, ℕ, ◌+◌, Bool, true, false, List, [], ◌∷◌, ◌++◌, length, take, slice_index, Option, Some, None, IfSome, if◌then◌else◌};
-ghost use Rattle.std.specs.List.{list_all, flat_map, join_with_byte};
-ghost use Rattle.std.specs.Char.{to_ascii_uppercase};
-ghost use Rattle.std.specs.Str.Lines.{lines};
-ghost use Rattle.dmis_text.specs.Texts.{inside_after, is_blank, all_blank, before_comment, is_clean, without_front_blanks, without_end_blanks};
-ghost use Rattle.dmis_text.specs.Contents.{IsContent, EachStands, IsTrimmed, lacks, is_line};
-ghost use Rattle.dmis_text.specs.Elements.{cut_at, pieces, folded};
-ghost use Rattle.dmis_text.specs.Splits.{NoneOutside, IsCut, IsSplit, Says};
-ghost use Rattle.dmis_text.specs.Statements.{statement_of, has_open_text};
-ghost use Rattle.dmis_text.specs.Reading.{content_role, reading_of};
-ghost use Rattle.dmis_text.specs.Reading.Role.{Dropped, Continued, Last};
-ghost use Rattle.dmis_text.specs.Numbers.{AreNumbered, IsFaultWithin};
-ghost use Rattle.dmis_text.specs.declared.elements.Statement.{Statement};
+ghost use Rattle.dmis_text.specs.Names.{list_all, flat_map, join_with_byte, to_ascii_uppercase, lines, inside_after, is_blank, all_blank, before_comment, is_clean, without_front_blanks, without_end_blanks, IsContent, EachStands, IsTrimmed, lacks, is_line, cut_at, pieces, folded, NoneOutside, IsCut, IsSplit, Says, statement_of, has_open_text, content_role, reading_of, Dropped, Continued, Last, AreNumbered, IsFaultWithin, Statement};
 
 /// Lines that are written with LF after each, or with CR LF, are read as they were written, and the lines of a text
 /// without CR give it back.

@@ -1,8 +1,7 @@
 // The lines of a text, one line at a time (this profile).
 
 ghost use Rattle.std.specs.Prelude.{◌≡◌, ◌∷◌, [], ◌<◌, ◌==◌, length, MatchOption, IfSome};
-ghost use Rattle.std.specs.List.{position};
-ghost use Rattle.std.specs.Str.Lines.{lines, strip_carriage_return};
+ghost use Rattle.dmis_text.specs.Names.{position, lines, strip_carriage_return};
 
 use crate::runs::{InLine, short_or_long_run_end};
 

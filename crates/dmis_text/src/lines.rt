@@ -1,12 +1,5 @@
 ghost use Rattle.std.specs.Prelude.{◌≡◌, ◌+◌, ◌≤◌, ◌<◌, Bool, true, false, [], ◌∷◌, length, drop, nat_lt, MatchOption, IfSome, IsTrue};
-ghost use Rattle.std.specs.List.{prefix_len, list_all};
-ghost use Rattle.std.specs.Str.Lines.{lines};
-ghost use Rattle.dmis_text.specs.Texts.{inside_after, before_comment, is_clean};
-ghost use Rattle.dmis_text.specs.Elements.{folded};
-ghost use Rattle.dmis_text.specs.Runs.{is_passed, is_bare};
-ghost use Rattle.dmis_text.specs.Ends.{IsBehindEnd, IsCommentEnd};
-ghost use Rattle.dmis_text.specs.Look.{role_of, TellsFlag};
-ghost use Rattle.dmis_text.specs.Reading.{line_role, content_role};
+ghost use Rattle.dmis_text.specs.Names.{prefix_len, list_all, lines, inside_after, before_comment, is_clean, folded, is_passed, is_bare, IsBehindEnd, IsCommentEnd, role_of, TellsFlag, line_role, content_role};
 
 use crate::bytes::{
     begins_comment, is_all_blank, may_be_comment, may_stand, split_end_blanks, turned,

@@ -1,10 +1,6 @@
 ghost use Rattle.std.specs.Prelude.{◌≡◌, ℕ, ◌+◌, ◌-◌, ◌<◌, ◌≤◌, ◌^◌, true, List, [], ◌∷◌, ◌++◌, Some, None, IfOk, IfErr, OnErr, IfSome, IfNone, length};
-ghost use Rattle.std.specs.List.{list_all};
+ghost use Rattle.dmis_text.specs.Names.{list_all, reading_of, with_first, is_bare, statement_of, Leaves, Refuses};
 ghost use Rattle.std.specs.Str.Lines.{lines};
-ghost use Rattle.dmis_text.specs.Reading.{reading_of, with_first};
-ghost use Rattle.dmis_text.specs.Runs.{is_bare};
-ghost use Rattle.dmis_text.specs.Statements.{statement_of};
-ghost use Rattle.dmis_text.specs.Found.{Leaves, Refuses};
 
 use crate::bytes::is_all_blank;
 use crate::elements::{Statement, Text};

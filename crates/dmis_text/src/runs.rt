@@ -1,8 +1,8 @@
 //! Runs of bytes of one class, passed over sixteen bytes at a time.
 
 ghost use Rattle.std.specs.Prelude.{◌≡◌, ◌+◌, ◌==◌, ◌≤◌, ℕ, Bool, IsTrue, length, not, take, drop};
-ghost use Rattle.std.specs.List.{prefix_len};
-ghost use Rattle.dmis_text.specs.Runs.{lowest_set, is_in_line, is_in_comment, is_plain, is_bare, is_in_text, is_unquoted, is_unmarked, is_settled};
+ghost use Rattle.dmis_text.specs.Names.{prefix_len, lowest_set};
+ghost use Rattle.dmis_text.specs.Runs.{is_in_line, is_in_comment, is_plain, is_bare, is_in_text, is_unquoted, is_unmarked, is_settled};
 
 use crate::bytes::may_stand;
 use std::simd::prelude::*;

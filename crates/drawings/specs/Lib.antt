@@ -14,3 +14,4 @@ pub mod Named
 pub mod Labels
 pub mod Footer
 pub mod Drawing
+pub mod Names

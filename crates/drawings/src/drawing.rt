@@ -1,8 +1,7 @@
 // The whole drawing.
 
 ghost use Rattle.std.specs.Prelude.{◌≡◌, ◌++◌, OnOk, OnErr};
-ghost use Rattle.drawings.specs.Drawing.{head_text, IsDrawingOf, IsDrawing};
-ghost use Rattle.drawings.specs.Texts.{Adds};
+ghost use Rattle.drawings.specs.Names.{head_text, IsDrawingOf, IsDrawing, Adds};
 
 use crate::extents::Extents;
 use crate::footer::put_footer;

@@ -1,9 +1,7 @@
 // What is below the views: the scales, the legend, and how much was measured.
 
 ghost use Rattle.std.specs.Prelude.{◌≡◌, ◌≤◌, ◌+◌, ◌++◌, OnOk};
-ghost use Rattle.drawings.specs.Bars.{bar_text, IsBar, AreBars};
-ghost use Rattle.drawings.specs.Texts.{Adds};
-ghost use Rattle.drawings.specs.Footer.{ratio_text, legend_marks, legend_words, measured_count, asked_count, is_measured, is_asked, counts_text, magnified_words, caption_text, IsFooter};
+ghost use Rattle.drawings.specs.Names.{bar_text, IsBar, AreBars, Adds, ratio_text, legend_marks, legend_words, measured_count, asked_count, is_measured, is_asked, counts_text, magnified_words, caption_text, IsFooter};
 
 use crate::scales::{Scale, round};
 use crate::sheet::Position;

@@ -1,8 +1,7 @@
 // The column of the features' names.
 
 ghost use Rattle.std.specs.Prelude.{◌≡◌, ◌≤◌, ◌+◌, ◌-◌, ◌*◌, ◌++◌, length, take, slice_get, IfOk, OnOk};
-ghost use Rattle.drawings.specs.Texts.{shown_name, Adds};
-ghost use Rattle.drawings.specs.Labels.{bullet_start, bullet_text, name_text, label_text, most_labels, line_for, anchors_from, AreOrdered, AreOnLines, label_at, more_text, more_if_any, AreLabels};
+ghost use Rattle.drawings.specs.Names.{shown_name, Adds, bullet_start, bullet_text, name_text, label_text, most_labels, line_for, anchors_from, AreOrdered, AreOnLines, label_at, more_text, more_if_any, AreLabels};
 
 use crate::marks::Mark;
 use crate::sheet::Position;

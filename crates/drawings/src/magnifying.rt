@@ -1,9 +1,7 @@
 // The lengths of deviations, and the scale of their lines.
 
 ghost use Rattle.std.specs.Prelude.{◌≡◌, ◌≤◌, ◌*◌, ◌+◌, ℕ, unsigned_abs};
-ghost use Rattle.drawings.specs.Scales.{on_paper, IsScaleFor};
-ghost use Rattle.drawings.specs.Sheet.{margin};
-ghost use Rattle.drawings.specs.Whiskers.{IsAtMost, NotLonger, IsLongestAway, AreWhiskers, one_length, whisker_room};
+ghost use Rattle.drawings.specs.Names.{on_paper, IsScaleFor, margin, IsAtMost, NotLonger, IsLongestAway, AreWhiskers, one_length, whisker_room};
 
 use crate::scales::{Lengths, Room, Scale};
 use crate::walk::{Act, Stop};

@@ -1,10 +1,7 @@
 // What is drawn in a view.
 
 ghost use Rattle.std.specs.Prelude.{◌≡◌, ◌≤◌, ◌+◌, ◌++◌, OnOk};
-ghost use Rattle.std.specs.List.{flat_map};
-ghost use Rattle.drawings.specs.Texts.{disc_text};
-ghost use Rattle.drawings.specs.Marks.{spot_of, open_dot, done_dot, whisker, thickness_for, way_spot, way_text, dots_text, whiskers_text};
-ghost use Rattle.drawings.specs.Pictures.{span_text, title_text, arrow_text, arrows_text, letters_text, axes_text, picture_text};
+ghost use Rattle.drawings.specs.Names.{flat_map, disc_text, spot_of, open_dot, done_dot, whisker, thickness_for, way_spot, way_text, dots_text, whiskers_text, span_text, title_text, arrow_text, arrows_text, letters_text, axes_text, picture_text};
 
 use crate::sheet::Position;
 use crate::sides::Side;

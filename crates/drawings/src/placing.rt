@@ -1,8 +1,7 @@
 // The places of the two views on the sheet, and their scale.
 
 ghost use Rattle.std.specs.Prelude.{◌≡◌, ◌≤◌, ◌+◌};
-ghost use Rattle.drawings.specs.Placing.{views_room, AreViews};
-ghost use Rattle.drawings.specs.Scales.{on_paper, AreShort, IsScaleFor};
+ghost use Rattle.drawings.specs.Names.{views_room, AreViews, on_paper, AreShort, IsScaleFor};
 
 use crate::extents::Extents;
 use crate::scales::{Lengths, Room, Scale};

@@ -1,8 +1,7 @@
 // Scales, and the largest at which lengths fit.
 
 ghost use Rattle.std.specs.Prelude.{◌≡◌, ◌≤◌, ◌<◌, ◌*◌, ◌^◌, ℕ, IsTrue, ◌↔◌};
-ghost use Rattle.drawings.specs.Scales.{round, numerator, denominator, on_paper, Fits, AreShort, IsScaleFor, length_limit};
-ghost use Rattle.drawings.specs.Bars.{IsLongest};
+ghost use Rattle.drawings.specs.Names.{round, numerator, denominator, on_paper, Fits, AreShort, IsScaleFor, length_limit, IsLongest};
 
 use std::marker::Model;
 

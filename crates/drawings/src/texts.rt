@@ -1,9 +1,7 @@
 // The elements of SVG (W3C SVG 1.1).
 
 ghost use Rattle.std.specs.Prelude.{◌≡◌, ◌≤◌, ◌<◌, ◌++◌, ◌∷◌, [], pos, decimal, codes, OnOk};
-ghost use Rattle.fixed_um.specs.Written.{written, three_digits};
-ghost use Rattle.fixed_um.specs.Calls.{Writes};
-ghost use Rattle.drawings.specs.Texts.{escaped, escaped_byte, spot_text, markup, attribute, disc_text, line_text, frame_text, text_start, text_end, text_element, millimetres};
+ghost use Rattle.drawings.specs.Names.{written, three_digits, Writes, escaped, escaped_byte, spot_text, markup, attribute, disc_text, line_text, frame_text, text_start, text_end, text_element, millimetres};
 
 use crate::sheet::Position;
 use fixed_um::{Um, write_um};

@@ -1,8 +1,7 @@
 // A program as stops of the machine.
 
 ghost use Rattle.std.specs.Prelude.{◌≡◌, ◌++◌, ◌∷◌, [], drop, IfOk, OnOk};
-ghost use Rattle.drawings.specs.Places.{place_of};
-ghost use Rattle.drawings.specs.Stops.{zero_of, zero_with, later_with, next_points, points_with, act_by, stops_at, stops_of};
+ghost use Rattle.drawings.specs.Names.{place_of, zero_of, zero_with, later_with, next_points, points_with, act_by, stops_at, stops_of};
 
 use crate::away::Away;
 use crate::places::Place;

@@ -1,3 +1,4 @@
 pub mod Rows
 pub mod Shifts
 pub mod Verdicts
+pub mod Names

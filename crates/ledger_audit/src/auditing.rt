@@ -1,8 +1,7 @@
 // The audit.
 
 ghost use Rattle.std.specs.Prelude.{◌≡◌, ◌↔◌, IfOk};
-ghost use Rattle.protocol_model.specs.Claims.{contacts, AreRuns, Sound};
-ghost use Rattle.ledger_audit.specs.Verdicts.{AreLeast, AreFewestUnsound, IfStarts, IfNoRun, TellsStarts, TellsNoRun};
+ghost use Rattle.ledger_audit.specs.Names.{contacts, AreRuns, Sound, AreLeast, AreFewestUnsound, IfStarts, IfNoRun, TellsStarts, TellsNoRun};
 
 use crate::contacts::contacts_of;
 use crate::runs::first_run;

@@ -1,8 +1,7 @@
 // The contacts of a ledger.
 
 ghost use Rattle.std.specs.Prelude.{◌≡◌, IfOk};
-ghost use Rattle.protocol_model.specs.Claims.{contacts};
-ghost use Rattle.ledger_audit.specs.Shifts.{shown};
+ghost use Rattle.ledger_audit.specs.Names.{contacts, shown};
 
 use crate::probings::Probing;
 use contact_ledger::Act;

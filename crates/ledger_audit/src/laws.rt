@@ -1,10 +1,6 @@
 // What follows from the definitions alone. The contract of each function states laws; its body does nothing.
 ghost use Rattle.std.specs.Prelude.{◌≡◌, ℕ, List};
-ghost use Rattle.contact_ledger.specs.declared.acts.Act.{Act};
-ghost use Rattle.contact_ledger.specs.declared.features.Feature.{Feature};
-ghost use Rattle.dmis_program.specs.declared.features.Wanted.{Wanted};
-ghost use Rattle.protocol_model.specs.Claims.{MadeContact, AreRuns};
-ghost use Rattle.ledger_audit.specs.Verdicts.{AreLeast, AreFewestUnsound};
+ghost use Rattle.ledger_audit.specs.Names.{Act, Feature, Wanted, MadeContact, AreRuns, AreLeast, AreFewestUnsound};
 
 /// There is one verdict: starts none of which can be less are unique, and so is the least count of features that have no runs.
 pub fn there_is_one_verdict()

@@ -1,19 +1,8 @@
 // Examples of what a verdict says. Feature A is wanted, with two touches, and the two contacts that it wants were made twice.
 
 ghost use Rattle.std.specs.Prelude.{◌≡◌, ℕ, List, [], ◌∷◌};
+ghost use Rattle.ledger_audit.specs.Names.{contacts, AreRuns, one_wanted, AreAtMost, AreLeast, AreFewestUnsound, IfStarts, IfNoRun, TellsStarts, TellsNoRun, made_twice, once, once_more};
 ghost use Rattle.ledger_audit.specs.declared.verdicts.Verdict.TheVariants as verdict;
-ghost use Rattle.protocol_model.specs.Claims.{contacts, AreRuns};
-ghost use Rattle.protocol_model.specs.LedgerRows.{one_wanted};
-ghost use Rattle.ledger_audit.specs.Verdicts.{
-  AreAtMost,
-  AreLeast,
-  AreFewestUnsound,
-  IfStarts,
-  IfNoRun,
-  TellsStarts,
-  TellsNoRun,
-};
-ghost use Rattle.ledger_audit.specs.Rows.{made_twice, once, once_more};
 
 /// Choices of starts.
 pub fn start_rows()

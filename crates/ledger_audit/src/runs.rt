@@ -1,8 +1,7 @@
 // Where the first run of a feature begins among contacts.
 
 ghost use Rattle.std.specs.Prelude.{◌≡◌, ◌≤◌, ◌<◌, ◌+◌, IfSome, IfNone, IfOk, length};
-ghost use Rattle.ledger_audit.specs.Shifts.{asked_at, AreShifts, Begins, HasNoneBetween, IsFirstServed};
-ghost use Rattle.ledger_audit.specs.Verdicts.{IsFirstRun, HasNoRun};
+ghost use Rattle.ledger_audit.specs.Names.{asked_at, AreShifts, Begins, HasNoneBetween, IsFirstServed, IsFirstRun, HasNoRun};
 
 use crate::contacts::Contact;
 use crate::probings::{asked, same_probing};

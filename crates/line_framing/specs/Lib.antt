@@ -6,3 +6,4 @@ pub mod Framing
 pub mod Buffer
 pub mod Stream
 pub mod Calls
+pub mod Names

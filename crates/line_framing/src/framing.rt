@@ -1,7 +1,5 @@
 ghost use Rattle.std.specs.Prelude.{◌≡◌, ◌↔◌, IsTrue, ◌+◌, ◌≤◌, length, take, drop, MatchOption, IfOk, IfErr, OnOk, OnErr, IfSome, IfNone};
-ghost use Rattle.line_framing.specs.Content.{IsLine};
-ghost use Rattle.line_framing.specs.Next.{next_of};
-ghost use Rattle.line_framing.specs.Framing.{IsSound, IsLineDue, no_bytes, fed, after_next, IsFeedRefused, IsLineRefused, IsRefusedLeft};
+ghost use Rattle.line_framing.specs.Names.{IsLine, next_of, IsSound, IsLineDue, no_bytes, fed, after_next, IsFeedRefused, IsLineRefused, IsRefusedLeft};
 
 use crate::faults::{FramingFault, LinesFault};
 use crate::owned::Line;

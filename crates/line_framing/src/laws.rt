@@ -1,11 +1,6 @@
 // What follows from the definitions alone. Each function has a law for its contract and does nothing.
 ghost use Rattle.std.specs.Prelude.{◌≡◌, ℕ, List, [], ◌∷◌, ◌++◌, Option, Result};
-ghost use Rattle.line_framing.specs.Content.{IsLine, AreLines, line_bytes};
-ghost use Rattle.line_framing.specs.Next.{Front, Next, IsFound, next_of};
-ghost use Rattle.line_framing.specs.Framing.{no_bytes};
-ghost use Rattle.line_framing.specs.Stream.{IsStream, IsRead, AreSame, TakesFirst, fault_in};
-ghost use Rattle.line_framing.specs.Calls.{Call, after_calls, handed_out, bytes_fed, IsAccounted, NoLineLeft};
-ghost use Rattle.line_framing.specs.declared.faults.FramingFault.{FramingFault};
+ghost use Rattle.line_framing.specs.Names.{IsLine, AreLines, line_bytes, Front, Next, IsFound, next_of, no_bytes, IsStream, IsRead, AreSame, TakesFirst, fault_in, Call, after_calls, handed_out, bytes_fed, IsAccounted, NoLineLeft, FramingFault};
 
 /// One thing is at the start of a list of bytes, and it is what `next_of` says.
 #[tactic(auto, using(crate::proofs::FirstLine::next_holds))]

@@ -1,7 +1,5 @@
 ghost use Rattle.std.specs.Prelude.{◌≡◌, ℕ, ◌+◌, ◌≤◌, ◌==◌, if◌then◌else◌, List, length, take, drop};
-ghost use Rattle.std.specs.Int.{w64, trailing_zeros};
-ghost use Rattle.line_framing.specs.Next.{content_len};
-ghost use Rattle.line_framing.specs.Buffer.{HasVerdict, HasFront};
+ghost use Rattle.line_framing.specs.Names.{w64, trailing_zeros, content_len, HasVerdict, HasFront};
 
 use crate::faults::FramingFault;
 use memchr::memchr2;

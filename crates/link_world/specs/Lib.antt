@@ -22,3 +22,4 @@ pub mod Showing
 pub mod WatchingRows
 pub mod Traces
 pub mod TraceRows
+pub mod Names

@@ -7,3 +7,4 @@ pub mod Numbered
 pub mod Pauses
 pub mod Kept
 pub mod LastLine
+pub mod Names

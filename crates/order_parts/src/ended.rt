@@ -1,8 +1,7 @@
 // How an order over a connection has ended, and what is shown of it.
 
 ghost use Rattle.std.specs.Prelude.{◌≡◌, ◌↔◌, IsOk, IfOk, IfErr, IfSome, None};
-ghost use Rattle.order_parts.specs.Faults.{status_of, status_of_state};
-ghost use Rattle.order_parts.specs.Broken.{unexpected, client_cause, server_cause, cause_of, IsBreakShown, break_status, is_for_a_line, is_open};
+ghost use Rattle.order_parts.specs.Names.{status_of, status_of_state, unexpected, client_cause, server_cause, cause_of, IsBreakShown, break_status, is_for_a_line, is_open};
 
 use crate::faults::OrderFault;
 use client_core::{Cause, ClientFault, State};

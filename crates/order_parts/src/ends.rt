@@ -1,11 +1,7 @@
 // The two ends of an order's connection, and the reports of them.
 
 ghost use Rattle.std.specs.Prelude.{◌≡◌, ◌<◌, ◌↔◌, [], length, true, IsOk, IfOk, IfErr};
-ghost use Rattle.client_core.specs.Clients.{are_ours, is_window};
-ghost use Rattle.server_core.specs.Serving.{new_serving, with_end};
-ghost use Rattle.protocol_model.specs.Ends.{new_client_end};
-ghost use Rattle.link_world.specs.Reports.{report_text};
-ghost use Rattle.order_parts.specs.Ends.{first_client, first_server, ends_shown, end_shown};
+ghost use Rattle.order_parts.specs.Names.{are_ours, is_window, new_serving, with_end, new_client_end, report_text, first_client, first_server, ends_shown, end_shown};
 
 use crate::faults::OrderFault;
 use client_core::{Client, ClientFault};

@@ -1,13 +1,7 @@
 // The plan of a program on a new connection, as text.
 
 ghost use Rattle.std.specs.Prelude.{◌≡◌, ◌<◌, ◌≤◌, [], length, ◌++◌, All, false, OnOk, IfOk, IfSome};
-ghost use Rattle.std.specs.List.{position};
-ghost use Rattle.dme_line.specs.Kinds.{kind_of, is_event_kind};
-ghost use Rattle.dme_line.specs.Written.{HasVolumeLengths};
-ghost use Rattle.dme_line.specs.declared.tags.Tag.TheVariants.{Std};
-ghost use Rattle.resume_plan.specs.Sendable.{IsSendable};
-ghost use Rattle.order_parts.specs.Plan.{count_to_touch, first_commands, is_touch, plan_text, homing_mark, shown_line, shown_behind};
-ghost use Rattle.order_parts.specs.Numbered.{number_behind, number_behind_all, line_under, lines_from, shown_from};
+ghost use Rattle.order_parts.specs.Names.{position, kind_of, is_event_kind, HasVolumeLengths, Std, IsSendable, count_to_touch, first_commands, is_touch, plan_text, homing_mark, shown_line, shown_behind, number_behind, number_behind_all, line_under, lines_from, shown_from};
 
 use dme_line::{Command, Tag, write_command};
 use dmis_program::Program;

@@ -11,3 +11,4 @@ pub mod Lowered
 pub mod Orders
 pub mod Carried
 pub mod Examples
+pub mod Names

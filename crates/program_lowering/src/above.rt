@@ -1,10 +1,7 @@
 // What the statements above leave for the one that is judged.
 
 ghost use Rattle.std.specs.Prelude.{◌≡◌, ◌≤◌, ◌<◌, ◌+◌, IfOk};
-ghost use Rattle.dmis_program.specs.Outcomes.{Gives};
-ghost use Rattle.dmis_program.specs.Judging.{is_too_few, settled, judged};
-ghost use Rattle.dmis_program.specs.Keywords.{keyword_of};
-ghost use Rattle.program_lowering.specs.Carried.{none_above, some_tool, due, after_said};
+ghost use Rattle.program_lowering.specs.Names.{Gives, is_too_few, settled, judged, keyword_of, none_above, some_tool, due, after_said};
 
 use crate::inches::said_in;
 use dmis_program::{Frames, Keyword, Refusal, StatementFault, StatementMeaning, word_refusal};

@@ -1,11 +1,8 @@
 // The statement of a flat program that is written for one that commands something.
 
 ghost use Rattle.std.specs.Prelude.{◌≡◌, ◌++◌, ◌∷◌, [], ℕ, List, codes, decimal, is_some, map, take, OnOk};
-ghost use Rattle.std.specs.Char.{to_ascii_uppercase};
-ghost use Rattle.fixed_um.specs.Written.{written};
+ghost use Rattle.program_lowering.specs.Names.{to_ascii_uppercase, written, components, components_text, flat_passed, flat_said, kind_of, place_text, text_for, within, ended};
 ghost use Rattle.dmis_program.specs.declared.sayings.StatementMeaning.TheVariants as said;
-ghost use Rattle.program_lowering.specs.Flats.{components, components_text, flat_passed, flat_said, kind_of, place_text, text_for, within};
-ghost use Rattle.program_lowering.specs.Lowering.{ended};
 
 use dmis_program::{Keyword, StatementMeaning};
 use dmis_text::Text;

@@ -1,10 +1,7 @@
 // The comments before a flat program.
 
 ghost use Rattle.std.specs.Prelude.{◌≡◌, ◌++◌, IfOk, OnOk, string_bytes};
-ghost use Rattle.hex.specs.Hex.{encode_lower};
-ghost use Rattle.sha2.specs.Sha256.{sha256};
-ghost use Rattle.program_lowering.specs.Heads.{given_options, head_lines, names_of, option_text, or_none, setup_name, shown_byte, shown_name};
-ghost use Rattle.program_lowering.specs.Lowering.{ended_lines};
+ghost use Rattle.program_lowering.specs.Names.{encode_lower, sha256, given_options, head_lines, names_of, option_text, or_none, setup_name, shown_byte, shown_name, ended_lines};
 
 use crate::flats::{front, push_named};
 use crate::words::Choices;

@@ -1,13 +1,7 @@
 // Programs in inches.
 
 ghost use Rattle.std.specs.Prelude.{◌≡◌, ◌≢◌, ◌≤◌, slice_index, unsigned_abs};
-ghost use Rattle.std.specs.Char.{is_ascii_alphabetic};
-ghost use Rattle.fixed_um.specs.Limits.{component_limit};
-ghost use Rattle.dmis_program.specs.Keywords.{keyword_of};
-ghost use Rattle.dmis_program.specs.Outcomes.{Gives};
-ghost use Rattle.dmis_program.specs.Parameters.{is_other_coordinates};
-ghost use Rattle.dmis_program.specs.Positions.{direction_of};
-ghost use Rattle.dmis_program.specs.Sayings.{is_badly_formed};
+ghost use Rattle.program_lowering.specs.Names.{is_ascii_alphabetic, component_limit, keyword_of, Gives, is_other_coordinates, direction_of, is_badly_formed};
 ghost use Rattle.program_lowering.specs.Inches as spec;
 
 use dmis_program::{Keyword, Refusal, StatementFault, StatementMeaning, said_of};

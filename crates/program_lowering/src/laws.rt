@@ -1,30 +1,7 @@
 // What follows from the definitions alone. Each function has laws for its contract and does nothing.
 ghost use Rattle.std.specs.Prelude.{◌≡◌, ◌<◌, ◌^◌, ◌++◌, ◌∷◌, ◌*◌, [], ℕ, ℤ, pos, neg_ℤ, int_lt, unsigned_abs, List, length, codes, false, true, Some, None, Ok};
-ghost use Rattle.std.specs.Option.{option_map};
-ghost use Rattle.dmis_program.specs.declared.faults.Refusal.TheVariants.{BadByte};
-ghost use Rattle.dmis_program.specs.declared.sayings.StatementMeaning.TheVariants.{Passes};
-ghost use Rattle.std.specs.List.{AllByRecursion};
-ghost use Rattle.fixed_um.specs.declared.lengths.Point.{Point};
-ghost use Rattle.dmis_program.specs.Meaning.{Meaning, program_of};
-ghost use Rattle.dmis_text.specs.Reading.{text_reading};
-ghost use Rattle.program_lowering.specs.Acts.{acts_of};
-ghost use Rattle.program_lowering.specs.Heads.{IsComment, Names, head_lines};
-ghost use Rattle.dmis_program.specs.Keywords.{keyword_of};
-ghost use Rattle.dmis_program.specs.declared.keywords.Keyword.TheVariants.{Ptmeas};
-ghost use Rattle.dmis_text.specs.Statements.{has_open_text};
-ghost use Rattle.dmis_text.specs.declared.elements.Statement.{Statement};
-ghost use Rattle.program_lowering.specs.Lowering.{ended_lines, flat_program, kept, left_out_at, lowered_meaning, passed_over};
-ghost use Rattle.program_lowering.specs.Manual.{in_manual, is_skipped};
-ghost use Rattle.fixed_um.specs.Limits.{component_limit};
-ghost use Rattle.fixed_um.specs.Numerals.{IsRounded, Reads, signed};
-ghost use Rattle.dmis_program.specs.Positions.{length_of};
-ghost use Rattle.program_lowering.specs.Inches.{all_stated, in_inches, in_millimetres, inch_length, stated};
-ghost use Rattle.program_lowering.specs.Examples.{all_choices, bare, first_by_hand, manual_front, measured, mode_man, mode_prog, plain_choices, start, to_operator};
-ghost use Rattle.program_lowering.specs.Flats.{flat, flat_text};
-ghost use Rattle.program_review.specs.Texts.{is_operator_text};
-ghost use Rattle.program_lowering.specs.OperatorTexts.{TextsFit, flat_meant, text_refusal};
-ghost use Rattle.program_lowering.specs.Words.{left_out};
-ghost use Rattle.program_lowering.specs.declared.words.Choices.{Choices};
+ghost use Rattle.program_lowering.specs.Names.{option_map, BadByte, Passes, AllByRecursion, Point, Meaning, program_of, text_reading, acts_of, IsComment, Names, head_lines, keyword_of, Ptmeas, has_open_text, Statement, ended_lines, flat_program, kept, left_out_at, lowered_meaning, passed_over, in_manual, is_skipped, component_limit, IsRounded, signed, length_of, all_stated, in_inches, in_millimetres, inch_length, stated, all_choices, bare, first_by_hand, manual_front, measured, mode_man, mode_prog, plain_choices, start, to_operator, flat, flat_text, is_operator_text, TextsFit, flat_meant, text_refusal, left_out, Choices};
+ghost use Rattle.fixed_um.specs.Numerals.{Reads};
 ghost use Rattle.program_lowering.specs.declared.words.Reason.TheVariants as reason;
 
 /// A flat program is accepted as it is written, and has the features and steps of the program that it was written of, whatever comments

@@ -1,11 +1,7 @@
 // The line that is written of a statement. Texts for the operator are written as they are read.
 
 ghost use Rattle.std.specs.Prelude.{◌≡◌, ◌++◌, codes, decimal, false, true, OnOk, IfOk};
-ghost use Rattle.std.specs.List.{list_all};
-ghost use Rattle.dmis_text.specs.Texts.{may_stand};
-ghost use Rattle.dmis_program.specs.Keywords.{keyword_of};
-ghost use Rattle.program_lowering.specs.Flats.{flat_line, flat_text, line_end};
-ghost use Rattle.program_lowering.specs.Lowering.{ended_lines, line_for};
+ghost use Rattle.program_lowering.specs.Names.{list_all, may_stand, keyword_of, flat_line, flat_text, line_end, ended_lines, line_for};
 ghost use Rattle.program_lowering.specs.OperatorTexts as spec;
 
 use crate::flats::{is_written, push_number, push_text};

@@ -1,15 +1,8 @@
 // The flat program of a text.
 
 ghost use Rattle.std.specs.Prelude.{◌≡◌, ◌≤◌, ◌<◌, ◌++◌, ◌∷◌, [], codes, decimal, OnOk, IfOk, IfSome, IfNone, IfErr, Ok, None, Option, Some};
-ghost use Rattle.dmis_text.specs.Reading.{IsDue};
-ghost use Rattle.dmis_text.specs.declared.reading.TextFault.{TextFault};
-ghost use Rattle.dmis_program.specs.Keywords.{keyword_of};
-ghost use Rattle.dmis_program.specs.Meaning.{closes, without_end};
-ghost use Rattle.dmis_program.specs.Outcomes.{fault_at, refused_at, text_refused};
-ghost use Rattle.program_lowering.specs.Carried.{Carried, GivesLines, GivesStep, after_said, followed, left_out_after, noted, nothing_carried, step};
-ghost use Rattle.program_lowering.specs.Lowering.{lowered_meaning, flat_program, note_for, note_start, notes_of, passed_over, unwritten};
-ghost use Rattle.program_lowering.specs.Heads.{names_of};
-ghost use Rattle.program_lowering.specs.Lowered.{GivesLowered};
+ghost use Rattle.program_lowering.specs.Names.{IsDue, TextFault, keyword_of, closes, without_end, fault_at, refused_at, text_refused, GivesLines, GivesStep, after_said, followed, left_out_after, noted, nothing_carried, step, lowered_meaning, flat_program, note_for, note_start, notes_of, passed_over, unwritten, names_of, GivesLowered};
+ghost use Rattle.program_lowering.specs.Carried.{Carried};
 
 use crate::above::Above;
 use crate::flats::{push_named, push_number};

@@ -1,12 +1,8 @@
 // The order `lower` over ports.
 
 ghost use Rattle.std.specs.Prelude.{◌≡◌, IfOk, IfErr};
-ghost use Rattle.dme_orders.specs.Input.{named, ReadsNamed, WhyNoNamed};
-ghost use Rattle.dme_orders.specs.Orders.{went};
-ghost use Rattle.dme_orders.specs.Reading.{came, Reads, WhyNoText};
-ghost use Rattle.program_lowering.specs.Heads.{names_of};
-ghost use Rattle.program_review.specs.Reviews.{frames_under};
-ghost use Rattle.program_lowering.specs.Orders.{Lowers, ReadsFlat, WhyNoFlat};
+ghost use Rattle.program_lowering.specs.Names.{named, ReadsNamed, WhyNoNamed, went, came, WhyNoText, names_of, frames_under, Lowers, ReadsFlat, WhyNoFlat};
+ghost use Rattle.dme_orders.specs.Reading.{Reads};
 
 use crate::heads::SourceNames;
 use crate::lowering::{Lowered, lower};

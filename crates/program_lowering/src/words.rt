@@ -1,10 +1,7 @@
 // The words that a flat program does not have.
 
 ghost use Rattle.std.specs.Prelude.{◌≡◌};
-ghost use Rattle.dmis_program.specs.Keywords.{is_among, keyword_of};
-ghost use Rattle.program_lowering.specs.Words.{clearing, compensation, left_out, naming, passed_motion};
-ghost use Rattle.program_lowering.specs.Words.{passed_reason, printing, reason_of};
-ghost use Rattle.program_lowering.specs.Reasons.{reason_text};
+ghost use Rattle.program_lowering.specs.Names.{is_among, keyword_of, clearing, compensation, left_out, naming, passed_motion, passed_reason, printing, reason_of, reason_text};
 
 use dmis_program::Keyword;
 use dmis_text::{Statement, Text};

@@ -16,3 +16,4 @@ pub mod Findings
 pub mod Summary
 pub mod Printed
 pub mod Reviews
+pub mod Names

@@ -1,11 +1,7 @@
 // What refused statements are for.
 
 ghost use Rattle.std.specs.Prelude.{◌≡◌};
-ghost use Rattle.std.specs.List.{list_any};
-ghost use Rattle.std.specs.Str.{bytes_eq};
-ghost use Rattle.dmis_program.specs.Keywords.{keyword_of, is_among};
-ghost use Rattle.program_review.specs.Groups.{identifying, reporting, coordinates, measuring, branching, calling, moving, compensating};
-ghost use Rattle.program_review.specs.Groups.{is_jump_label, word_group, unsupported_group, mistaken_group, group_of};
+ghost use Rattle.program_review.specs.Names.{list_any, bytes_eq, keyword_of, is_among, identifying, reporting, coordinates, measuring, branching, calling, moving, compensating, is_jump_label, word_group, unsupported_group, mistaken_group, group_of};
 
 use dmis_program::{Keyword, Refusal, keyword_of_word};
 

@@ -1,10 +1,7 @@
 // What a setup lacks for a program that is accepted.
 
 ghost use Rattle.std.specs.Prelude.{◌≡◌, Ok, IfOk};
-ghost use Rattle.dmis_text.specs.Reading.{text_reading};
-ghost use Rattle.dmis_program.specs.Meaning.{program_of};
-ghost use Rattle.program_review.specs.UnderSetup.{lacks_of};
-ghost use Rattle.program_review.specs.StepLacks.{selected_behind, lacks_step, lacks_some};
+ghost use Rattle.program_review.specs.Names.{text_reading, program_of, lacks_of, selected_behind, lacks_step, lacks_some};
 
 use crate::readings::read;
 use crate::remarks::Remark;

@@ -1,20 +1,8 @@
 // What follows from the definitions alone. Each function has laws for its contract and does nothing.
 
 ghost use Rattle.std.specs.Prelude.{◌≡◌, ◌≤◌, ◌∷◌, [], ℕ, List, None, Some, Ok, length, take, codes, true, false};
-ghost use Rattle.dmis_text.specs.Reading.{text_reading};
-ghost use Rattle.fixed_um.specs.declared.lengths.Point.{Point};
-ghost use Rattle.dmis_program.specs.Offsets.{AreInVolume};
-ghost use Rattle.dmis_program.specs.Meaning.{Meaning, program_of};
-ghost use Rattle.dmis_program.specs.Programs.{feature_touches};
-ghost use Rattle.protocol_model.specs.Plan.{plan};
-ghost use Rattle.protocol_model.specs.declared.plans.Start.{Start};
-ghost use Rattle.program_review.specs.TaskLines.{task_lines_of, command_lines_of};
-ghost use Rattle.program_review.specs.PlanLines.{HaveLines, statement_commands, recalling};
-ghost use Rattle.program_review.specs.Travels.{travels_of, replaced, meas_on, ptmeas_on, endmes_on, goto_on, feature_on, travel_on};
-ghost use Rattle.program_review.specs.Notices.{notices_of};
-ghost use Rattle.dmis_program.specs.declared.sayings.StatementMeaning.TheVariants.{Begins, Ends};
-ghost use Rattle.program_review.specs.Texts.{all_commands, held_at, is_open_after, is_waited, shown, tasks_on, text_on_line, texts_of, waited};
-ghost use Rattle.order_parts.specs.Pauses.{pauses_of};
+ghost use Rattle.program_review.specs.Names.{text_reading, Point, AreInVolume, Meaning, program_of, feature_touches, plan, Start, task_lines_of, command_lines_of, HaveLines, statement_commands, recalling, travels_of, replaced, meas_on, ptmeas_on, endmes_on, goto_on, feature_on, travel_on, notices_of, Begins, Ends, all_commands, held_at, is_open_after, is_waited, shown, tasks_on, text_on_line, waited, pauses_of};
+ghost use Rattle.program_review.specs.Texts.{texts_of};
 
 /// The lines of `command_lines` are those of the commands of a client's plan that carry out statements, one for one, after any number of
 /// completed features: each is the line of a statement that its command carries out. A command that selects the machine's own frame has none.

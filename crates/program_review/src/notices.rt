@@ -1,10 +1,8 @@
 // Statements that are passed over though they change something.
 
 ghost use Rattle.std.specs.Prelude.{◌≡◌, ◌++◌, [], codes, IfOk, OnOk};
-ghost use Rattle.std.specs.Str.{bytes_eq};
-ghost use Rattle.dmis_program.specs.Sayings.{is_badly_formed};
+ghost use Rattle.program_review.specs.Names.{bytes_eq, is_badly_formed, begins_with, is_off, sensor_setting, text_meaning, passed_word, passed_over, with_passed, notices_of};
 ghost use Rattle.dmis_program.specs.declared.keywords.Keyword.TheVariants as word;
-ghost use Rattle.program_review.specs.Notices.{begins_with, is_off, sensor_setting, text_meaning, passed_word, passed_over, with_passed, notices_of};
 
 use crate::groups::is_text;
 use crate::remarks::{Remark, What};

@@ -1,11 +1,7 @@
 // Findings in the form in which they are printed.
 
 ghost use Rattle.std.specs.Prelude.{◌≡◌, ◌++◌, ◌∷◌, [], codes, string_bytes, IfOk, OnOk, not, ◌==◌};
-ghost use Rattle.std.specs.List.{take_while};
-ghost use Rattle.json.specs.Token.{key, string};
-ghost use Rattle.deviations.specs.Json.{Puts};
-ghost use Rattle.program_review.specs.Printed.{file_of, line_of, kind_text, title_of, title_text, number_text, front_text, finding_line, finding_lines, finding_tokens, array_tokens, line_member, code_member, printed, names_of};
-ghost use Rattle.json.specs.Print.{print};
+ghost use Rattle.program_review.specs.Names.{take_while, key, string, Puts, file_of, line_of, kind_text, title_of, title_text, number_text, front_text, finding_line, finding_lines, finding_tokens, array_tokens, line_member, code_member, printed, names_of, print};
 
 use crate::findings::Finding;
 use crate::remarks::{Remark, What};

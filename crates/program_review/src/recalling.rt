@@ -1,11 +1,7 @@
 // The stored frames of a setup that a program does not recall.
 
 ghost use Rattle.std.specs.Prelude.{◌≡◌, ◌++◌, [], IfOk, OnOk};
-ghost use Rattle.std.specs.Str.Lines.{lines};
-ghost use Rattle.tool_rack.specs.Fields.{fields_of};
-ghost use Rattle.program_review.specs.Findings.{remarks_in};
-ghost use Rattle.program_review.specs.UnderSetup.{meaning_with};
-ghost use Rattle.program_review.specs.UnusedFrames.{name_recalled, names_recalled, frame_in, stored_on, unused_on, unused_from};
+ghost use Rattle.program_review.specs.Names.{lines, fields_of, remarks_in, meaning_with, name_recalled, names_recalled, frame_in, stored_on, unused_on, unused_from};
 
 use crate::findings::Finding;
 use crate::remarks::{Remark, What};

@@ -1,10 +1,8 @@
 // Every refusal of a text.
 
 ghost use Rattle.std.specs.Prelude.{◌≡◌, ◌++◌, [], IfOk, OnOk};
-ghost use Rattle.dmis_program.specs.Keywords.{keyword_of};
-ghost use Rattle.dmis_program.specs.Meaning.{ended};
-ghost use Rattle.program_review.specs.Refusals.{refusals_from, at_start, found_at, listed, due, after, is_end};
-ghost use Rattle.program_review.specs.Variables.{names_by, group_below};
+ghost use Rattle.program_review.specs.Names.{keyword_of, ended, refusals_from, at_start, found_at, listed, due, after, names_by, group_below};
+ghost use Rattle.program_review.specs.Refusals.{is_end};
 
 use crate::groups::Group;
 use crate::readings::Reading;

@@ -1,12 +1,8 @@
 // The report of a program's text under a setup.
 
 ghost use Rattle.std.specs.Prelude.{◌≡◌, IfOk, is_err, is_some};
-ghost use Rattle.dmis_program.specs.Meaning.{program_of};
-ghost use Rattle.dmis_text.specs.Reading.{text_reading};
-ghost use Rattle.program_review.specs.Refusals.{refusals_of, first_of, fault_of};
-ghost use Rattle.program_review.specs.Printed.{names_of};
-ghost use Rattle.program_review.specs.Reviews.{AreRemarks, IsReport, frames_under, lacks_under, texts_of};
-ghost use Rattle.program_review.specs.Readings.{IsReadingOf};
+ghost use Rattle.program_review.specs.Names.{program_of, text_reading, refusals_of, first_of, fault_of, names_of, AreRemarks, IsReport, frames_under, lacks_under, IsReadingOf};
+ghost use Rattle.program_review.specs.Reviews.{texts_of};
 
 use crate::notices::passed_statements;
 use crate::odd::odd_statements;

@@ -1,10 +1,7 @@
 // What is carried from statement to statement, past those that are refused.
 
 ghost use Rattle.std.specs.Prelude.{◌≡◌, ◌≢◌, ◌≤◌};
-ghost use Rattle.dmis_program.specs.Outcomes.{Gives};
-ghost use Rattle.dmis_program.specs.Judging.{is_start, settled, judged};
-ghost use Rattle.dmis_program.specs.Keywords.{keyword_of};
-ghost use Rattle.program_review.specs.Refusals.{at_start, number_at, some_tool, due, one_more, one_less, lacking_said, is_selection, after_said, lacking_passed, is_tool_word, is_not_dmis, is_no_tool, number_passed, after_refused};
+ghost use Rattle.program_review.specs.Names.{Gives, is_start, settled, judged, keyword_of, at_start, number_at, some_tool, due, one_more, one_less, lacking_said, is_selection, after_said, lacking_passed, is_tool_word, is_not_dmis, is_no_tool, number_passed, after_refused};
 
 use dmis_program::{
     Frames, Keyword, Refusal, StatementFault, StatementMeaning, said_of, word_refusal,

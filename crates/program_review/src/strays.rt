@@ -1,10 +1,7 @@
 // The touches that would be measured in other coordinates, or by the machine itself, if refused statements were deleted.
 
 ghost use Rattle.std.specs.Prelude.{◌≡◌, ◌++◌, IfOk, OnOk};
-ghost use Rattle.dmis_program.specs.Keywords.{keyword_of};
-ghost use Rattle.dmis_program.specs.Offsets.{offset_of};
-ghost use Rattle.program_review.specs.UnderSetup.{meaning_with};
-ghost use Rattle.program_review.specs.Strays.{at_first, astray, aim_recalled, by_hand, aim_passed, aim_after, strays_here, hand_here, strays_of, strays_from};
+ghost use Rattle.program_review.specs.Names.{keyword_of, offset_of, meaning_with, at_first, astray, aim_recalled, by_hand, aim_passed, aim_after, strays_here, hand_here, strays_of, strays_from};
 
 use crate::groups::is_of_coordinates;
 use crate::under_setup::meaning_of;

@@ -1,8 +1,7 @@
 // What the refused statements of a program are for, in groups, and what deleting them would change.
 
 ghost use Rattle.std.specs.Prelude.{◌≡◌, ◌++◌, ◌∷◌, [], OnOk};
-ghost use Rattle.program_review.specs.Findings.{remarks_in, summed};
-ghost use Rattle.program_review.specs.Summary.{number_of, is_of, has_lines, sums_in, order};
+ghost use Rattle.program_review.specs.Names.{remarks_in, summed, number_of, is_of, has_lines, sums_in, order};
 
 use crate::findings::Finding;
 use crate::groups::Group;

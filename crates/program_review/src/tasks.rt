@@ -1,10 +1,7 @@
 // The statements that a client carries out by commands, and their lines.
 
 ghost use Rattle.std.specs.Prelude.{◌≡◌, ◌++◌, None, IfOk, OnOk};
-ghost use Rattle.std.specs.List.{flat_map};
-ghost use Rattle.dmis_text.specs.Reading.{text_reading};
-ghost use Rattle.program_review.specs.TaskLines.{task_said, task_on, task_lines_of, command_lines_of, lines_of, tool_with, frame_with, touches_left};
-ghost use Rattle.program_review.specs.TaskLines.{tool_line, frame_line, up_to_touch, after_touch, tool_again, frame_again};
+ghost use Rattle.program_review.specs.Names.{flat_map, text_reading, task_said, task_on, task_lines_of, command_lines_of, lines_of, tool_with, frame_with, touches_left, tool_line, frame_line, up_to_touch, after_touch, tool_again, frame_again};
 
 use crate::under_setup::meaning_of;
 use dmis_program::{Keyword, StatementMeaning, keyword_of_word};

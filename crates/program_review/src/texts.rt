@@ -1,9 +1,7 @@
 // Texts for the operator, and what a run holds back at them.
 
 ghost use Rattle.std.specs.Prelude.{◌≡◌, ◌++◌, None, map, IfOk, OnOk};
-ghost use Rattle.dmis_text.specs.Reading.{text_reading};
-ghost use Rattle.order_parts.specs.Pauses.{place_seen};
-ghost use Rattle.program_review.specs.TaskLines.{last_line, up_to_touch};
+ghost use Rattle.program_review.specs.Names.{text_reading, place_seen, last_line, up_to_touch};
 ghost use Rattle.program_review.specs.Texts as spec;
 
 use crate::groups::is_text;

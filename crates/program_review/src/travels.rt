@@ -1,12 +1,7 @@
 // The straight travels of a program from feature to feature.
 
 ghost use Rattle.std.specs.Prelude.{◌≡◌, ◌≤◌, ◌++◌, ◌∷◌, [], ◌*◌, ◌^◌, ◌+ℤ◌, ◌-ℤ◌, unsigned_abs, IfOk, OnOk};
-ghost use Rattle.dmis_program.specs.Offsets.{offset_of};
-ghost use Rattle.fixed_um.specs.Points.{point_sum};
-ghost use Rattle.program_review.specs.Travels.{at_home, way_selected, way_recalled, way_touched, touched_at, way_after};
-ghost use Rattle.program_review.specs.Travels.{legs_to, legs_on, legs_from, next_stop};
-ghost use Rattle.program_review.specs.Travels.{travel_to, travels_in, travels_of, zeros, squared, squared_distance, squared_length, IsLength};
-ghost use Rattle.program_review.specs.Travels.{is_clearing, is_above, is_replaced, replaced};
+ghost use Rattle.program_review.specs.Names.{offset_of, point_sum, at_home, way_selected, way_recalled, way_touched, touched_at, way_after, legs_to, legs_on, legs_from, next_stop, travel_to, travels_in, travels_of, zeros, squared, squared_distance, squared_length, IsLength, is_clearing, is_above, is_replaced, replaced};
 
 use crate::groups::is_of_coordinates;
 use crate::notices::Passed;

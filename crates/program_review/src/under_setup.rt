@@ -1,9 +1,8 @@
 // What a setup lacks for a program.
 
 ghost use Rattle.std.specs.Prelude.{◌≡◌, ◌++◌, IfOk, IfSome, OnOk};
-ghost use Rattle.dmis_program.specs.Keywords.{keyword_of};
-ghost use Rattle.dmis_program.specs.Offsets.{offset_of};
-ghost use Rattle.program_review.specs.UnderSetup.{recalls_other, meaning_with, selected_after, is_outside, when, lack_of, lack_on, is_end, lacks_of};
+ghost use Rattle.program_review.specs.Names.{keyword_of, offset_of, recalls_other, meaning_with, selected_after, is_outside, when, lack_of, lack_on, lacks_of};
+ghost use Rattle.program_review.specs.UnderSetup.{is_end};
 
 use crate::remarks::{Remark, What};
 use dmis_program::{

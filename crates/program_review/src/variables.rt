@@ -1,11 +1,7 @@
 // The names that statements declare or assign, and the moves that are refused for one.
 
 ghost use Rattle.std.specs.Prelude.{◌≡◌, ◌++◌, OnOk, find};
-ghost use Rattle.dmis_program.specs.Keywords.{keyword_of, is_among};
-ghost use Rattle.dmis_program.specs.Parameters.{name_of, without_cart};
-ghost use Rattle.tool_rack.specs.Setups.{has_name};
-ghost use Rattle.program_review.specs.Variables.{declaring, assigning, as_list, names_in, names_by, is_no_length, refused_argument};
-ghost use Rattle.program_review.specs.Variables.{is_named, is_computed_move, group_below};
+ghost use Rattle.program_review.specs.Names.{keyword_of, is_among, name_of, without_cart, has_name, declaring, assigning, as_list, names_in, names_by, is_no_length, refused_argument, is_named, is_computed_move, group_below};
 
 use crate::groups::{Group, group_of, is_among, is_text};
 use dmis_program::{Keyword, Refusal};

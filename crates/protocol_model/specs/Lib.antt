@@ -24,3 +24,4 @@ pub mod Turns
 pub mod Homing
 pub mod Plain
 pub mod Between
+pub mod Names

@@ -1,14 +1,8 @@
 // Examples: where a plan continues in the steps of a program.
 
 ghost use Rattle.std.specs.Prelude.{◌≡◌, ◌++◌, ◌∷◌, [], Ok, codes, pos};
-ghost use Rattle.dme_line.specs.declared.commands.Csy.TheVariants.{MachineCsy};
+ghost use Rattle.protocol_model.specs.Names.{MachineCsy, program_of, plan, commands_of, moved_between, at, from_above, NewConnection, SameConnection};
 ghost use Rattle.dme_line.specs.declared.commands.Command.TheVariants as command;
-ghost use Rattle.dmis_program.specs.Meaning.{program_of};
-ghost use Rattle.protocol_model.specs.Plan.{plan};
-ghost use Rattle.protocol_model.specs.PlanReading.{commands_of};
-ghost use Rattle.protocol_model.specs.Between.{moved_between};
-ghost use Rattle.protocol_model.specs.Examples.{at, from_above};
-ghost use Rattle.protocol_model.specs.declared.plans.Start.TheVariants.{NewConnection, SameConnection};
 
 /// A program with a move and another tool between a touch and the end of its block, and a move
 /// between the blocks.

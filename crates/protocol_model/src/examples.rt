@@ -2,33 +2,10 @@
 // micrometres.
 
 ghost use Rattle.std.specs.Prelude.{◌≡◌, ℕ, List, pos, [], ◌∷◌, codes, None};
-ghost use Rattle.fixed_um.specs.declared.frames.Frame.TheVariants.{Part};
-ghost use Rattle.dme_line.specs.declared.tags.Tag.TheVariants.{Std};
+ghost use Rattle.protocol_model.specs.Names.{Part, Std, Done, Reply, AreRuns, at, neg, part, made, alike_wanted, alike_features, twice_wanted, twice_features, no_session, not_homed, no_tool, ready, outside, asked, refused_with};
 ghost use Rattle.dme_line.specs.declared.commands.Kind.TheVariants as kind;
 ghost use Rattle.dme_line.specs.declared.commands.Command.TheVariants as command;
-ghost use Rattle.protocol_model.specs.declared.machine.Outcome.TheVariants.{Done};
-ghost use Rattle.protocol_model.specs.Replies.{Reply};
-ghost use Rattle.protocol_model.specs.Claims.{AreRuns};
-ghost use Rattle.protocol_model.specs.Examples.{
-  at,
-  neg,
-  part,
-  made,
-  alike_wanted,
-  alike_features,
-  twice_wanted,
-  twice_features,
-};
 ghost use Rattle.fixed_um.specs.declared.frames.Frame.TheVariants as frame;
-ghost use Rattle.protocol_model.specs.Examples.{
-  no_session,
-  not_homed,
-  no_tool,
-  ready,
-  outside,
-  asked,
-  refused_with,
-};
 
 /// What is claimed is strong enough to refuse what must not be.
 pub fn claim_rows()

@@ -15,60 +15,14 @@ ghost use Rattle.std.specs.Prelude.{
   Some,
   Ok,
 };
-ghost use Rattle.fixed_um.specs.declared.frames.Frame.TheVariants.{Machine};
-ghost use Rattle.dme_line.specs.declared.tags.Tag.TheVariants.{Std};
-ghost use Rattle.dme_line.specs.declared.commands.Csy.TheVariants.{MachineCsy};
+ghost use Rattle.protocol_model.specs.Names.{Machine, Std, MachineCsy, Done, Fault, Nothing, Homes, NewConnection, Mark, Reply, plan, planned, client_read, client_resumed, due, passed_over, server_accepted, server_left, server_restarted, can, at, neg, along, line, failed, Call, called, one_point, circle, two_points, connect, accept, client_sends, server_reads, server_reads_all, server_turn, machine, client_reads, client_reads_all, client_restart, server_restart, abort, resume, quiet, quiet_to_the_end, opened, at_its_turn, play, wrote_behind, said_behind, no_session, not_homed, no_tool, server_behind, asked_now, homing_now, told_so, asking_client, answered_client, told_client, opened_again};
 ghost use Rattle.dme_line.specs.declared.commands.Kind.TheVariants as kind;
 ghost use Rattle.dme_line.specs.declared.commands.Command.TheVariants as command;
 ghost use Rattle.contact_ledger.specs.declared.acts.Act.TheVariants as act;
 ghost use Rattle.protocol_model.specs.declared.held.Datum.TheVariants as datum;
-ghost use Rattle.protocol_model.specs.declared.machine.Outcome.TheVariants.{Done, Fault};
-ghost use Rattle.protocol_model.specs.declared.plans.Does.TheVariants.{Nothing, Homes};
-ghost use Rattle.protocol_model.specs.declared.plans.Start.TheVariants.{NewConnection};
 ghost use Rattle.protocol_model.specs.declared.states.State.TheVariants as State;
 ghost use Rattle.protocol_model.specs.declared.states.Cause.TheVariants as Cause;
-ghost use Rattle.protocol_model.specs.Replies.{Mark, Reply};
-ghost use Rattle.protocol_model.specs.Plan.{plan, planned};
-ghost use Rattle.protocol_model.specs.Client.{client_read, client_resumed, due, passed_over};
-ghost use Rattle.protocol_model.specs.Server.{server_accepted, server_left, server_restarted};
-ghost use Rattle.protocol_model.specs.Typed.{Event, can};
-ghost use Rattle.protocol_model.specs.Examples.{at, neg, along, line, failed, Call, called};
-ghost use Rattle.protocol_model.specs.Scripts.{
-  one_point,
-  circle,
-  two_points,
-  connect,
-  accept,
-  client_sends,
-  server_reads,
-  server_reads_all,
-  server_turn,
-  machine,
-  client_reads,
-  client_reads_all,
-  client_restart,
-  server_restart,
-  abort,
-  resume,
-  quiet,
-  quiet_to_the_end,
-  opened,
-  at_its_turn,
-  play,
-  wrote_behind,
-  said_behind,
-};
-ghost use Rattle.protocol_model.specs.Examples.{no_session, not_homed, no_tool};
-ghost use Rattle.protocol_model.specs.Homing.{
-  server_behind,
-  asked_now,
-  homing_now,
-  told_so,
-  asking_client,
-  answered_client,
-  told_client,
-  opened_again,
-};
+ghost use Rattle.protocol_model.specs.Typed.{Event};
 
 /// A server says whether its machine is homed when the question is processed.
 pub fn asked_rows()

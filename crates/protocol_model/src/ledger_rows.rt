@@ -2,24 +2,9 @@
 // out. Lengths are in micrometres.
 
 ghost use Rattle.std.specs.Prelude.{ℕ, pos, true, false, [], ◌∷◌, codes, None};
+ghost use Rattle.protocol_model.specs.Names.{Sound, Told, at, along, from_above, tool, part, feature, feature_on, contact_of, one_wanted, two_wanted, first_point, second_point, first_contact, second_contact, ledger_with, right_ledger, measured_as, two_connections, asked_twice};
 ghost use Rattle.fixed_um.specs.declared.frames.Frame.TheVariants as frame;
 ghost use Rattle.contact_ledger.specs.declared.acts.Act.TheVariants as act;
-ghost use Rattle.protocol_model.specs.Claims.{Sound, Told};
-ghost use Rattle.protocol_model.specs.Examples.{at, along, from_above, tool, part, feature, feature_on};
-ghost use Rattle.protocol_model.specs.LedgerRows.{
-  contact_of,
-  one_wanted,
-  two_wanted,
-  first_point,
-  second_point,
-  first_contact,
-  second_contact,
-  ledger_with,
-  right_ledger,
-  measured_as,
-  two_connections,
-  asked_twice,
-};
 
 /// A feature of two touches, and ledgers with two contacts: the right one, and those in which one
 /// thing differs from what was wanted.

@@ -1,13 +1,8 @@
 // Examples: where features come from.
 
 ghost use Rattle.std.specs.Prelude.{◌≡◌, pos, [], ◌∷◌, ◌++◌, codes};
-ghost use Rattle.fixed_um.specs.declared.frames.Frame.TheVariants.{Machine, Part};
+ghost use Rattle.protocol_model.specs.Names.{Machine, Part, joined, origin_of, at, part, feature, feature_on, one_point, two_frames, two_points, connect, accept, client_leaves, server_leaves, client_restart, quiet, quiet_to_the_end, opened, play, reported, report, contact, two_wanted, first_point};
 ghost use Rattle.protocol_model.specs.declared.states.State.TheVariants as State;
-ghost use Rattle.protocol_model.specs.Client.{joined, origin_of};
-ghost use Rattle.protocol_model.specs.Examples.{at, part, feature, feature_on};
-ghost use Rattle.protocol_model.specs.Scripts.{one_point, two_frames, two_points, connect, accept, client_leaves, server_leaves};
-ghost use Rattle.protocol_model.specs.Scripts.{client_restart, quiet, quiet_to_the_end, opened, play, reported, report, contact};
-ghost use Rattle.protocol_model.specs.LedgerRows.{two_wanted, first_point};
 
 /// A feature comes from the connection on which its last point was counted, by the client's own number, and from the frame of its last
 /// touch.

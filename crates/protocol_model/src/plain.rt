@@ -1,25 +1,9 @@
 // Examples: what a program plainly measures, and what that asks of the rack and the machine.
 
 ghost use Rattle.std.specs.Prelude.{◌≡◌, pos, [], ◌∷◌, drop, codes};
+ghost use Rattle.protocol_model.specs.Names.{plain_execution, touch_job, as_measured, AreInReach, AreObeyed, plan, at, neg, from_above, tool, part, feature_on, two_frames, answering, deviating, missing, always_done, unmoved, measured_so, touch_there, two_touches, change_to, NewConnection};
 ghost use Rattle.fixed_um.specs.declared.frames.Frame.TheVariants as frame;
-ghost use Rattle.protocol_model.specs.PlainExecution.{plain_execution, touch_job, as_measured};
-ghost use Rattle.protocol_model.specs.Finishing.{AreInReach, AreObeyed};
-ghost use Rattle.protocol_model.specs.Plan.{plan};
-ghost use Rattle.protocol_model.specs.Examples.{at, neg, from_above, tool, part, feature_on};
-ghost use Rattle.protocol_model.specs.Scripts.{two_frames};
-ghost use Rattle.protocol_model.specs.Plain.{
-  answering,
-  deviating,
-  missing,
-  always_done,
-  unmoved,
-  measured_so,
-  touch_there,
-  two_touches,
-  change_to,
-};
 ghost use Rattle.protocol_model.specs.declared.machine.Job.TheVariants as job;
-ghost use Rattle.protocol_model.specs.declared.plans.Start.TheVariants.{NewConnection};
 
 /// The points of a program's features, by what the machine answers to its touches.
 pub fn plain_rows()

@@ -1,14 +1,9 @@
 // What a plan measures, and in which order.
 
 ghost use Rattle.std.specs.Prelude.{◌≡◌, ◌≤◌, ℕ, drop, true};
+ghost use Rattle.protocol_model.specs.Names.{Meaning, IsProgram, feature_touches, passed_over, plan, Start, NewConnection, SameConnection, ends_of, feature_ends, commands_of, nothing_selected, ReadAsPlanned, touches_made, all_known, IsInOrder, whole_commands, CanBeWritten};
 ghost use Rattle.dme_line.specs.declared.tags.Tag.TheVariants as Tag;
-ghost use Rattle.dmis_program.specs.Meaning.{Meaning};
-ghost use Rattle.dmis_program.specs.Programs.{IsProgram, feature_touches};
-ghost use Rattle.protocol_model.specs.Client.{passed_over};
-ghost use Rattle.protocol_model.specs.Plan.{plan};
-ghost use Rattle.protocol_model.specs.declared.plans.Start.{Start};
-ghost use Rattle.protocol_model.specs.declared.plans.Start.TheVariants.{NewConnection, SameConnection};
-ghost use Rattle.protocol_model.specs.PlanReading.{touches_of, ends_of, feature_ends, commands_of, nothing_selected, ReadAsPlanned, touches_made, all_known, IsInOrder, whole_commands, CanBeWritten};
+ghost use Rattle.protocol_model.specs.PlanReading.{touches_of};
 
 /// The plan of a program of which the first features are completed, on a new connection or on the one that there is:
 ///

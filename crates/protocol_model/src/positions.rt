@@ -1,13 +1,8 @@
 // Where a plan continues in the steps of a program.
 
 ghost use Rattle.std.specs.Prelude.{◌≡◌, ◌<◌, ◌≤◌, ◌++◌, ℕ, List, length, take};
-ghost use Rattle.dmis_program.specs.Meaning.{Meaning};
-ghost use Rattle.dmis_program.specs.Programs.{IsProgram, feature_touches, touches_of};
-ghost use Rattle.dmis_program.specs.declared.steps.Step.{Step};
-ghost use Rattle.protocol_model.specs.Plan.{behind, plan, up_to};
-ghost use Rattle.protocol_model.specs.PlanReading.{commands_of};
-ghost use Rattle.protocol_model.specs.Positions.{EndInTouch, commands_from};
-ghost use Rattle.protocol_model.specs.declared.plans.Start.{Start};
+ghost use Rattle.protocol_model.specs.Names.{Meaning, IsProgram, feature_touches, Step, behind, plan, up_to, commands_of, EndInTouch, commands_from, Start};
+ghost use Rattle.dmis_program.specs.Programs.{touches_of};
 
 /// A plan continues after the last touch of the last completed feature, and leaves out no step that
 /// is there:

@@ -1,17 +1,9 @@
 // A link that was broken anywhere is brought to its end by quiet rounds, in a stated number of them.
 
 ghost use Rattle.std.specs.Prelude.{◌≡◌, ◌≤◌, ℕ, List, length};
-ghost use Rattle.dmis_program.specs.Meaning.{Meaning};
-ghost use Rattle.dmis_program.specs.Programs.{IsProgram};
+ghost use Rattle.protocol_model.specs.Names.{Meaning, IsProgram, all_of, AreBusy, AreAllBusy, CanFinish, rejoined, plan_left, CanMeasure, HasMeasured, AreInReach, StepsInReach, plan, Machine, Event as OneEvent, Job as OneJob, Outcome as OneOutcome};
 ghost use Rattle.protocol_model.specs.World.{start, run_of};
-ghost use Rattle.protocol_model.specs.Rounds.{all_of, AreBusy, AreAllBusy};
-ghost use Rattle.protocol_model.specs.Finishing.{CanFinish, rejoined, plan_left, CanMeasure, HasMeasured, AreInReach, StepsInReach};
-ghost use Rattle.protocol_model.specs.Plan.{plan};
 ghost use Rattle.protocol_model.specs.declared.plans.Start.TheVariants as Start;
-ghost use Rattle.fixed_um.specs.declared.frames.Frame.TheVariants.{Machine};
-ghost use Rattle.protocol_model.specs.declared.events.Event.{Event as OneEvent};
-ghost use Rattle.protocol_model.specs.declared.machine.Job.{Job as OneJob};
-ghost use Rattle.protocol_model.specs.declared.machine.Outcome.{Outcome as OneOutcome};
 ghost use Rattle.protocol_model.specs.declared.states.State.TheVariants as State;
 
 /// After every list of events, from any program, any rack and any window up to 16, where something is left to measure and a connection is

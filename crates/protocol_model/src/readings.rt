@@ -1,11 +1,7 @@
 // That each line is read as the interface says.
 
 ghost use Rattle.std.specs.Prelude.{ℕ, List};
-ghost use Rattle.dme_line.specs.CommandText.{ReadsCommand};
-ghost use Rattle.dme_line.specs.Homed.{ReadsHomed};
-ghost use Rattle.dme_line.specs.Points.{ReadsPoint};
-ghost use Rattle.dme_line.specs.Responses.{ReadsResponse};
-ghost use Rattle.protocol_model.specs.Readings.{command_of, response_of, point_of, homed_of};
+ghost use Rattle.protocol_model.specs.Names.{ReadsCommand, ReadsHomed, ReadsPoint, ReadsResponse, command_of, response_of, point_of, homed_of};
 
 /// Each line is read as a command and as a response, and each data text as a point and as an answer to `IsHomed`, as the interface says.
 /// No other result would do: `dme_line` has the laws that a line is read in one way.

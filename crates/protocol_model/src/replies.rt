@@ -1,10 +1,8 @@
 // The language of replies, and the table of marks against stages.
 
 ghost use Rattle.std.specs.Prelude.{List, false};
-ghost use Rattle.dme_line.specs.declared.commands.Kind.{Kind};
+ghost use Rattle.protocol_model.specs.Names.{Kind, asks_data, fits, Placed, marks_of, IsRepliesFront, AreAtFront, Accepts};
 ghost use Rattle.protocol_model.specs.declared.held.Stage.TheVariants as Stage;
-ghost use Rattle.protocol_model.specs.Open.{asks_data, fits};
-ghost use Rattle.protocol_model.specs.Language.{Placed, marks_of, IsRepliesFront, AreAtFront, Accepts};
 
 /// The table of marks against stages accepts exactly the prefixes of the language of replies: a counted command is received and
 /// complete, with its data in between if it asks for any; a failed one has a proper prefix of that, then one or more errors, then

@@ -14,78 +14,14 @@ ghost use Rattle.std.specs.Prelude.{
   Ok,
   Err,
 };
-ghost use Rattle.fixed_um.specs.declared.frames.Frame.TheVariants.{Machine, Part};
-ghost use Rattle.dme_line.specs.declared.tags.Tag.TheVariants.{Std, Event as OnEvent};
-ghost use Rattle.dme_line.specs.declared.commands.Csy.TheVariants.{MachineCsy, PartCsy};
+ghost use Rattle.protocol_model.specs.Names.{Machine, Part, Std, Event as OnEvent, MachineCsy, PartCsy, NoTag, BadArguments, program_of, Done, Touched, Missed, Fault, Mark, Reply, client_read, next_number, new_server, server_accepted, server_restarted, can, at, neg, along, from_above, part, feature_on, line, failed, Call, called, read_under, empty, one_point, circle, two_frames, two_points, same_twice, connect, accept, client_sends, server_reads, server_turn, machine, auto, client_reads, client_reads_all, client_leaves, server_leaves, abort, resume, client_restart, server_restart, quiet, quiet_to_the_end, opened, at_its_turn, change_while_two_wait, touch_while_one_waits, play, wrote_behind, said_behind, reported, report, contact, acks_under, failed_under, held_at};
 ghost use Rattle.dme_line.specs.declared.commands.Kind.TheVariants as kind;
 ghost use Rattle.dme_line.specs.declared.commands.Command.TheVariants as command;
-ghost use Rattle.dme_line.specs.declared.reading.LineFault.TheVariants.{NoTag, BadArguments};
-ghost use Rattle.dmis_program.specs.Meaning.{program_of};
 ghost use Rattle.protocol_model.specs.declared.held.Datum.TheVariants as datum;
 ghost use Rattle.protocol_model.specs.declared.held.Stage.TheVariants as stage;
-ghost use Rattle.protocol_model.specs.declared.machine.Outcome.TheVariants.{
-  Done,
-  Touched,
-  Missed,
-  Fault,
-};
 ghost use Rattle.protocol_model.specs.declared.states.State.TheVariants as State;
 ghost use Rattle.protocol_model.specs.declared.states.Cause.TheVariants as Cause;
-ghost use Rattle.protocol_model.specs.Replies.{Mark, Reply};
-ghost use Rattle.protocol_model.specs.Client.{client_read, next_number};
-ghost use Rattle.protocol_model.specs.Server.{new_server, server_accepted, server_restarted};
-ghost use Rattle.protocol_model.specs.Typed.{Event, can};
-ghost use Rattle.protocol_model.specs.Examples.{
-  at,
-  neg,
-  along,
-  from_above,
-  part,
-  feature_on,
-  line,
-  failed,
-  Call,
-  called,
-  read_under,
-};
-ghost use Rattle.protocol_model.specs.Scripts.{
-  empty,
-  one_point,
-  circle,
-  two_frames,
-  two_points,
-  same_twice,
-  connect,
-  accept,
-  client_sends,
-  server_reads,
-  server_turn,
-  machine,
-  auto,
-  client_reads,
-  client_reads_all,
-  client_leaves,
-  server_leaves,
-  abort,
-  resume,
-  client_restart,
-  server_restart,
-  quiet,
-  quiet_to_the_end,
-  opened,
-  at_its_turn,
-  change_while_two_wait,
-  touch_while_one_waits,
-  play,
-  wrote_behind,
-  said_behind,
-  reported,
-  report,
-  contact,
-  acks_under,
-  failed_under,
-  held_at,
-};
+ghost use Rattle.protocol_model.specs.Typed.{Event};
 
 /// The programs of these rows, as texts (ISO 22093).
 pub fn text_rows()

@@ -1,9 +1,7 @@
 // Streams of commands and of responses, cut anywhere.
 
 ghost use Rattle.std.specs.Prelude.{◌≡◌, ◌++◌, ℕ, List};
-ghost use Rattle.line_framing.specs.Next.{next_of};
-ghost use Rattle.protocol_model.specs.Streams.{Sent, commands, responses, AreWritable, stream_of, HandsFirst};
-ghost use Rattle.dme_line.specs.declared.responses.Response.{Response};
+ghost use Rattle.protocol_model.specs.Names.{next_of, Sent, commands, responses, AreWritable, stream_of, HandsFirst, Response};
 
 /// Bytes that, with what is still to come, are the written lines of commands: a framing buffer that holds them has nothing whole yet,
 /// or hands out the line of the first command, which reads as just this command under its tag, and what it then holds is, with what

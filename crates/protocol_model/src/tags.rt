@@ -1,10 +1,7 @@
 // The number of the tag that is drawn next.
 
 ghost use Rattle.std.specs.Prelude.{◌≡◌, ◌<◌, ◌≤◌, ℕ, List, None, Some, false, true};
-ghost use Rattle.dme_line.specs.declared.tags.Tag.{Tag};
-ghost use Rattle.protocol_model.specs.Client.{next_number};
-ghost use Rattle.protocol_model.specs.Open.{is_held};
-ghost use Rattle.protocol_model.specs.declared.held.OpenCommand.{OpenCommand};
+ghost use Rattle.protocol_model.specs.Names.{Tag, next_number, is_held, OpenCommand};
 
 /// After the number that was drawn last comes the first that is not held, where 1 follows 9,999;
 /// for standard and for event tags:

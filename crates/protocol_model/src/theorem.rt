@@ -1,11 +1,9 @@
 // The theorem over every list of events, with the bytes between both ends.
 
 ghost use Rattle.std.specs.Prelude.{◌≡◌, ◌≢◌, ◌≤◌, ℕ, List, None};
-ghost use Rattle.dmis_program.specs.Meaning.{Meaning};
-ghost use Rattle.dmis_program.specs.Programs.{IsProgram};
+ghost use Rattle.protocol_model.specs.Names.{Meaning, IsProgram, Sound, Told, World};
 ghost use Rattle.protocol_model.specs.declared.states.State.TheVariants as State;
-ghost use Rattle.protocol_model.specs.Claims.{Sound, Told};
-ghost use Rattle.protocol_model.specs.World.{World, start, run_of};
+ghost use Rattle.protocol_model.specs.World.{start, run_of};
 ghost use Rattle.protocol_model.specs.declared.events.Event.{Event};
 
 /// After every list of events, from any program, any rack and any window up to 16:

@@ -1,33 +1,11 @@
 // Examples: when a client is done.
 
 ghost use Rattle.std.specs.Prelude.{◌≡◌, pos, true, false, [], ◌∷◌, ◌++◌, codes};
-ghost use Rattle.dme_line.specs.declared.tags.Tag.TheVariants.{Std};
+ghost use Rattle.protocol_model.specs.Names.{Std, Missed, Mark, client_read, last_state, can, after, at, feature_on, one_point, circle, server_reads, machine, client_reads, client_reads_all, client_leaves, abort, quiet_to_the_end, opened, at_its_turn, play, reported, report, contact, with_abort};
 ghost use Rattle.fixed_um.specs.declared.frames.Frame.TheVariants as frame;
 ghost use Rattle.protocol_model.specs.declared.held.Stage.TheVariants as stage;
-ghost use Rattle.protocol_model.specs.declared.machine.Outcome.TheVariants.{Missed};
 ghost use Rattle.protocol_model.specs.declared.states.State.TheVariants as State;
-ghost use Rattle.protocol_model.specs.Replies.{Mark};
-ghost use Rattle.protocol_model.specs.Client.{client_read, last_state};
-ghost use Rattle.protocol_model.specs.Typed.{Event, can, after};
-ghost use Rattle.protocol_model.specs.Examples.{at, feature_on};
-ghost use Rattle.protocol_model.specs.Scripts.{
-  one_point,
-  circle,
-  server_reads,
-  machine,
-  client_reads,
-  client_reads_all,
-  client_leaves,
-  abort,
-  quiet_to_the_end,
-  opened,
-  at_its_turn,
-  play,
-  reported,
-  report,
-  contact,
-};
-ghost use Rattle.protocol_model.specs.Turns.{with_abort};
+ghost use Rattle.protocol_model.specs.Typed.{Event};
 
 /// When a client is done, what it leaves, and what it cannot begin again with.
 pub fn done_rows()

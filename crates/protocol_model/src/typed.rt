@@ -1,10 +1,8 @@
 // The theorem over every list of events, on connections that carry lines as values.
 
 ghost use Rattle.std.specs.Prelude.{◌≡◌, ◌≢◌, ◌≤◌, ℕ, List};
-ghost use Rattle.dmis_program.specs.Meaning.{Meaning};
-ghost use Rattle.dmis_program.specs.Programs.{IsProgram};
+ghost use Rattle.protocol_model.specs.Names.{Meaning, IsProgram, Sound, Told};
 ghost use Rattle.protocol_model.specs.declared.states.State.TheVariants as State;
-ghost use Rattle.protocol_model.specs.Claims.{Sound, Told};
 ghost use Rattle.protocol_model.specs.Typed.{Event, start, run_of};
 
 /// After every list of events, the features that the client holds are the first of the program, their points those of disjoint, ascending,

@@ -1,16 +1,9 @@
 // What is written, done and counted in a run that nothing disturbs.
 
 ghost use Rattle.std.specs.Prelude.{◌≡◌, ◌≤◌, ℕ, List, [], false, true};
-ghost use Rattle.dmis_program.specs.Meaning.{Meaning};
-ghost use Rattle.dmis_program.specs.Programs.{IsProgram};
-ghost use Rattle.protocol_model.specs.Plan.{plan};
-ghost use Rattle.protocol_model.specs.Ends.{ServerEnd};
-ghost use Rattle.protocol_model.specs.World.{Link, start, run_of};
+ghost use Rattle.protocol_model.specs.Names.{Meaning, IsProgram, plan, ServerEnd, Link, AreUndisturbed, AreFirstLines, acts_planned, AreFirstActs, acts_in, AreFirstOf, followed, homings_of, met, IsHomedOff, Start as Begin, Planned};
+ghost use Rattle.protocol_model.specs.World.{start, run_of};
 ghost use Rattle.protocol_model.specs.declared.events.Event.{Event};
-ghost use Rattle.protocol_model.specs.Undisturbed.{AreUndisturbed, AreFirstLines, acts_planned, AreFirstActs, acts_in, AreFirstOf};
-ghost use Rattle.protocol_model.specs.Undisturbed.{followed, homings_of, met, IsHomedOff};
-ghost use Rattle.protocol_model.specs.declared.plans.Start.{Start as Begin};
-ghost use Rattle.protocol_model.specs.declared.plans.Planned.{Planned};
 ghost use Rattle.protocol_model.specs.declared.plans.Start.TheVariants as Start;
 
 /// After every list of events in which the two sides only connect, write, read and work, bytes move, and the machine is done with what it

@@ -4,3 +4,4 @@ pub mod Recordings
 pub mod Runs
 pub mod Worlds
 pub mod ToldExamples
+pub mod Names

@@ -1,18 +1,8 @@
 // Examples: what calls report to clients that are written out, and what is written for them.
 
 ghost use Rattle.std.specs.Prelude.{◌≡◌, [], ◌∷◌, codes, map, true, false};
-ghost use Rattle.client_core.specs.Calls.{ReadOne, Leave, Connected, Restart, Resume};
-ghost use Rattle.record_laws.specs.Told.{told_behind};
-ghost use Rattle.record_laws.specs.ToldExamples.{changing};
-ghost use Rattle.contact_ledger.specs.Lines.{text_of};
-ghost use Rattle.protocol_model.specs.World.{start};
-ghost use Rattle.protocol_model.specs.declared.events.Event.TheVariants.{ClientReads};
-ghost use Rattle.record_text.specs.Entries.{entry_line};
-ghost use Rattle.record_text.specs.declared.entries.Entry.TheVariants.{Told, Refused, Completed};
-ghost use Rattle.record_text.specs.Growths.{with_errors};
-ghost use Rattle.record_laws.specs.Recordings.{Calls, Tell, AreFit, behind_moments, told_now};
-ghost use Rattle.record_laws.specs.Examples.{contact, empty, feature, halted, program};
-ghost use Rattle.record_laws.specs.Worlds.{told_in};
+ghost use Rattle.record_laws.specs.Names.{ReadOne, Leave, Connected, Restart, Resume, told_behind, changing, text_of, start, ClientReads, entry_line, Refused, Completed, with_errors, Calls, Tell, AreFit, behind_moments, told_now, contact, empty, feature, halted, program, told_in};
+ghost use Rattle.record_text.specs.declared.entries.Entry.TheVariants.{Told};
 ghost use Rattle.contact_ledger.specs.declared.acts.Act.TheVariants as act;
 
 /// A completed command reports its act once, under the number of the connection. Acts that were counted before are not reported again, and

@@ -11,3 +11,4 @@ pub mod Stages
 pub mod Strangers
 pub mod Beginnings
 pub mod Growths
+pub mod Names

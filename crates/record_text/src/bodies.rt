@@ -1,13 +1,8 @@
 // What the entries of a record leave.
 
 ghost use Rattle.std.specs.Prelude.{◌≡◌, ◌++◌, ℕ, Err, IfOk, OnOk, MatchOption};
-ghost use Rattle.fixed_um.specs.Calls.{Finds};
-ghost use Rattle.contact_ledger.specs.Ledgers.{IsConnection};
-ghost use Rattle.dmis_program.specs.declared.features.Wanted.{Wanted};
-ghost use Rattle.record_text.specs.Entries.{IsWrittenEntry};
-ghost use Rattle.record_text.specs.Records.{Kept, nothing_kept, last_frame, errors_during, with_told, with_refused, IsLastRun, Completes, Follows};
-ghost use Rattle.record_text.specs.Serving.{CanComplete};
-ghost use Rattle.record_text.specs.declared.faults.RecordFault.TheVariants.{Damaged};
+ghost use Rattle.record_text.specs.Names.{Finds, IsConnection, Wanted, IsWrittenEntry, nothing_kept, last_frame, errors_during, with_told, with_refused, IsLastRun, Completes, Follows, CanComplete, Damaged};
+ghost use Rattle.record_text.specs.Records.{Kept};
 
 use crate::asked::Asked;
 use crate::comparing::same_name;

@@ -1,10 +1,7 @@
 // Reading the line of an entry.
 
 ghost use Rattle.std.specs.Prelude.{◌≡◌, ◌++◌, codes, MatchOption, IfOk, ℕ, List};
-ghost use Rattle.fixed_um.specs.Calls.{Finds};
-ghost use Rattle.fixed_um.specs.Names.{IsName};
-ghost use Rattle.contact_ledger.specs.Ledgers.{IsConnection};
-ghost use Rattle.record_text.specs.Entries.{IsRefusal, IsWrittenEntry, refused_line, completed_line, entry_line};
+ghost use Rattle.record_text.specs.Names.{Finds, IsName, IsConnection, IsRefusal, IsWrittenEntry, refused_line, completed_line, entry_line};
 
 use crate::entries::{Entry, Refusal};
 use crate::parts::is_text;

@@ -1,12 +1,7 @@
 // The head of a record, line by line.
 
 ghost use Rattle.std.specs.Prelude.{◌≡◌, ◌<◌, ◌∷◌, ℕ, length, IfOk, IfSome, IfNone, Err};
-ghost use Rattle.fixed_um.specs.Calls.{Finds};
-ghost use Rattle.contact_ledger.specs.Lines.{whole_lines};
-ghost use Rattle.record_text.specs.Heads.{IsPart, part_line, header};
-ghost use Rattle.record_text.specs.Stages.{Stage, Next, stage_of, IsValid, IsOpen, HasHead, HasTornHead, IsBadHead};
-ghost use Rattle.record_text.specs.declared.faults.RecordFault.TheVariants.{Damaged};
-ghost use Rattle.record_text.specs.declared.heads.Place.TheVariants.{Between, Within};
+ghost use Rattle.record_text.specs.Names.{Finds, whole_lines, IsPart, part_line, header, Stage, Next, stage_of, IsValid, IsOpen, HasHead, HasTornHead, IsBadHead, Damaged, Between, Within};
 
 use crate::faults::RecordFault;
 use crate::heads::{Head, Place, Unfinished};

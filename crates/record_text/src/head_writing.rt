@@ -1,14 +1,7 @@
 // Writing the head of a record.
 
 ghost use Rattle.std.specs.Prelude.{◌≡◌, ◌++◌, ◌∷◌, [], map, length, OnOk, option_map};
-ghost use Rattle.std.specs.List.{AllByRecursion};
-ghost use Rattle.fixed_um.specs.Calls.{Writes};
-ghost use Rattle.fixed_um.specs.Names.{IsName};
-ghost use Rattle.contact_ledger.specs.Lines.{text_of, spaced};
-ghost use Rattle.contact_ledger.specs.FeatureTexts.{IsPointCount};
-ghost use Rattle.dmis_program.specs.Programs.{IsFeature};
-ghost use Rattle.record_text.specs.Heads.{IsAskedTouch, IsAsked, AreAsked, part_lines};
-ghost use Rattle.record_text.specs.Heads.{touch_fields, touch_line, feature_line, wanted_lines, asked_lines, head_lines};
+ghost use Rattle.record_text.specs.Names.{AllByRecursion, Writes, IsName, text_of, spaced, IsPointCount, IsFeature, IsAskedTouch, IsAsked, AreAsked, part_lines, touch_fields, touch_line, feature_line, wanted_lines, asked_lines, head_lines};
 
 use contact_ledger::fields::{add_direction, add_frame, add_name, add_number, add_point};
 use dmis_program::{Program, Touch, Wanted};

@@ -1,16 +1,7 @@
 // What follows from the definitions alone. Each function has laws for its contract and does nothing.
 
 ghost use Rattle.std.specs.Prelude.{◌≡◌, ◌<◌, ◌++◌, ◌∷◌, [], ℕ, List, Option, codes, length, take};
-ghost use Rattle.contact_ledger.specs.Lines.{text_of};
-ghost use Rattle.contact_ledger.specs.declared.acts.Act.{Act};
-ghost use Rattle.dmis_program.specs.declared.features.Wanted.{Wanted};
-ghost use Rattle.fixed_um.specs.declared.lengths.Point.{Point};
-ghost use Rattle.record_text.specs.Entries.{IsFitting, fitting, kept_error};
-ghost use Rattle.record_text.specs.Heads.{IsPartGiven, AreAsked};
-ghost use Rattle.record_text.specs.Reading.{IsRecord, IsUnbegun, IsDamagedRecord};
-ghost use Rattle.record_text.specs.Records.{Recorded, IsRecorded, recorded, Kept, nothing_kept, errors_during, with_told, with_completed, Follow, record_lines};
-ghost use Rattle.record_text.specs.Cuts.{ReadsCut};
-ghost use Rattle.record_text.specs.declared.entries.Entry.{Entry};
+ghost use Rattle.record_text.specs.Names.{text_of, Act, Wanted, Point, IsFitting, fitting, kept_error, IsPartGiven, AreAsked, IsRecord, IsUnbegun, IsDamagedRecord, Recorded, IsRecorded, recorded, Kept, nothing_kept, errors_during, with_told, with_completed, Follow, record_lines, ReadsCut, Entry};
 
 /// A text is read in one way: it is one record, or not a record yet, or a line of it is the first that is damaged.
 pub fn records_are_read_in_one_way()

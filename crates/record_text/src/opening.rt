@@ -1,10 +1,7 @@
 // What a record's text gives a run to continue from.
 
 ghost use Rattle.std.specs.Prelude.{◌≡◌, ◌≤◌, ℕ, List, length, take, option_map, Err, IfOk, OnOk, IfErr};
-ghost use Rattle.contact_ledger.specs.Ledgers.{connection_most};
-ghost use Rattle.protocol_model.specs.Claims.{Sound};
-ghost use Rattle.record_text.specs.Records.{Recorded};
-ghost use Rattle.record_text.specs.Beginnings.{AreWhole, IsNew, Continues, IsSame, RefusesSame, BeginsRun};
+ghost use Rattle.record_text.specs.Names.{connection_most, Sound, Recorded, AreWhole, IsNew, Continues, IsSame, RefusesSame, BeginsRun};
 
 use crate::faults::RecordFault;
 use crate::head_writing::write_head;

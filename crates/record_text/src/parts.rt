@@ -1,8 +1,7 @@
 // The part that is measured.
 
 ghost use Rattle.std.specs.Prelude.{◌≡◌, ◌↔◌, ◌≤◌, IsTrue, IfOk, length, true};
-ghost use Rattle.std.specs.List.{list_all};
-ghost use Rattle.record_text.specs.Heads.{is_printed, IsPrinted, IsPart};
+ghost use Rattle.record_text.specs.Names.{list_all, is_printed, IsPrinted, IsPart};
 
 use std::alloc::{AllocError, Global};
 use std::marker::Model;

@@ -1,11 +1,7 @@
 // Reading a record.
 
 ghost use Rattle.std.specs.Prelude.{◌≡◌, ◌+◌, ◌<◌, ◌^◌, ℕ, length, Err, IfOk, OnOk};
-ghost use Rattle.contact_ledger.specs.Lines.{whole_lines};
-ghost use Rattle.record_text.specs.Records.{Kept, nothing_kept};
-ghost use Rattle.record_text.specs.Reading.{ReadsRecord};
-ghost use Rattle.record_text.specs.Stages.{body, Leads, FollowsLine, StopsAfter};
-ghost use Rattle.record_text.specs.declared.faults.RecordFault.TheVariants.{Damaged};
+ghost use Rattle.record_text.specs.Names.{whole_lines, Kept, nothing_kept, ReadsRecord, body, Leads, FollowsLine, StopsAfter, Damaged};
 
 use crate::asked::Asked;
 use crate::bodies::Body;

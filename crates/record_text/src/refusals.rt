@@ -1,10 +1,7 @@
 // Writing the errors that a server reported.
 
 ghost use Rattle.std.specs.Prelude.{◌≡◌, ◌++◌, ◌∷◌, [], OnOk, IfOk, length, string_bytes};
-ghost use Rattle.fixed_um.specs.Calls.{Writes};
-ghost use Rattle.contact_ledger.specs.Lines.{text_of};
-ghost use Rattle.session_telling.specs.Visible.{visible};
-ghost use Rattle.record_text.specs.Entries.{kept_error, refused_line};
+ghost use Rattle.record_text.specs.Names.{Writes, text_of, visible, kept_error, refused_line};
 
 use itoa::Buffer;
 use session_telling::push_visible;

@@ -1,11 +1,7 @@
 // The contacts that complete a feature.
 
 ghost use Rattle.std.specs.Prelude.{◌≡◌, ◌↔◌, ◌≤◌, ◌∷◌, ℕ, List, drop, IsTrue, IfOk};
-ghost use Rattle.fixed_um.specs.Calls.{Finds};
-ghost use Rattle.contact_ledger.specs.declared.acts.Act.{Act};
-ghost use Rattle.protocol_model.specs.Claims.{contacts, Serves};
-ghost use Rattle.record_text.specs.Records.{last_frame};
-ghost use Rattle.record_text.specs.Serving.{IsServedBy};
+ghost use Rattle.record_text.specs.Names.{Finds, Act, contacts, Serves, last_frame, IsServedBy};
 
 use crate::comparing::{same_dir, same_frame, same_name, same_point};
 use crate::telling::is_contact;

@@ -1,13 +1,7 @@
 // Writing the entries of a run.
 
 ghost use Rattle.std.specs.Prelude.{◌≡◌, ◌++◌, ◌∷◌, [], map, OnOk, OnErr};
-ghost use Rattle.std.specs.List.{AllByRecursion};
-ghost use Rattle.fixed_um.specs.Calls.{Writes};
-ghost use Rattle.contact_ledger.specs.Lines.{text_of};
-ghost use Rattle.contact_ledger.specs.Ledgers.{is_contact};
-ghost use Rattle.contact_ledger.specs.ContactTexts.{IsWrittenAct};
-ghost use Rattle.record_text.specs.Entries.{entry_line, completed_line};
-ghost use Rattle.record_text.specs.Tellings.{Counts, entries_of, told_on};
+ghost use Rattle.record_text.specs.Names.{AllByRecursion, Writes, text_of, is_contact, IsWrittenAct, entry_line, completed_line, Counts, entries_of, told_on};
 
 use contact_ledger::fields::add_name;
 use contact_ledger::{Act, add_entry};

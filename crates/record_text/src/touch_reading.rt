@@ -1,11 +1,7 @@
 // The lines of a wanted feature.
 
 ghost use Rattle.std.specs.Prelude.{◌≡◌, ◌∷◌, [], codes, decimal, IfOk};
-ghost use Rattle.fixed_um.specs.Calls.{Finds};
-ghost use Rattle.fixed_um.specs.Names.{IsName};
-ghost use Rattle.contact_ledger.specs.Lines.{fields_behind};
-ghost use Rattle.contact_ledger.specs.FeatureTexts.{IsPointCount};
-ghost use Rattle.record_text.specs.Heads.{IsAskedTouch, touch_fields, touch_line, feature_line};
+ghost use Rattle.record_text.specs.Names.{Finds, IsName, fields_behind, IsPointCount, IsAskedTouch, touch_fields, touch_line, feature_line};
 
 use contact_ledger::forms::{Forms, read_name, read_number};
 use contact_ledger::lines::{first_field, next_field};

@@ -18,3 +18,4 @@ pub mod Numerals
 pub mod Arguments
 pub mod Strangers
 pub mod Examples
+pub mod Names

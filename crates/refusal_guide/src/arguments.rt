@@ -1,17 +1,8 @@
 // Which parameter of a statement does not fit, or how many there are.
 
 ghost use Rattle.std.specs.Prelude.{◌≡◌, ◌≤◌, length, codes, IfOk};
-ghost use Rattle.std.specs.List.{list_all};
-ghost use Rattle.std.specs.Char.{is_ascii_alphabetic};
+ghost use Rattle.refusal_guide.specs.Names.{list_all, is_ascii_alphabetic, bytes_eq, keyword_of, is_letters, named_by, caused_by, within_ends, count_before, last_apostrophe, last_text, open_text, count_cause, form_cause, meas_cause, ptmeas_cause, tool_front, snslct_cause, recall_cause, open_cause, head_cause, params_cause, argument_cause};
 ghost use Rattle.std.specs.Option.{option_map};
-ghost use Rattle.std.specs.Str.{bytes_eq};
-ghost use Rattle.dmis_program.specs.Keywords.{keyword_of};
-ghost use Rattle.dmis_program.specs.Parameters.{is_letters};
-ghost use Rattle.refusal_guide.specs.Words.{named_by, caused_by};
-ghost use Rattle.refusal_guide.specs.Causes.{within_ends};
-ghost use Rattle.refusal_guide.specs.Numerals.{count_before};
-ghost use Rattle.refusal_guide.specs.Arguments.{last_apostrophe, last_text, open_text, count_cause, form_cause, meas_cause};
-ghost use Rattle.refusal_guide.specs.Arguments.{ptmeas_cause, tool_front, snslct_cause, recall_cause, open_cause, head_cause, params_cause, argument_cause};
 
 use crate::causes::Cause;
 use crate::names::name_reason;

@@ -1,10 +1,8 @@
 // What is above a statement that is refused.
 
 ghost use Rattle.std.specs.Prelude.{◌≡◌, ◌∷◌, [], IfOk, IfSome, IfNone, None, nat_lt, true};
+ghost use Rattle.refusal_guide.specs.Names.{opened_by, begun, one_touch_more, block_after, above_line, open_block, last_or, text_reading};
 ghost use Rattle.std.specs.Option.{option_map};
-ghost use Rattle.refusal_guide.specs.Blocks.{opened_by, begun, one_touch_more, block_after, above_line, open_block};
-ghost use Rattle.std.specs.List.{last_or};
-ghost use Rattle.dmis_text.specs.Reading.{text_reading};
 
 use crate::lines::Place;
 use crate::statements::next_statement;

@@ -1,21 +1,9 @@
 // Examples: where words are, how lines are shown, and what is at fault.
 
 ghost use Rattle.std.specs.Prelude.{◌≡◌, [], ◌∷◌, ◌++◌, codes, decimal, replicate, Some, None, true, false};
-ghost use Rattle.refusal_guide.specs.Lines.{bytes_from, line_of, shown_from};
-ghost use Rattle.refusal_guide.specs.Windows.{shown_start};
-ghost use Rattle.refusal_guide.specs.Words.{first_place, word_in, caused};
-ghost use Rattle.refusal_guide.specs.Spots.{word_spot, param_spot};
-ghost use Rattle.refusal_guide.specs.Blocks.{open_block};
-ghost use Rattle.refusal_guide.specs.BadBytes.{has_bad_byte, near, line_bytes};
+ghost use Rattle.refusal_guide.specs.Names.{bytes_from, line_of, shown_from, shown_start, first_place, word_in, caused, word_spot, param_spot, open_block, has_bad_byte, near, line_bytes, place_text, name_cause, name_reason, digits_before, numeral_cause, leftmost, bad_numeral, count_cause, last_text, argument_cause, Length, Component, TooManyDigits, TooLarge, at_fault, going, labelled, ending, one_of_two, unlabelled, moving, gap, measuring};
 ghost use Rattle.refusal_guide.specs.Causes as why;
-ghost use Rattle.refusal_guide.specs.Places.{place_text};
-ghost use Rattle.refusal_guide.specs.BadNames.{name_cause, name_reason};
-ghost use Rattle.refusal_guide.specs.Numerals.{digits_before, numeral_cause, leftmost, bad_numeral};
-ghost use Rattle.refusal_guide.specs.Arguments.{count_cause, last_text, argument_cause};
 ghost use Rattle.refusal_guide.specs.declared.causes.Cause.TheVariants as cause;
-ghost use Rattle.refusal_guide.specs.declared.numerals.Measure.TheVariants.{Length, Component};
-ghost use Rattle.fixed_um.specs.declared.numerals.NumeralFault.TheVariants.{TooManyDigits, TooLarge};
-ghost use Rattle.refusal_guide.specs.Examples.{at_fault, going, labelled, ending, one_of_two, unlabelled, moving, gap, measuring};
 
 /// A text is shown from the line of a number on, from its last line on if it has fewer.
 pub fn lines_are_counted_from_one()

@@ -1,8 +1,7 @@
 // The files of an order, and what is shown if one of them is at fault: its name, and where it is refused.
 
 ghost use Rattle.std.specs.Prelude.{◌≡◌, [], IfOk, string_bytes};
-ghost use Rattle.refusal_guide.specs.Places.{Places};
-ghost use Rattle.refusal_guide.specs.Files.{file_in, is_short, IsUnnamed, IsFaultShown, IsPlaceShown};
+ghost use Rattle.refusal_guide.specs.Names.{Places, file_in, is_short, IsUnnamed, IsFaultShown, IsPlaceShown};
 
 use crate::places::{Refused, write_place};
 use contact_ledger::TextFault;

@@ -1,11 +1,7 @@
 // The line of a number, and how it is shown.
 
 ghost use Rattle.std.specs.Prelude.{◌≡◌, ◌==◌, ◌<◌, ◌≤◌, ◌+◌, ◌-◌, ◌++◌, length, drop, OnOk, IfOk, IfSome, string_bytes};
-ghost use Rattle.std.specs.List.{flat_map, position};
-ghost use Rattle.std.specs.Str.Lines.{lines};
-ghost use Rattle.refusal_guide.specs.Windows.{shown_start};
-ghost use Rattle.refusal_guide.specs.Reasons.{spot_at, spot_of};
-ghost use Rattle.refusal_guide.specs.Lines.{lines_from, bytes_from, after_feeds, first_of, visible_in_line, shown_front, shown_from};
+ghost use Rattle.refusal_guide.specs.Names.{flat_map, position, lines, shown_start, spot_at, spot_of, lines_from, bytes_from, after_feeds, first_of, visible_in_line, shown_front, shown_from};
 
 use dmis_text::cut_line;
 use session_telling::push_visible;

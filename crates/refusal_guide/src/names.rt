@@ -1,10 +1,8 @@
 // Why a text is not a name.
 
 ghost use Rattle.std.specs.Prelude.{◌≡◌, IfOk};
+ghost use Rattle.refusal_guide.specs.Names.{is_name_text, named_by, caused_by, leftmost_byte, name_cause, name_reason};
 ghost use Rattle.std.specs.Option.{option_map};
-ghost use Rattle.fixed_um.specs.Names.{is_name_text};
-ghost use Rattle.refusal_guide.specs.Words.{named_by, caused_by};
-ghost use Rattle.refusal_guide.specs.BadNames.{leftmost_byte, name_cause, name_reason};
 
 use crate::causes::Cause;
 use crate::words::{Explained, Word};

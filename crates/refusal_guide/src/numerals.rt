@@ -1,9 +1,7 @@
 // Which numeral does not read, and why.
 
 ghost use Rattle.std.specs.Prelude.{◌≡◌, ◌<◌, length, IfSome};
-ghost use Rattle.std.specs.List.{position};
-ghost use Rattle.refusal_guide.specs.Lengths.{length_fault};
-ghost use Rattle.refusal_guide.specs.Numerals.{component_fault, measure_fault, is_no, is_exponent, digits_before, numeral_cause};
+ghost use Rattle.refusal_guide.specs.Names.{position, length_fault, component_fault, measure_fault, is_no, is_exponent, digits_before, numeral_cause};
 
 use crate::causes::Cause;
 use crate::words::{Explained, Word};

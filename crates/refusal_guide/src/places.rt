@@ -1,8 +1,7 @@
 // A refused text: the line, and what is wrong with it.
 
 ghost use Rattle.std.specs.Prelude.{◌≡◌, OnOk, OnErr, IfOk, string_bytes};
-ghost use Rattle.refusal_guide.specs.Words.{caused_by};
-ghost use Rattle.refusal_guide.specs.Places.{number_of, place_text, IsReason, IsPlace, IsPlaceOf, Places};
+ghost use Rattle.refusal_guide.specs.Names.{caused_by, number_of, place_text, IsReason, IsPlace, IsPlaceOf, Places};
 
 use crate::fields::{Form, range_reason, twice_reason};
 use crate::ledgers::{contact_reason, feature_reason, has_return};

@@ -1,15 +1,8 @@
 // Why a program is refused, and which word is at fault.
 
 ghost use Rattle.std.specs.Prelude.{◌≡◌, length, Some, IfOk};
+ghost use Rattle.refusal_guide.specs.Names.{lines, first_of, caused_by, IsByteReason, truncated, long_line, major_of, major_cause, unsupported_cause, inside_block, too_few_points, unknown_frame, first_at_fault, zero_direction, spot_at, spot_of, IsOfStatement, IsOfLine, IsOfPlace, IsProgramReason, leftmost, parameter_cause, bad_numeral};
 ghost use Rattle.std.specs.Option.{option_map};
-ghost use Rattle.std.specs.Str.Lines.{lines};
-ghost use Rattle.refusal_guide.specs.Lines.{first_of};
-ghost use Rattle.refusal_guide.specs.Words.{caused_by};
-ghost use Rattle.refusal_guide.specs.BadBytes.{IsByteReason};
-ghost use Rattle.refusal_guide.specs.Causes.{truncated, long_line, major_of, major_cause, unsupported_cause, inside_block, too_few_points};
-ghost use Rattle.refusal_guide.specs.Causes.{unknown_frame, first_at_fault, zero_direction};
-ghost use Rattle.refusal_guide.specs.Reasons.{spot_at, spot_of, IsOfStatement, IsOfLine, IsOfPlace, IsProgramReason};
-ghost use Rattle.refusal_guide.specs.Numerals.{leftmost, parameter_cause, bad_numeral};
 
 use crate::arguments::{argument_reason, count_before, within};
 use crate::bad_bytes::bad_byte;

@@ -1,9 +1,7 @@
 // The sentence on a refusal by itself, without its line.
 
 ghost use Rattle.std.specs.Prelude.{◌≡◌, OnErr, IfOk};
-ghost use Rattle.refusal_guide.specs.Reasons.{IsProgramReason};
-ghost use Rattle.refusal_guide.specs.Passages.{spot_in};
-ghost use Rattle.refusal_guide.specs.Words.{caused_by};
+ghost use Rattle.refusal_guide.specs.Names.{IsProgramReason, spot_in, caused_by};
 
 use crate::programs::program_reason;
 use crate::words::Reason;

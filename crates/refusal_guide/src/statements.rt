@@ -1,11 +1,8 @@
 // The statement that is refused, and where its words are.
 
 ghost use Rattle.std.specs.Prelude.{◌≡◌, ◌∷◌, [], IfOk, IfSome, IfNone, Some, slice_get};
-ghost use Rattle.dmis_text.specs.Reading.{text_reading};
+ghost use Rattle.refusal_guide.specs.Names.{text_reading, keyword_of, named_by, caused, caused_by, after_word, after_label, after_params, word_from, part_spot, word_spot, param_spot};
 ghost use Rattle.std.specs.Option.{option_map};
-ghost use Rattle.dmis_program.specs.Keywords.{keyword_of};
-ghost use Rattle.refusal_guide.specs.Words.{named_by, caused, caused_by};
-ghost use Rattle.refusal_guide.specs.Spots.{after_word, after_label, after_params, word_from, part_spot, word_spot, param_spot};
 
 use crate::causes::Cause;
 use crate::words::{Explained, Word, place_from};

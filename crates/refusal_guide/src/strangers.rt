@@ -1,8 +1,7 @@
 // Why a record is not the one of a run: it is of another part, or of another program.
 
 ghost use Rattle.std.specs.Prelude.{◌≡◌, OnErr, IfOk, option_map, string_bytes};
-ghost use Rattle.fixed_um.specs.Calls.{Writes};
-ghost use Rattle.refusal_guide.specs.Strangers.{other_part_text};
+ghost use Rattle.refusal_guide.specs.Names.{Writes, other_part_text};
 
 use crate::touches::Request;
 use dmis_program::{Program, Touch, Wanted};

@@ -1,12 +1,7 @@
 // What `dme` refuses by a code.
 
 ghost use Rattle.std.specs.Prelude.{◌≡◌, ◌≤◌, true, find, length, MatchOption};
-ghost use Rattle.std.specs.List.{list_all, prefix_len};
-ghost use Rattle.std.specs.Char.{is_ascii_digit};
-ghost use Rattle.refusal_guide.specs.declared.topics.TheConstants.{TOPICS};
-ghost use Rattle.refusal_guide.specs.Titles.{title_of, is_of_code, code_in, is_called, IsTitleOf};
-ghost use Rattle.refusal_guide.specs.Codes.{is_error_number, is_code_of, topic_of};
-ghost use Rattle.dmis_program.specs.Messages.{refusal_text};
+ghost use Rattle.refusal_guide.specs.Names.{list_all, prefix_len, is_ascii_digit, TOPICS, title_of, is_of_code, code_in, is_called, IsTitleOf, is_error_number, is_code_of, topic_of, refusal_text};
 
 use dmis_program::Refusal;
 

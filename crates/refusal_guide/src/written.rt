@@ -1,9 +1,7 @@
 // The page of each topic: what it means, what to do about it, and a line as it should be; and its text.
 
 ghost use Rattle.std.specs.Prelude.{◌≡◌, ◌<◌, length, IfOk, string_bytes};
-ghost use Rattle.fixed_um.specs.Calls.{Writes};
-ghost use Rattle.refusal_guide.specs.Pages.{page_text};
-ghost use Rattle.refusal_guide.specs.Titles.{title_of};
+ghost use Rattle.refusal_guide.specs.Names.{Writes, page_text, title_of};
 
 use crate::topics::Topic;
 use std::alloc::{AllocError, Global};

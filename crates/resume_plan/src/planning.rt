@@ -1,11 +1,7 @@
 // The commands of a plan.
 
 ghost use Rattle.std.specs.Prelude.{◌≡◌, ◌↔◌, ◌≤◌, ◌<◌, ◌++◌, ◌∷◌, [], true, false, length, All, OnOk, IfOk, drop, option_copied};
-ghost use Rattle.dmis_program.specs.Programs.{feature_touches};
-ghost use Rattle.protocol_model.specs.PlanReading.{touches_of};
-ghost use Rattle.protocol_model.specs.Plan.{planned, framing, tooling, stepping, clearing, starting, behind, plan};
-ghost use Rattle.resume_plan.specs.Made.{planned_with};
-ghost use Rattle.resume_plan.specs.Sendable.{IsSendable};
+ghost use Rattle.resume_plan.specs.Names.{feature_touches, touches_of, planned, framing, tooling, stepping, clearing, starting, behind, plan, planned_with, IsSendable};
 
 use crate::position::{Position, ends_feature, position_behind};
 use dme_line::{Command, Csy};

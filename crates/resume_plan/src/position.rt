@@ -1,9 +1,7 @@
 // Where a plan begins in a program.
 
 ghost use Rattle.std.specs.Prelude.{◌≡◌, None, option_copied};
-ghost use Rattle.dmis_program.specs.Meaning.{block_touches};
-ghost use Rattle.fixed_um.specs.declared.frames.Frame.TheVariants.{Machine};
-ghost use Rattle.protocol_model.specs.Plan.{is_empty, behind, up_to, tool_behind, frame_behind};
+ghost use Rattle.resume_plan.specs.Names.{block_touches, Machine, is_empty, behind, up_to, tool_behind, frame_behind};
 
 use dmis_program::Step;
 use fixed_um::{Frame, Name};

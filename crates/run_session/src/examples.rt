@@ -1,12 +1,8 @@
 // Examples: what is asked and what comes of it. Each function has laws for its contract and does nothing.
 
 ghost use Rattle.std.specs.Prelude.{◌≡◌, ℕ, [], ◌∷◌, true, false, length, Some};
-ghost use Rattle.effects.specs.Effects.{Append, Keep, Byte, Receive, Exit, Done, Bytes, Short};
-ghost use Rattle.effects.specs.declared.vocabulary.Peer.TheVariants.{Server};
-ghost use Rattle.protocol_model.specs.declared.states.State.TheVariants.{Running};
-ghost use Rattle.effects.specs.declared.vocabulary.Growth.TheVariants.{Record, Features};
-ghost use Rattle.run_session.specs.Records.{State, Outside, IsQuietAsk, AsksAt, IsDue, IsDueBy, Unforced, HasTold, HasFollowed, appended, kept, filed_by, lacking, confirms_pause};
-ghost use Rattle.run_session.specs.declared.stages.Stage.TheVariants.{Recording, Settling, Sending, Receiving, Awaiting, Returning, Telling, Exiting};
+ghost use Rattle.run_session.specs.Names.{Append, Keep, Byte, Receive, Exit, Bytes, Short, Server, Running, Record, Features, State, Outside, IsQuietAsk, AsksAt, IsDue, IsDueBy, Unforced, HasTold, HasFollowed, appended, kept, filed_by, lacking, confirms_pause, Recording, Settling, Sending, Receiving, Awaiting, Returning, Telling, Exiting};
+ghost use Rattle.effects.specs.Effects.{Done};
 
 /// What was added is in the file, and on the device only if it was forced there; of what was not written the file has the first bytes, and
 /// what was safe stays so.

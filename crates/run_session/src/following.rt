@@ -1,8 +1,7 @@
 // What the client has counted goes to the files, and the features that are complete are shown.
 
 ghost use Rattle.std.specs.Prelude.{◌≡◌, ◌<◌, map, length, true, IsNone, IfSome, is_some, OnOk};
-ghost use Rattle.effects.specs.Effects.{the_reply};
-ghost use Rattle.record_text.specs.Entries.{IsRefusal, kept_error};
+ghost use Rattle.run_session.specs.Names.{the_reply, IsRefusal, kept_error};
 ghost use Rattle.run_session.specs.Records as spec;
 
 use crate::runs::Kept;

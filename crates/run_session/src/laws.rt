@@ -1,15 +1,7 @@
 // What follows from the definitions. Each function has laws for its contract and does nothing.
 
 ghost use Rattle.std.specs.Prelude.{◌≡◌, ◌++◌, ℕ, List, Option, length, true, false};
-ghost use Rattle.dmis_program.specs.Meaning.{Meaning};
-ghost use Rattle.dmis_program.specs.Programs.{IsProgram};
-ghost use Rattle.record_text.specs.Heads.{IsPartGiven, AreAsked};
-ghost use Rattle.record_laws.specs.Told.{numbered};
-ghost use Rattle.record_text.specs.declared.opening.Beginning.{Beginning};
-ghost use Rattle.record_laws.specs.Recordings.{Pair, AreWritten};
-ghost use Rattle.record_laws.specs.Runs.{IsRecordOf, IsKilledRun};
-ghost use Rattle.run_session.specs.Records.{State, Outside, IsKept, HasFollowed, HasTold, pace, Filed};
-ghost use Rattle.run_session.specs.Killed.{IsBegun, IsLeft};
+ghost use Rattle.run_session.specs.Names.{Meaning, IsProgram, IsPartGiven, AreAsked, numbered, Beginning, Pair, AreWritten, IsRecordOf, IsKilledRun, State, Outside, IsKept, HasFollowed, HasTold, pace, Filed, IsBegun, IsLeft};
 
 /// A run that begins as `begin_record` gives it (`IsBegun`):
 ///

@@ -1,11 +1,7 @@
 // A session: what it asks, and what it does with an answer.
 
 ghost use Rattle.std.specs.Prelude.{◌≡◌, true, false, length, drop, map, is_some, None, OnOk, IfOk};
-ghost use Rattle.effects.specs.Effects.{the_ask, the_reply};
-ghost use Rattle.protocol_model.specs.Ends.{end_connected};
-ghost use Rattle.order_parts.specs.Pauses.{pauses_of, place_seen};
-ghost use Rattle.record_text.specs.Growths.{begun};
-ghost use Rattle.client_core.specs.Clients.{may_connect};
+ghost use Rattle.run_session.specs.Names.{the_ask, the_reply, end_connected, pauses_of, place_seen, begun, may_connect};
 ghost use Rattle.protocol_model.specs.declared.states.State.TheVariants.{Done};
 ghost use Rattle.run_session.specs.Records as spec;
 

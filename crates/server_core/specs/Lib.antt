@@ -4,3 +4,4 @@ pub mod Kept
 pub mod Acting
 pub mod Steady
 pub mod Calls
+pub mod Names

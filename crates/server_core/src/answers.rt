@@ -1,18 +1,8 @@
 // The lines with which a server answers.
 
 ghost use Rattle.std.specs.Prelude.{◌≡◌, ◌≤◌, ◌+◌, ◌*◌, ◌++◌, ◌∷◌, [], Err, length, take, vec_len, vec_capacity};
-ghost use Rattle.std.specs.List.{AllByRecursion};
-ghost use Rattle.fixed_um.specs.Calls.{Grows, HasRoom};
-ghost use Rattle.dme_line.specs.Tags.{IsTag, written_tag};
-ghost use Rattle.dme_line.specs.declared.tags.Tag.{Tag};
-ghost use Rattle.dme_line.specs.Points.{IsOnWire};
-ghost use Rattle.dme_line.specs.Errors.{number_of};
-ghost use Rattle.protocol_model.specs.Replies.{Reply};
-ghost use Rattle.protocol_model.specs.Lines.{reply_bytes};
-ghost use Rattle.protocol_model.specs.Server.{fails, all_fail, kind_in};
+ghost use Rattle.server_core.specs.Names.{AllByRecursion, Grows, HasRoom, IsTag, written_tag, Tag, IsOnWire, number_of, Reply, reply_bytes, fails, all_fail, kind_in, answer_line_most, failure_most, HasRoomFor, Says, IsFit};
 ghost use Rattle.protocol_model.specs.declared.held.Datum.TheVariants as datum;
-ghost use Rattle.server_core.specs.Answering.{answer_line_most, failure_most, HasRoomFor, Says};
-ghost use Rattle.server_core.specs.Kept.{IsFit};
 
 use command_queue::Queue;
 use dme_line::{

@@ -1,8 +1,7 @@
 // The checks of a command at its turn.
 
 ghost use Rattle.std.specs.Prelude.{◌≡◌, option_map};
-ghost use Rattle.dme_line.specs.Errors.{number_of};
-ghost use Rattle.protocol_model.specs.Server.{opens, wants_session, wants_home, lacks_tool, has_no_tool, leaves_volume, first_failing, checks, offset, refusal};
+ghost use Rattle.server_core.specs.Names.{number_of, opens, wants_session, wants_home, lacks_tool, has_no_tool, leaves_volume, first_failing, checks, offset, refusal};
 
 use crate::controller::Controller;
 use crate::reading::error_of;

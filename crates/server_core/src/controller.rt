@@ -1,8 +1,7 @@
 // What a server keeps other than the bytes of its connection.
 
 ghost use Rattle.std.specs.Prelude.{◌≡◌, IfOk, true, None, Some, MatchOption, if◌then◌else◌};
-ghost use Rattle.server_core.specs.Serving.{new_controlled, with_server, may_accept, may_turn};
-ghost use Rattle.protocol_model.specs.Server.{server_accepted, server_left, server_restarted, running_job};
+ghost use Rattle.server_core.specs.Names.{new_controlled, with_server, may_accept, may_turn, server_accepted, server_left, server_restarted, running_job};
 
 use crate::view::View;
 use command_queue::Queue;

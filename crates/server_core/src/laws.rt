@@ -1,17 +1,8 @@
 // What follows from the definitions for the ledger of a server. Each function has laws for its contract and does nothing.
 
 ghost use Rattle.std.specs.Prelude.{◌≡◌, ℕ, Bool, List, [], ◌∷◌, ◌++◌, ◌*◌, None, Some, Err, is_some, true, false};
-ghost use Rattle.protocol_model.specs.Claims.{MadeContact, contacts};
-ghost use Rattle.protocol_model.specs.Ends.{ServerEnd, new_server_end, serving_accepted, serving_fed, serving_read, serving_turned, serving_machined, serving_left, serving_restarted, serving_taken};
-ghost use Rattle.protocol_model.specs.declared.machine.Outcome.{Outcome as OneOutcome};
-ghost use Rattle.server_core.specs.Answering.{answer_line_most, answer_most};
-ghost use Rattle.server_core.specs.Acting.{IsOneMore, IsCommanded};
-ghost use Rattle.line_framing.specs.Next.{next_of};
-ghost use Rattle.line_framing.specs.declared.faults.FramingFault.{FramingFault as OneFault};
-ghost use Rattle.protocol_model.specs.declared.lines.Line.{Line as OneLine};
+ghost use Rattle.server_core.specs.Names.{MadeContact, contacts, ServerEnd, new_server_end, serving_accepted, serving_fed, serving_read, serving_turned, serving_machined, serving_left, serving_restarted, serving_taken, Outcome as OneOutcome, answer_line_most, answer_most, IsOneMore, IsCommanded, next_of, FramingFault as OneFault, Line as OneLine, IsServing, Call, Deed, reached, behind_call, gives_up, completes_act, deed_of, homed_behind, IsDone, IsContactOf, RanBefore, IsEndOfEarlier};
 ghost use Rattle.contact_ledger.specs.declared.acts.Act.TheVariants as act;
-ghost use Rattle.server_core.specs.Steady.{IsServing};
-ghost use Rattle.server_core.specs.Calls.{Call, Deed, reached, behind_call, gives_up, completes_act, deed_of, homed_behind, IsDone, IsContactOf, RanBefore, IsEndOfEarlier};
 
 use crate::answers::ANSWER_MAX;
 

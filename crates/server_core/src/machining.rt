@@ -1,16 +1,9 @@
 // The machine is done with what runs (this profile).
 
 ghost use Rattle.std.specs.Prelude.{◌≡◌, ◌≢◌, ◌↔◌, IsTrue, IfErr, ◌≤◌, ◌+◌, ◌++◌, ◌∷◌, [], true, length, vec_len, vec_capacity, OnOk, OnErr, Some};
-ghost use Rattle.contact_ledger.specs.Ledgers.{IsConnection};
-ghost use Rattle.dme_line.specs.Errors.{number_of};
-ghost use Rattle.fixed_um.specs.Points.{IsInVolume};
-ghost use Rattle.protocol_model.specs.Lines.{reply_bytes};
+ghost use Rattle.server_core.specs.Names.{IsConnection, number_of, IsInVolume, reply_bytes, Line as OneLine, Leads, HasAnswerRoom, MayEnd, IsBounded, Answers, AnswersIfOk, fits, IsInside, IsMachineFault};
 ghost use Rattle.protocol_model.specs.Server as server;
-ghost use Rattle.protocol_model.specs.declared.lines.Line.{Line as OneLine};
 ghost use Rattle.protocol_model.specs.declared.machine.Outcome.TheVariants as outcome;
-ghost use Rattle.fixed_um.specs.Calls.{Leads};
-ghost use Rattle.server_core.specs.Answering.{HasAnswerRoom, MayEnd, IsBounded, Answers, AnswersIfOk};
-ghost use Rattle.server_core.specs.Serving.{fits, IsInside, IsMachineFault};
 
 use crate::answers::{ANSWER_MAX, write_all_aborted, write_complete, write_failure, write_touched};
 use crate::checks::offset;

@@ -1,16 +1,8 @@
 // What a server does with a line that it has read, case by case (this profile).
 
 ghost use Rattle.std.specs.Prelude.{◌≡◌, ◌≤◌, ◌+◌, ◌++◌, ◌||◌, true, option_map, ◌∷◌, [], length, vec_len, vec_capacity, Err, OnOk, OnErr};
-ghost use Rattle.dme_line.specs.Tags.{IsTag, is_event_tag};
-ghost use Rattle.dme_line.specs.Errors.{number_of};
-ghost use Rattle.protocol_model.specs.Readings.{command_of};
-ghost use Rattle.protocol_model.specs.Lines.{reply_bytes, reading_of};
-ghost use Rattle.protocol_model.specs.Replies.{Reply};
+ghost use Rattle.server_core.specs.Names.{IsTag, is_event_tag, number_of, command_of, reply_bytes, reading_of, Reply, HasRoom, answer_most, failure_most, HasRoomFor, MayHear, MayTake, IsBounded, Says, Answers, with_answered, IsReadingFit, IsRunningFit, IsLineFit, BeginsWith, BeginsSo};
 ghost use Rattle.protocol_model.specs.Server as server;
-ghost use Rattle.fixed_um.specs.Calls.{HasRoom};
-ghost use Rattle.server_core.specs.Answering.{answer_most, failure_most, HasRoomFor, MayHear, MayTake, IsBounded, Says, Answers};
-ghost use Rattle.server_core.specs.Serving.{with_answered};
-ghost use Rattle.server_core.specs.Kept.{IsReadingFit, IsRunningFit, IsLineFit, BeginsWith, BeginsSo};
 
 use crate::answers::{
     ANSWER_MAX, kind_in, kind_of_misread, write_all_aborted, write_complete, write_error,

@@ -1,17 +1,7 @@
 // The server with the bytes of its connection.
 
 ghost use Rattle.std.specs.Prelude.{◌≡◌, ◌≢◌, ◌↔◌, ◌⊎◌, if◌then◌else◌, ◌≤◌, ◌+◌, ◌&&◌, not, true, false, None, [], Some, Ok, Err, drop, length, is_none, IsTrue, IsOk, IsErr, IfOk, IfErr, OnOk, OnErr, IfSome, MatchOption};
-ghost use Rattle.std.specs.Result.{IsErrOf};
-ghost use Rattle.fixed_um.specs.Calls.{Leads};
-ghost use Rattle.line_framing.specs.Next.{next_of};
-ghost use Rattle.line_framing.specs.Framing.{IsLineDue, IsSound};
-ghost use Rattle.protocol_model.specs.declared.lines.Line.{Line as OneLine};
-ghost use Rattle.contact_ledger.specs.Ledgers.{IsConnection, connection_most, AreOnConnections};
-ghost use Rattle.server_core.specs.Steady.{IsOff, IsRunnable, AreStandard};
-ghost use Rattle.protocol_model.specs.Server.{may_end, running_job};
-ghost use Rattle.protocol_model.specs.Ends.{serving_accepted, serving_fed, serving_read, serving_turned, serving_machined, serving_left, serving_restarted, serving_taken};
-ghost use Rattle.line_framing.specs.declared.faults.FramingFault.{FramingFault as OneFault};
-ghost use Rattle.server_core.specs.Serving.{new_serving, with_end, may_accept, may_feed, may_turn, fits_running, IsFeedFault, IsReadFault, IsMachineFault};
+ghost use Rattle.server_core.specs.Names.{IsErrOf, Leads, next_of, IsLineDue, IsSound, Line as OneLine, IsConnection, connection_most, AreOnConnections, IsOff, IsRunnable, AreStandard, may_end, running_job, serving_accepted, serving_fed, serving_read, serving_turned, serving_machined, serving_left, serving_restarted, serving_taken, FramingFault as OneFault, new_serving, with_end, may_accept, may_feed, may_turn, fits_running, IsFeedFault, IsReadFault, IsMachineFault};
 
 use crate::answers::ANSWER_MAX;
 use crate::controller::Controller;

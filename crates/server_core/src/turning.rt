@@ -1,14 +1,9 @@
 // The first waiting command is processed (this profile).
 
 ghost use Rattle.std.specs.Prelude.{◌≡◌, ◌≤◌, ◌+◌, ◌++◌, ◌∷◌, [], true, false, None, length, vec_len, vec_capacity, option_map, IfOk, IfSome, OnOk, OnErr, Some, Ok};
-ghost use Rattle.dme_line.specs.Tags.{IsTag};
-ghost use Rattle.dme_line.specs.Errors.{number_of};
-ghost use Rattle.protocol_model.specs.Lines.{reply_bytes};
+ghost use Rattle.server_core.specs.Names.{IsTag, number_of, reply_bytes, Leads, HasAnswerRoom, MayTurn, Answers, AnswersIfOk, with_answered, may_turn, first_refusal, first_command, runs, IsAtOnce, IsWay};
 ghost use Rattle.dme_line.specs.declared.commands.Command.TheVariants as command;
 ghost use Rattle.protocol_model.specs.Server as server;
-ghost use Rattle.fixed_um.specs.Calls.{Leads};
-ghost use Rattle.server_core.specs.Answering.{HasAnswerRoom, MayTurn, Answers, AnswersIfOk};
-ghost use Rattle.server_core.specs.Serving.{with_answered, may_turn, first_refusal, first_command, runs, IsAtOnce, IsWay};
 
 use crate::answers::{
     ANSWER_MAX, kind_in, write_all_aborted, write_complete, write_failure, write_homed,

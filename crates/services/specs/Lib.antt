@@ -1,3 +1,4 @@
 pub mod Files
 pub mod Sessions
 pub mod Relays
+pub mod Names

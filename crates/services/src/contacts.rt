@@ -1,9 +1,8 @@
 // The contacts file of a service, and what it is to have next.
 
 ghost use Rattle.std.specs.Prelude.{◌≡◌, ◌++◌, ◌&&◌, not, false, [], OnOk, IfOk, length, drop, map, is_some};
+ghost use Rattle.services.specs.Names.{text_of, act_line, contacts_text};
 ghost use Rattle.services.specs.Files as spec;
-ghost use Rattle.contact_ledger.specs.Lines.{text_of};
-ghost use Rattle.contact_ledger.specs.ContactTexts.{act_line, contacts_text};
 
 use contact_ledger::{ServerLedger, add_entry, write_contacts};
 use std::alloc::{AllocError, Global};

@@ -1,8 +1,7 @@
 // The relay: what it asks, and what it does with an answer.
 
 ghost use Rattle.std.specs.Prelude.{◌≡◌, ◌⊎◌, []};
-ghost use Rattle.effects.specs.Effects.{the_ask};
-ghost use Rattle.watched_ends.specs.Limits.{IsTold, down_of};
+ghost use Rattle.services.specs.Names.{the_ask, IsTold, down_of};
 ghost use Rattle.services.specs.Relays as spec;
 
 use crate::recordings::{Recording, slot_after};

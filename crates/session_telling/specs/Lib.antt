@@ -4,3 +4,4 @@ pub mod Visible
 pub mod Dialogues
 pub mod Arriving
 pub mod Waiting
+pub mod Names

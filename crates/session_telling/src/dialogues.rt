@@ -1,8 +1,7 @@
 // Both sides of a connection, as their bytes go by: what the server reports of the commands that were sent.
 
 ghost use Rattle.std.specs.Prelude.{◌≡◌, ◌∷◌, ◌++◌, ◌<◌, ◌==◌, [], length, OnOk, IfOk, IfSome, IfNone};
-ghost use Rattle.std.specs.List.{position};
-ghost use Rattle.session_telling.specs.Dialogues.{Hears, IsUnended, Sends, content};
+ghost use Rattle.session_telling.specs.Names.{position, Hears, IsUnended, Sends, content};
 
 use crate::sessions::{Sent, Session};
 use dme_line::Tag;

@@ -1,8 +1,7 @@
 // The commands that were sent on a connection, and the errors that are about them.
 
 ghost use Rattle.std.specs.Prelude.{◌≡◌, ◌-◌, [], OnOk, OnErr, MatchOption};
-ghost use Rattle.session_telling.specs.Sessions.{is_task, with_command, last_under};
-ghost use Rattle.session_telling.specs.Sessions.{Adds, Reports, ReportsNothing};
+ghost use Rattle.session_telling.specs.Names.{is_task, with_command, last_under, Adds, Reports, ReportsNothing};
 
 use dme_line::{Kind, MarkSlice, Tag, cut_response, read_command};
 use std::alloc::{AllocError, Global};

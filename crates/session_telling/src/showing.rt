@@ -1,8 +1,7 @@
 // Bytes of a peer as people read them.
 
 ghost use Rattle.std.specs.Prelude.{◌≡◌, ◌<◌, ◌++◌, OnOk, IfOk, string_bytes};
-ghost use Rattle.std.specs.List.{flat_map};
-ghost use Rattle.session_telling.specs.Visible.{hex_digit, visible};
+ghost use Rattle.session_telling.specs.Names.{flat_map, hex_digit, visible};
 
 use std::alloc::{AllocError, Global};
 

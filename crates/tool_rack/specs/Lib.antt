@@ -4,3 +4,4 @@ pub mod Setups
 pub mod Carrying
 pub mod Spacing
 pub mod Messages
+pub mod Names

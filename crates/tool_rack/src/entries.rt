@@ -1,7 +1,5 @@
 ghost use Rattle.std.specs.Prelude.{IfOk};
-ghost use Rattle.tool_rack.specs.Fields.{fields_of};
-ghost use Rattle.tool_rack.specs.Entries.{tool_entry, frame_entry, shift_entry, fields_entry, entry_on, IsEntryInVolume};
-ghost use Rattle.tool_rack.specs.Setups.{GivesSetup};
+ghost use Rattle.tool_rack.specs.Names.{fields_of, tool_entry, frame_entry, shift_entry, fields_entry, entry_on, IsEntryInVolume, GivesSetup};
 
 use crate::faults::SetupFault;
 use crate::fields::{cut_field, has_outer_space, is_dropped, is_word, one_field, three_fields};

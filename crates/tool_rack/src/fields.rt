@@ -1,8 +1,7 @@
 // Lines of fields, as the texts of a setup and of a schedule have them.
 
 ghost use Rattle.std.specs.Prelude.{◌≡◌, ◌≢◌, ℕ, ◌∷◌, [], ◌≤◌, ◌==◌, not, List, length, None, MatchOption, IfSome};
-ghost use Rattle.std.specs.List.{prefix_len};
-ghost use Rattle.tool_rack.specs.Fields.{fields_of, is_dropped, has_outer_space, is_word};
+ghost use Rattle.tool_rack.specs.Names.{prefix_len, fields_of, is_dropped, has_outer_space, is_word};
 
 /// Whether a line says nothing: it is empty, or begins with `#`. Does not allocate.
 pub fn is_dropped(line: &[u8]) -> bool

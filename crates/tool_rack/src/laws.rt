@@ -1,11 +1,6 @@
 // What follows from the definitions alone. Each function has laws for its contract and does nothing.
 ghost use Rattle.std.specs.Prelude.{◌≡◌, ℕ, ◌+◌, ◌<◌, false, List, [], ◌∷◌, ◌++◌, length, Ok, Err};
-ghost use Rattle.tool_rack.specs.Entries.{entry_on};
-ghost use Rattle.tool_rack.specs.Setups.{judged, entries_from};
-ghost use Rattle.tool_rack.specs.Fields.{fields_of, has_outer_space};
-ghost use Rattle.tool_rack.specs.Spacing.{IsSpaced};
-ghost use Rattle.tool_rack.specs.declared.entries.Entry.{Entry};
-ghost use Rattle.tool_rack.specs.declared.faults.SetupFault.{SetupFault};
+ghost use Rattle.tool_rack.specs.Names.{entry_on, judged, entries_from, fields_of, has_outer_space, IsSpaced, Entry, SetupFault};
 
 /// The first line that is refused decides, whatever follows it. A line that is not refused says its entry below those of the
 /// lines above it.

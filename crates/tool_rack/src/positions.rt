@@ -1,9 +1,7 @@
 // Positions in the machine's volume, as texts write them.
 
 ghost use Rattle.std.specs.Prelude.{◌≡◌, ◌≤◌, unsigned_abs, IfOk, IfSome};
-ghost use Rattle.fixed_um.specs.Limits.{volume_limit};
-ghost use Rattle.fixed_um.specs.Points.{IsInVolume};
-ghost use Rattle.tool_rack.specs.Entries.{length_of, point_of};
+ghost use Rattle.tool_rack.specs.Names.{volume_limit, IsInVolume, length_of, point_of};
 
 use fixed_um::{NumeralFault, Point, Um, read_um};
 

@@ -1,10 +1,6 @@
 ghost use Rattle.std.specs.Prelude.{◌≡◌, ◌↔◌, ◌+◌, ◌%◌, ◌<◌, ◌≤◌, ◌^◌, ◌∷◌, [], ◌++◌, not, IsTrue, Any, true, false, Ok, length, IfOk, IfErr, OnOk, if◌then◌else◌};
-ghost use Rattle.fixed_um.specs.Calls.{Leads};
-ghost use Rattle.fixed_um.specs.Points.{IsInVolume};
-ghost use Rattle.dmis_program.specs.Offsets.{AreFrames};
-ghost use Rattle.tool_rack.specs.Entries.{IsEntryInVolume};
-ghost use Rattle.tool_rack.specs.Setups.{SetupValue, has_name, is_twice, setup_of, GivesSetup, IsDue, IsSetup, shift_at};
-ghost use Rattle.tool_rack.specs.Carrying.{setup_more, read_line};
+ghost use Rattle.tool_rack.specs.Names.{Leads, IsInVolume, AreFrames, IsEntryInVolume, has_name, is_twice, setup_of, GivesSetup, IsDue, shift_at, setup_more, read_line};
+ghost use Rattle.tool_rack.specs.Setups.{SetupValue, IsSetup};
 
 use crate::entries::{Entry, entry_on};
 use crate::faults::SetupFault;

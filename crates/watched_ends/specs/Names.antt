@@ -1,5 +1,6 @@
 -- The names of other files that contracts of this crate cite.
 pub use Rattle.dme_line.specs.Responses.{the_mark}
+pub use Rattle.effects.specs.Effects.{Did, Exit, Reply}
 pub use Rattle.fixed_um.specs.Calls.{Finds}
 pub use Rattle.witness.specs.Asking.{signal_of}
 pub use Rattle.witness.specs.Relaying.{IsClientRead, IsServerRead, Reads}
@@ -8,5 +9,9 @@ pub use Rattle.witness.specs.Watching.{KeepsFew, ledger}
 pub use Rattle.witness.specs.declared.lines.Reported.{Reported}
 pub use Rattle.witness_judge.specs.Orders.{Pieces, bytes_of, count_of}
 pub use Rattle.witness_laws.specs.Orders.{at_once_line, some_sends}
+pub use Rattle.watched_ends.specs.Claims.{Comes, Kept}
+pub use Rattle.watched_ends.specs.Examples.{called, early, silent, swapped, twice, unprinted}
 pub use Rattle.watched_ends.specs.Ledgers.{AreReportedBy}
 pub use Rattle.watched_ends.specs.Limits.{Limited}
+pub use Rattle.watched_ends.specs.Outside.{asks, outside}
+pub use Rattle.watched_ends.specs.Sessions.{Called, Led, State, Steps, asked}

@@ -1,11 +1,7 @@
 // What a session promises, whatever is answered, and whenever memory runs out.
 
 ghost use Rattle.std.specs.Prelude.{◌≡◌, ℕ, List};
-ghost use Rattle.effects.specs.Effects.{Did, Exit, Reply};
-ghost use Rattle.watched_ends.specs.Sessions.{Called, State, asked, Led, Steps};
-ghost use Rattle.watched_ends.specs.Outside.{asks, outside};
-ghost use Rattle.watched_ends.specs.Claims.{Comes, Kept};
-ghost use Rattle.watched_ends.specs.Examples.{called, early, twice, silent, swapped, unprinted};
+ghost use Rattle.watched_ends.specs.Names.{Did, Exit, Reply, Called, State, asked, Led, Steps, asks, outside, Comes, Kept, called, early, twice, silent, swapped, unprinted};
 
 /// At any moment, with an effect in flight: the named files are opened in their order, and nothing is printed before all of them were read to
 /// their ends; what is printed is the text of exactly the bytes that were read. An exit says what came before it, and nothing follows it.

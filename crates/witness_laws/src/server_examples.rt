@@ -1,9 +1,8 @@
 // Examples: reports and acts, and lines that calls read and answer, that are written out.
 
 ghost use Rattle.std.specs.Prelude.{◌≡◌, [], ◌∷◌, ◌++◌, codes, reverse, Some, None, true, false, Ok, Err};
-ghost use Rattle.witness_laws.specs.Names.{list_any, Machine, Part, MachineCsy, Std, Ack, Given, Done, touched, hears_event, all_reported, Did, MovedSomewhere, FramedSomehow, Touched, Other, Unasked, Broken, Known, Asking, Foreign, Client, is_foreign_under, breaks_only, act_reports, IsReportOf, AreReportsOf, tool_of, tool_named, frame_named, line_read, all_read, answered, keeps_out, uses_again, taking, reported, acts_after, IsCourse, new_server_end, reply_text, Up, Down, lines_seen, fed_by, all_fed, all_written, AreReportsOfFirst, at, contact, serving, runs, waits, line};
-ghost use Rattle.server_core.specs.Calls.{ReadOne, Turn, Machine as Ends, Feed, Leave, Restart, Sent};
-ghost use Rattle.witness.specs.Asking.{Error as Refused};
+ghost use Rattle.witness_laws.specs.Names.{list_any, Machine, Part, MachineCsy, Std, Ack, Given, Done, touched, hears_event, all_reported, Did, MovedSomewhere, FramedSomehow, Touched, Other, Unasked, Broken, Known, Asking, Foreign, Client, is_foreign_under, breaks_only, act_reports, IsReportOf, AreReportsOf, tool_of, tool_named, frame_named, line_read, all_read, answered, keeps_out, uses_again, taking, reported, acts_after, IsCourse, new_server_end, reply_text, Up, Down, lines_seen, fed_by, all_fed, all_written, AreReportsOfFirst, at, contact, serving, runs, waits, line, Machine as Ends, Error as Refused};
+ghost use Rattle.server_core.specs.Calls.{ReadOne, Turn, Feed, Leave, Restart, Sent};
 ghost use Rattle.witness.specs.Examples.{touch};
 ghost use Rattle.witness_laws.specs.Reports.{frame_of};
 ghost use Rattle.contact_ledger.specs.declared.acts.Act.TheVariants as act;

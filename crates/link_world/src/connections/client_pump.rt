@@ -1,13 +1,7 @@
 // A client over the ports of its connection.
 
 ghost use Rattle.std.specs.Prelude.{◌≡◌, ℕ, ◌<◌, ◌≤◌, ◌+◌, true, false, Option, List, length, None, [], Ok, IfOk, OnOk, IfErr};
-ghost use Rattle.std.specs.Result.{IsErrOf};
-ghost use Rattle.line_framing.specs.Next.{next_of};
-ghost use Rattle.protocol_model.specs.Client.{due};
-ghost use Rattle.client_core.specs.Clients.{may_read};
-ghost use Rattle.link_world.specs.Pumps.{Sending, Blames, BlamesPorts, ClientMovedWithin, ClientStoppedWithin, HasRefused};
-ghost use Rattle.link_world.specs.PumpParts.{GoesOn, ReadsOn, AllOut, Came, CameShort, IsReadFault};
-ghost use Rattle.protocol_model.specs.Ends.{end_left};
+ghost use Rattle.link_world.specs.Names.{IsErrOf, next_of, due, may_read, Sending, Blames, BlamesPorts, ClientMovedWithin, ClientStoppedWithin, HasRefused, GoesOn, ReadsOn, AllOut, Came, CameShort, IsReadFault, end_left};
 
 use crate::connections::pumps::{
     Budget, Moved, PIECE, Piece, PumpFault, pull_counted, push_counted,

@@ -1,29 +1,8 @@
 // The turns of both sides over their ports, as events of a world. Each function has laws for its contract and does nothing.
 
 ghost use Rattle.std.specs.Prelude.{◌≡◌, ◌≢◌, ◌≤◌, ℕ, Bool, true, false, Option, None, Some, Ok, List, [], ◌∷◌, ◌++◌, length, take};
-ghost use Rattle.std.specs.Io.KnownBytes.{Consumes};
-ghost use Rattle.client_core.specs.Clients.{are_ours};
-ghost use Rattle.contact_ledger.specs.declared.features.Feature.{Feature as OneFeature};
-ghost use Rattle.dmis_program.specs.Meaning.{Meaning};
-ghost use Rattle.dmis_program.specs.Programs.{IsProgram};
-ghost use Rattle.fixed_um.specs.declared.lengths.Point.{Point as OnePoint};
-ghost use Rattle.line_framing.specs.Next.{next_of};
-ghost use Rattle.protocol_model.specs.Claims.{Sound, Told};
-ghost use Rattle.protocol_model.specs.Ends.{ClientEnd, ServerEnd, new_client_end, end_left, serving_left};
-ghost use Rattle.protocol_model.specs.World.{World, client_link, server_link, start, run_of};
-ghost use Rattle.protocol_model.specs.declared.events.Event.{Event as OneEvent};
+ghost use Rattle.link_world.specs.Names.{Consumes, are_ours, Feature as OneFeature, Meaning, IsProgram, Point as OnePoint, next_of, Sound, Told, ClientEnd, ServerEnd, new_client_end, end_left, serving_left, World, client_link, server_link, start, run_of, Event as OneEvent, Job as OneJob, Outcome as OneOutcome, State, simulated, Stage, Writing, Reading, ClientTurn, ServerTurn, IsClientTurn, IsServerTurn, TurnLeads, client_joined, steered, steering, AreFit, server_joined, ClientRan, ClientRunStopped, PumpFault as OneFault, ClientFault as OneClientFault, EndPair, pumped_of, PumpCalls, IsOneWorld, ClientCalls, AreOwnCalls};
 ghost use Rattle.protocol_model.specs.declared.events.Event.TheVariants as event;
-ghost use Rattle.protocol_model.specs.declared.machine.Job.{Job as OneJob};
-ghost use Rattle.protocol_model.specs.declared.machine.Outcome.{Outcome as OneOutcome};
-ghost use Rattle.protocol_model.specs.declared.states.State.{State};
-ghost use Rattle.link_world.specs.Machines.{simulated};
-ghost use Rattle.link_world.specs.Pumps.{Stage, Writing, Reading, ClientTurn};
-ghost use Rattle.link_world.specs.ServerPumps.{ServerTurn};
-ghost use Rattle.link_world.specs.Joined.{IsClientTurn, IsServerTurn, TurnLeads, client_joined, steered, steering, AreFit, server_joined};
-ghost use Rattle.link_world.specs.LinkRuns.{ClientRan, ClientRunStopped};
-ghost use Rattle.link_world.specs.declared.connections.pumps.PumpFault.{PumpFault as OneFault};
-ghost use Rattle.client_core.specs.declared.faults.ClientFault.{ClientFault as OneClientFault};
-ghost use Rattle.link_world.specs.Joined.{EndPair, pumped_of, PumpCalls, IsOneWorld, ClientCalls, AreOwnCalls};
 
 /// A client's turn over its ports is a list of events of the world. Take every world whose client has nothing to send and is on a
 /// connection that was made, and every turn of that client, as `client_turns` makes it, from there or from where the client has been made to stop, in

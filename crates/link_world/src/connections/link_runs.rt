@@ -1,10 +1,7 @@
 // A client and a server over the ports of one connection, which take turns alternately.
 
 ghost use Rattle.std.specs.Prelude.{◌≡◌, ◌≤◌, ◌+◌, true, false, IfOk, OnOk, OnErr, IfErr};
-ghost use Rattle.link_world.specs.Pumps.{BlamesPorts};
-ghost use Rattle.link_world.specs.Watching.{TellsRun};
-ghost use Rattle.link_world.specs.Showing.{Shown, EndsShown};
-ghost use Rattle.link_world.specs.LinkRuns.{calls_most, client_side, server_side, are_still, PairMoved, PairStopped, LoopRan, LoopStopped};
+ghost use Rattle.link_world.specs.Names.{BlamesPorts, TellsRun, Shown, EndsShown, calls_most, client_side, server_side, are_still, PairMoved, PairStopped, LoopRan, LoopStopped};
 
 use crate::connections::links::{LoopFault, STEPS_MAX, TURNS_MAX, watched_turn};
 use crate::connections::machines::Machine;

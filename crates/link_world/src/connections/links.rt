@@ -1,10 +1,7 @@
 // Whole connections over their ports: the turns of one side, one after another.
 
 ghost use Rattle.std.specs.Prelude.{◌≡◌, ◌↔◌, ◌<◌, ◌≤◌, ◌+◌, true, false, IsOk, IfOk, OnOk, OnErr, IfErr};
-ghost use Rattle.std.specs.Result.{IsErrOf};
-ghost use Rattle.link_world.specs.Pumps.{BlamesPorts, ClientMovedWithin, ClientStoppedWithin};
-ghost use Rattle.link_world.specs.Watching.{TellsRun};
-ghost use Rattle.link_world.specs.LinkRuns.{calls_most, is_over, ClientRan, ClientRunStopped, ServerRunStopped};
+ghost use Rattle.link_world.specs.Names.{IsErrOf, BlamesPorts, ClientMovedWithin, ClientStoppedWithin, TellsRun, calls_most, is_over, ClientRan, ClientRunStopped, ServerRunStopped};
 
 use crate::connections::client_pump::client_turns_with;
 use crate::connections::machines::Machine;

@@ -1,10 +1,8 @@
 // The machines that end what a server asks of them.
 
 ghost use Rattle.std.specs.Prelude.{◌≡◌, ℕ, true, IfOk};
-ghost use Rattle.protocol_model.specs.Server.{in_volume};
-ghost use Rattle.fixed_um.specs.Points.{point_sum};
-ghost use Rattle.tool_rack.specs.Setups.{shift_at};
-ghost use Rattle.link_world.specs.Machines.{fits_job, met};
+ghost use Rattle.link_world.specs.Names.{in_volume, point_sum, shift_at, fits_job};
+ghost use Rattle.link_world.specs.Machines.{met};
 
 use fixed_um::Point;
 use protocol_model::{Job, Outcome};

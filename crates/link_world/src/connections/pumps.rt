@@ -1,9 +1,7 @@
 // What pumps share: what moved, why they stop, how their steps are counted, and their pushes and pulls.
 
 ghost use Rattle.std.specs.Prelude.{◌≡◌, ◌+◌, ◌<◌, ◌≤◌, true, false, length, take, [], IfOk, OnOk, OnErr, IfErr};
-ghost use Rattle.std.specs.Io.KnownBytes.{Appends, Consumes};
-ghost use Rattle.link_world.specs.PumpParts.{Pushed, IsPullFault};
-ghost use Rattle.link_world.specs.Pumps.{Blames};
+ghost use Rattle.link_world.specs.Names.{Appends, Consumes, Pushed, IsPullFault, Blames};
 
 use byte_ports::{Failed, Sink, Source};
 use client_core::ClientFault;

@@ -1,19 +1,7 @@
 // A server and its machine over the ports of a connection.
 
 ghost use Rattle.std.specs.Prelude.{◌≡◌, ℕ, ◌<◌, ◌≤◌, ◌+◌, ◌*◌, Option, List, true, false, length, None, [], Ok, IfOk, OnOk, IfErr, IfSome, option_map};
-ghost use Rattle.std.specs.Result.{IsErrOf};
-ghost use Rattle.contact_ledger.specs.Ledgers.{contact_count};
-ghost use Rattle.line_framing.specs.Next.{next_of};
-ghost use Rattle.protocol_model.specs.Server.{running_job, may_end};
-ghost use Rattle.protocol_model.specs.Ends.{serving_left};
-ghost use Rattle.protocol_model.specs.declared.lines.Line.{Line as OneLine};
-ghost use Rattle.server_core.specs.Serving.{may_feed, may_turn};
-ghost use Rattle.server_core.specs.Steady.{IsRunnable};
-ghost use Rattle.protocol_model.specs.declared.machine.Job.{Job as OneJob};
-ghost use Rattle.protocol_model.specs.declared.machine.Outcome.{Outcome as OneOutcome};
-ghost use Rattle.link_world.specs.Pumps.{Blames, BlamesPorts, Reading, Working};
-ghost use Rattle.link_world.specs.ServerPumps.{ServerMovedWithin, ServerStoppedWithin};
-ghost use Rattle.link_world.specs.ServerPumpParts.{ServerGoesOn, ServerCame, ServerCameShort, ServerReadStops, ReadIn, IsWorkFault, has_work, steps_of};
+ghost use Rattle.link_world.specs.Names.{IsErrOf, contact_count, next_of, running_job, may_end, serving_left, Line as OneLine, may_feed, may_turn, IsRunnable, Job as OneJob, Outcome as OneOutcome, Blames, BlamesPorts, Reading, Working, ServerMovedWithin, ServerStoppedWithin, ServerGoesOn, ServerCame, ServerCameShort, ServerReadStops, ReadIn, IsWorkFault, has_work, steps_of};
 
 use crate::connections::machines::Machine;
 use crate::connections::pumps::{

@@ -1,8 +1,9 @@
 // Who receives reports of a client while it runs, and what they are.
 
 ghost use Rattle.std.specs.Prelude.{◌≡◌, ⊤, Option, List, [], ◌∷◌, ◌+◌, drop};
+ghost use Rattle.link_world.specs.Names.{Completed, Hears, notes_from};
 ghost use Rattle.protocol_model.specs.Ends.{ClientEnd};
-ghost use Rattle.link_world.specs.Watching.{Note, Completed, Hears, notes_from};
+ghost use Rattle.link_world.specs.Watching.{Note};
 
 use client_core::Client;
 use contact_ledger::Feature;

@@ -1,12 +1,7 @@
 // Examples: what is reported to a watcher of runs. Each function has laws for its contract and does nothing.
 
 ghost use Rattle.std.specs.Prelude.{◌≡◌, None, Some, [], ◌∷◌, codes, true, false};
-ghost use Rattle.dmis_program.specs.Meaning.{Meaning};
-ghost use Rattle.protocol_model.specs.Ends.{ClientEnd, new_client_end, end_left};
-ghost use Rattle.client_core.specs.Calls.{Connected, Resume, Restart};
-ghost use Rattle.link_world.specs.Watching.{Completed, notes_from, TellsRun};
-ghost use Rattle.link_world.specs.Showing.{IsRunCall, EndsShown};
-ghost use Rattle.link_world.specs.WatchingRows.{cone, disc, edge, notes_on};
+ghost use Rattle.link_world.specs.Names.{Meaning, ClientEnd, new_client_end, end_left, Connected, Resume, Restart, Completed, notes_from, TellsRun, IsRunCall, EndsShown, cone, disc, edge, notes_on};
 
 /// What is reported of features, the first of them under a number.
 pub fn note_rows()

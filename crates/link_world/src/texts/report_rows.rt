@@ -1,24 +1,8 @@
 // Examples and laws of reports. Each function has laws for its contract and does nothing.
 
 ghost use Rattle.std.specs.Prelude.{◌≡◌, ℕ, Option, List, pos, false, [], ◌∷◌, ◌++◌, codes};
-ghost use Rattle.fixed_um.specs.Shapes.{Direction};
-ghost use Rattle.fixed_um.specs.declared.frames.Frame.{Frame};
-ghost use Rattle.fixed_um.specs.declared.lengths.Point.{Point};
-ghost use Rattle.contact_ledger.specs.Ledgers.{contact_count, is_contact};
-ghost use Rattle.contact_ledger.specs.declared.acts.Act.{Act};
+ghost use Rattle.link_world.specs.Names.{Direction, Frame, Point, contact_count, is_contact, Act, at, neg, State, contact_rows, reported, report_text, state_name, contact, text_of, one_point_report, left_report, left_ledger, parted_ledger, featured_report};
 ghost use Rattle.contact_ledger.specs.declared.acts.Act.TheVariants as act;
-ghost use Rattle.protocol_model.specs.Examples.{at, neg};
-ghost use Rattle.protocol_model.specs.declared.states.State.{State};
-ghost use Rattle.link_world.specs.Reports.{contact_rows, reported, report_text, state_name};
-ghost use Rattle.link_world.specs.ReportRows.{
-  contact,
-  text_of,
-  one_point_report,
-  left_report,
-  left_ledger,
-  parted_ledger,
-  featured_report,
-};
 
 /// What a report shows of a ledger, act by act: each contact appears under the number of contacts before it, with its connection and its
 /// reported point; no other act appears.

@@ -1,9 +1,7 @@
 // The text of a report.
 
 ghost use Rattle.std.specs.Prelude.{◌≡◌, ◌≤◌, ◌<◌, ◌+◌, ◌++◌, length, drop, decimal, codes, OnOk, IfOk, string_bytes};
-ghost use Rattle.fixed_um.specs.Written.{printed_point};
-ghost use Rattle.fixed_um.specs.Calls.{Writes};
-ghost use Rattle.link_world.specs.Reports.{line, reported, state_name, contact_row, contact_rows, feature_row, feature_rows, report_text};
+ghost use Rattle.link_world.specs.Names.{printed_point, Writes, line, reported, state_name, contact_row, contact_rows, feature_row, feature_rows, report_text};
 
 use crate::texts::reports::{Contacts, Report, Reported};
 use client_core::State;

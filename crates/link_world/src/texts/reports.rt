@@ -1,11 +1,7 @@
 // What a world shows.
 
 ghost use Rattle.std.specs.Prelude.{◌≡◌, ◌≢◌, [], length, IfOk, MatchOption};
-ghost use Rattle.contact_ledger.specs.Ledgers.{HaveOrigins};
-ghost use Rattle.protocol_model.specs.Claims.{Sound};
-ghost use Rattle.protocol_model.specs.declared.states.State.TheVariants.{Faulted};
-ghost use Rattle.link_world.specs.Claims.{Headline};
-ghost use Rattle.link_world.specs.Reports.{reported};
+ghost use Rattle.link_world.specs.Names.{HaveOrigins, Sound, Faulted, Headline, reported};
 
 use crate::worlds::world::World;
 use client_core::{Client, State};

@@ -1,29 +1,7 @@
 // Schedules, read from a text.
 
 ghost use Rattle.std.specs.Prelude.{◌≡◌, ◌<◌, ◌^◌, IfSome, OnOk, IfErr, Ok, Some, true};
-ghost use Rattle.std.specs.List.{list_all};
-ghost use Rattle.std.specs.Char.{is_ascii_digit};
-ghost use Rattle.std.specs.Str.Parse.{digits_value};
-ghost use Rattle.tool_rack.specs.Fields.{fields_of};
-ghost use Rattle.link_world.specs.ScheduleTexts.{
-  is_number,
-  number_of,
-  beside,
-  alone,
-  numbered,
-  before_all,
-  of_machine,
-  rounds,
-  with_number,
-  of_two,
-  touch,
-  instruction_of,
-  instruction_on,
-  schedule_of,
-  IsRefusal,
-  GivesSchedule,
-};
-ghost use Rattle.link_world.specs.ScheduleCarrying.{read_line};
+ghost use Rattle.link_world.specs.Names.{list_all, is_ascii_digit, digits_value, fields_of, is_number, number_of, beside, alone, numbered, before_all, of_machine, rounds, with_number, of_two, touch, instruction_of, instruction_on, schedule_of, IsRefusal, GivesSchedule, read_line};
 
 use crate::texts::schedule_faults::ScheduleFault;
 use crate::texts::schedules::{Instruction, Schedule};

@@ -2,21 +2,9 @@
 // Points are in micrometres.
 
 ghost use Rattle.std.specs.Prelude.{◌≡◌, [], ◌∷◌, ◌++◌, codes, Ok, pos, negsuc};
-ghost use Rattle.protocol_model.specs.Examples.{at};
+ghost use Rattle.link_world.specs.Names.{at, schedule_of, Asks, IsRefusedAt, lined, Once, Auto, UpAll, DownAll, ServerReadsAll, ClientReadsAll, Rounds, Quiet};
 ghost use Rattle.protocol_model.specs.declared.events.Event.TheVariants as event;
 ghost use Rattle.protocol_model.specs.declared.machine.Outcome.TheVariants as outcome;
-ghost use Rattle.link_world.specs.ScheduleTexts.{schedule_of};
-ghost use Rattle.link_world.specs.ScheduleRows.{Asks, IsRefusedAt, lined};
-ghost use Rattle.link_world.specs.declared.texts.schedules.Instruction.TheVariants.{
-  Once,
-  Auto,
-  UpAll,
-  DownAll,
-  ServerReadsAll,
-  ClientReadsAll,
-  Rounds,
-  Quiet,
-};
 
 /// Words that are alone on their line.
 pub fn lone_word_rows()

@@ -1,15 +1,8 @@
 // What the client does in a world, and the bytes that come to it.
 
 ghost use Rattle.std.specs.Prelude.{◌≡◌, ◌++◌, [], nat_le, ◌&&◌, true, false, is_some, take, drop};
-ghost use Rattle.fixed_um.specs.Calls.{Leads, Writes};
-ghost use Rattle.contact_ledger.specs.Ledgers.{connection_most};
-ghost use Rattle.protocol_model.specs.Client.{due, is_apart, may_abort};
-ghost use Rattle.protocol_model.specs.Ends.{end_sent, end_aborted, end_fed, end_read, end_resumed, end_left, end_restarted};
-ghost use Rattle.protocol_model.specs.World.{can, has_some, connected, client_writes, moved_down};
+ghost use Rattle.link_world.specs.Names.{Leads, Writes, connection_most, due, is_apart, may_abort, end_sent, end_aborted, end_fed, end_read, end_resumed, end_left, end_restarted, can, has_some, connected, client_writes, moved_down, is_faulted, may_read, HappensIf, HappensIff, link_of_connection, with_up, fewer_down, quiet_client, with_world};
 ghost use Rattle.protocol_model.specs.declared.events.Event.TheVariants as event;
-ghost use Rattle.client_core.specs.Clients.{is_faulted, may_read};
-ghost use Rattle.link_world.specs.Events.{HappensIf, HappensIff};
-ghost use Rattle.link_world.specs.Links.{link_of_connection, with_up, fewer_down, quiet_client, with_world};
 
 use crate::worlds::connection::Connection;
 use crate::worlds::faults::WorldFault;

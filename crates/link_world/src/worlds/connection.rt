@@ -2,9 +2,7 @@
 // changes if memory runs out.
 
 ghost use Rattle.std.specs.Prelude.{◌≡◌, ◌≤◌, ◌++◌, [], length, OnOk};
-ghost use Rattle.fixed_um.specs.Calls.{HasRoom};
-ghost use Rattle.server_core.specs.Serving.{ServerValue, with_end};
-ghost use Rattle.link_world.specs.Links.{link_of_connection, with_up, with_down, quiet_client, quiet_server};
+ghost use Rattle.link_world.specs.Names.{HasRoom, ServerValue, with_end, link_of_connection, with_up, with_down, quiet_client, quiet_server};
 
 use client_core::{Client, LINE_MAX};
 use line_framing::ByteQueue;

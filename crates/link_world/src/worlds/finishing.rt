@@ -1,21 +1,8 @@
 // Bringing the rest of a program to its end; and the undisturbed run of a whole program.
 
 ghost use Rattle.std.specs.Prelude.{◌≡◌, ◌↔◌, ◌⊎◌, ◌≤◌, ◌<◌, [], length, true, false, None, Some, is_some, IsTrue, IsOk, IsErrAnd, IfOk, IfErr, OnOk, OnErr};
-ghost use Rattle.std.specs.Result.{IsErrOf};
-ghost use Rattle.protocol_model.specs.Client.{due};
-ghost use Rattle.protocol_model.specs.Finishing.{CanFinish, CanMeasure, HasMeasured, rejoined, plan_left};
-ghost use Rattle.protocol_model.specs.PlainExecution.{as_measured, plain_execution};
-ghost use Rattle.protocol_model.specs.Plan.{plan};
-ghost use Rattle.protocol_model.specs.Rounds.{IsRound};
-ghost use Rattle.protocol_model.specs.World.{start};
-ghost use Rattle.protocol_model.specs.declared.plans.Start.TheVariants.{NewConnection};
+ghost use Rattle.link_world.specs.Names.{IsErrOf, due, CanFinish, CanMeasure, HasMeasured, rejoined, plan_left, as_measured, plain_execution, plan, IsRound, start, NewConnection, FitsState, is_window, with_world, Makes, unwatched, commands_most, IsSameKind, AreFirstOfJoining, AreTurns, Finishes, Stops, IsFinish, IsQuietRun, Headline, HandsBack, IsWant};
 ghost use Rattle.protocol_model.specs.declared.states.State.TheVariants as state;
-ghost use Rattle.client_core.specs.Always.{FitsState};
-ghost use Rattle.client_core.specs.Clients.{is_window};
-ghost use Rattle.link_world.specs.Links.{with_world};
-ghost use Rattle.link_world.specs.Parts.{Makes, unwatched};
-ghost use Rattle.link_world.specs.Finishing.{commands_most, IsSameKind, AreFirstOfJoining, AreTurns, Finishes, Stops, IsFinish, IsQuietRun};
-ghost use Rattle.link_world.specs.Claims.{Headline, HandsBack, IsWant};
 
 use crate::connections::machines::Machine;
 use crate::texts::reports::report_of;

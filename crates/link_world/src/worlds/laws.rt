@@ -1,15 +1,9 @@
 // What follows for both ends from the contracts of their calls. Each function has laws for its contract and does nothing.
 
 ghost use Rattle.std.specs.Prelude.{◌≡◌, ◌≤◌, ℕ, List, false, length, true};
-ghost use Rattle.dmis_program.specs.Meaning.{Meaning};
-ghost use Rattle.dmis_program.specs.Programs.{IsProgram};
-ghost use Rattle.protocol_model.specs.Ends.{serving_left};
-ghost use Rattle.protocol_model.specs.Plan.{plan};
-ghost use Rattle.protocol_model.specs.Undisturbed.{AreUndisturbed, AreFirstLines, followed, met};
-ghost use Rattle.protocol_model.specs.World.{Link, run_of};
-ghost use Rattle.protocol_model.specs.declared.events.Event.{Event as OneEvent};
+ghost use Rattle.link_world.specs.Names.{Meaning, IsProgram, serving_left, plan, AreUndisturbed, AreFirstLines, followed, Link, run_of, Event as OneEvent, Call, reached};
+ghost use Rattle.protocol_model.specs.Undisturbed.{met};
 ghost use Rattle.protocol_model.specs.declared.plans.Start.TheVariants as Start;
-ghost use Rattle.server_core.specs.Calls.{Call, reached};
 
 /// A server whose machine is homed is not asked to home it again. Take every rack and every list of calls of a server, starting from a new
 /// one, after which it is on no connection and its machine is homed, every program and every window up to 16. Let a new client come to it

@@ -1,14 +1,7 @@
 // Parts of schedules, each as one call of a world.
 
 ghost use Rattle.std.specs.Prelude.{◌≡◌, [], ◌∷◌, true, false, length, Some, OnOk, OnErr, IfOk, IfSome, is_ok};
-ghost use Rattle.protocol_model.specs.World.{can, after, client_link, server_link};
-ghost use Rattle.link_world.specs.Links.{with_world};
-ghost use Rattle.protocol_model.specs.Rounds.{AreWhile, IsOne, all_up, all_down, ending};
-ghost use Rattle.link_world.specs.Schedules.{AreMade, ArePlayed, Plays, PlaysTraced};
-ghost use Rattle.link_world.specs.Parts.{repeats, Leading, Tells, PlaysPart, staged};
-ghost use Rattle.link_world.specs.Claims.{Headline};
-ghost use Rattle.link_world.specs.Finishing.{IsSameKind};
-ghost use Rattle.link_world.specs.Machines.{simulated};
+ghost use Rattle.link_world.specs.Names.{can, after, client_link, server_link, with_world, AreWhile, IsOne, all_up, all_down, ending, AreMade, ArePlayed, Plays, PlaysTraced, repeats, Leading, Tells, PlaysPart, staged, Headline, IsSameKind, simulated};
 
 use crate::connections::machines::{Machine, Simulated};
 use crate::texts::schedules::{Instruction, Schedule};

@@ -1,12 +1,7 @@
 // Quiet rounds, in which the client, the server and its machine do all that they can.
 
 ghost use Rattle.std.specs.Prelude.{◌≡◌, true, Some, IfSome};
-ghost use Rattle.protocol_model.specs.World.{can};
-ghost use Rattle.protocol_model.specs.declared.lines.Line.{Line as OneLine};
-ghost use Rattle.server_core.specs.Steady.{IsRunnable};
-ghost use Rattle.protocol_model.specs.Rounds.{AreWork, IsRound, ending, working};
-ghost use Rattle.link_world.specs.Schedules.{AreCounted, AreQuiet};
-ghost use Rattle.link_world.specs.Parts.{Tells, PlaysPart, staged};
+ghost use Rattle.link_world.specs.Names.{can, Line as OneLine, IsRunnable, AreWork, IsRound, ending, working, AreCounted, AreQuiet, Tells, PlaysPart, staged};
 
 use crate::connections::machines::Machine;
 use crate::worlds::traces::Trace;

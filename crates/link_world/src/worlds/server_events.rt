@@ -1,16 +1,8 @@
 // What the server does in a world, and the bytes that come to it.
 
 ghost use Rattle.std.specs.Prelude.{◌≡◌, ◌<◌, ◌-◌, [], true, false, length, take, drop, None, Ok, Err, vec_len, MatchOption};
-ghost use Rattle.fixed_um.specs.Calls.{Leads};
-ghost use Rattle.line_framing.specs.declared.faults.FramingFault.{FramingFault as OneFault};
-ghost use Rattle.line_framing.specs.Next.{next_of};
-ghost use Rattle.protocol_model.specs.Server.{may_end};
-ghost use Rattle.protocol_model.specs.Ends.{serving_accepted, serving_fed, serving_read, serving_turned, serving_machined, serving_left, serving_restarted};
-ghost use Rattle.protocol_model.specs.World.{can, is_line, has_some, server_writes, moved_up};
+ghost use Rattle.link_world.specs.Names.{Leads, FramingFault as OneFault, next_of, may_end, serving_accepted, serving_fed, serving_read, serving_turned, serving_machined, serving_left, serving_restarted, can, is_line, has_some, server_writes, moved_up, with_end, may_turn, HappensIf, HappensIff, StandsOn, link_of_connection, with_down, fewer_up, quiet_server, with_world};
 ghost use Rattle.protocol_model.specs.declared.events.Event.TheVariants as event;
-ghost use Rattle.server_core.specs.Serving.{with_end, may_turn};
-ghost use Rattle.link_world.specs.Events.{HappensIf, HappensIff};
-ghost use Rattle.link_world.specs.Links.{StandsOn, link_of_connection, with_down, fewer_up, quiet_server, with_world};
 
 use crate::worlds::connection::Connection;
 use crate::worlds::faults::WorldFault;

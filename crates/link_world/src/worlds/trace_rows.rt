@@ -1,10 +1,8 @@
 // Examples of traced lines. Each function has laws for its contract and does nothing.
 
 ghost use Rattle.std.specs.Prelude.{◌≡◌, List, [], ◌∷◌, ◌++◌, None, Some, true, false, codes};
-ghost use Rattle.protocol_model.specs.World.{World};
+ghost use Rattle.link_world.specs.Names.{World, rows, client_mark, server_mark, comes_up, passed_over, shown, written, text, sides, with_links, waiting};
 ghost use Rattle.protocol_model.specs.declared.events.Event.TheVariants as event;
-ghost use Rattle.link_world.specs.Traces.{rows, client_mark, server_mark, comes_up, passed_over, shown};
-ghost use Rattle.link_world.specs.TraceRows.{written, text, sides, with_links, waiting};
 
 /// Lines of both sides, lines that are never delivered, lines that came in part, and a last line without its end.
 pub fn line_rows()

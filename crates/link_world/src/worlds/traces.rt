@@ -2,13 +2,7 @@
 // the same.
 
 ghost use Rattle.std.specs.Prelude.{◌≡◌, ◌++◌, ◌↔◌, ◌-◌, suc, [], ◌∷◌, true, false, length, drop, OnOk, OnErr, IfOk, IfSome, IsOk, ◌<◌, ◌==◌};
-ghost use Rattle.std.specs.List.{position};
-ghost use Rattle.fixed_um.specs.Calls.{Leads};
-ghost use Rattle.protocol_model.specs.World.{happens};
-ghost use Rattle.link_world.specs.Claims.{Headline, IsAnswer};
-ghost use Rattle.link_world.specs.Finishing.{IsSameKind};
-ghost use Rattle.link_world.specs.Links.{with_world};
-ghost use Rattle.link_world.specs.Traces.{without_cr, row, rows, client_mark, server_mark, up_on, down_on, standing, is_there, comes_up, place, client_wrote, server_wrote, lost_up, lost_down, passed_over, shown, taken_after, Traces, Ends, Grows};
+ghost use Rattle.link_world.specs.Names.{position, Leads, happens, Headline, IsAnswer, IsSameKind, with_world, without_cr, row, rows, client_mark, server_mark, up_on, down_on, standing, is_there, comes_up, place, client_wrote, server_wrote, lost_up, lost_down, passed_over, shown, taken_after, Traces, Ends, Grows};
 
 use crate::worlds::faults::WorldFault;
 use crate::worlds::standing::Standing;

@@ -1,19 +1,7 @@
 // Both ends and the connections between them.
 
 ghost use Rattle.std.specs.Prelude.{◌≡◌, ◌↔◌, ◌⊎◌, ◌+◌, length, true, false, [], IsOk, IsErrAnd, IfOk, IfErr, OnOk, OnErr, MatchOption, None, Some};
-ghost use Rattle.fixed_um.specs.Calls.{Leads};
-ghost use Rattle.std.specs.Result.{IsErrOf};
-ghost use Rattle.std.specs.List.{AllByRecursion};
-ghost use Rattle.contact_ledger.specs.FeatureTexts.{CanBeWritten};
-ghost use Rattle.protocol_model.specs.Server.{running_job};
-ghost use Rattle.protocol_model.specs.World.{start, can, happens};
-ghost use Rattle.protocol_model.specs.Undisturbed.{AreUndisturbed};
-ghost use Rattle.link_world.specs.Events.{HappensIf};
-ghost use Rattle.client_core.specs.Clients.{is_window};
-ghost use Rattle.link_world.specs.Links.{with_world};
-ghost use Rattle.link_world.specs.Runs.{ReportsRun, FollowsPlan};
-ghost use Rattle.link_world.specs.Claims.{Headline, IsAnswer, IsNew, first_plan, HandsBack, IsWant, takes_memory};
-ghost use Rattle.link_world.specs.Finishing.{IsSameKind};
+ghost use Rattle.link_world.specs.Names.{Leads, IsErrOf, AllByRecursion, CanBeWritten, running_job, start, can, happens, AreUndisturbed, HappensIf, is_window, with_world, ReportsRun, FollowsPlan, Headline, IsAnswer, IsNew, first_plan, HandsBack, IsWant, takes_memory, IsSameKind};
 
 use crate::worlds::connection::Connection;
 use crate::worlds::faults::{NewFault, WorldFault};

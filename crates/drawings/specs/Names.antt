@@ -1,0 +1,28 @@
+-- The names of other files that contracts of this crate cite.
+pub use Rattle.std.specs.List.{flat_map}
+pub use Rattle.fixed_um.specs.Calls.{Writes}
+unfoldable pub use Rattle.fixed_um.specs.Written.{written}
+pub use Rattle.fixed_um.specs.Written.{three_digits}
+unfoldable pub use Rattle.drawings.specs.Bars.{bar_text}
+pub use Rattle.drawings.specs.Bars.{AreBars, IsBar, IsLongest}
+unfoldable pub use Rattle.drawings.specs.Drawing.{head_text}
+pub use Rattle.drawings.specs.Drawing.{IsDrawing, IsDrawingOf}
+unfoldable pub use Rattle.drawings.specs.Footer.{caption_text, counts_text, legend_marks, legend_words, ratio_text}
+pub use Rattle.drawings.specs.Footer.{IsFooter, asked_count, is_asked, is_measured, magnified_words, measured_count}
+unfoldable pub use Rattle.drawings.specs.Labels.{bullet_text, label_text, more_text, name_text}
+pub use Rattle.drawings.specs.Labels.{AreLabels, AreOnLines, AreOrdered, anchors_from, bullet_start, label_at, line_for, more_if_any, most_labels}
+unfoldable pub use Rattle.drawings.specs.Marks.{done_dot, dots_text, open_dot, way_spot, way_text, whisker, whiskers_text}
+pub use Rattle.drawings.specs.Marks.{spot_of, thickness_for}
+unfoldable pub use Rattle.drawings.specs.Pictures.{arrow_text, arrows_text, axes_text, letters_text, picture_text, span_text, title_text}
+unfoldable pub use Rattle.drawings.specs.Places.{height_in}
+pub use Rattle.drawings.specs.Places.{IsBetween, IsWider, place_of}
+pub use Rattle.drawings.specs.Placing.{AreViews, views_room}
+unfoldable pub use Rattle.drawings.specs.Scales.{denominator, numerator, on_paper}
+pub use Rattle.drawings.specs.Scales.{AreShort, Fits, IsScaleFor, length_limit, round}
+pub use Rattle.drawings.specs.Sheet.{margin}
+unfoldable pub use Rattle.drawings.specs.Stops.{stops_of}
+pub use Rattle.drawings.specs.Stops.{act_by, later_with, next_points, points_with, stops_at, zero_of, zero_with}
+unfoldable pub use Rattle.drawings.specs.Texts.{attribute, disc_text, frame_text, line_text, markup, millimetres, text_element, text_start}
+pub use Rattle.drawings.specs.Texts.{Adds, escaped, escaped_byte, shown_name, spot_text, text_end}
+pub use Rattle.drawings.specs.Views.{IsInView, moved, part_of, tip_of, upright_of}
+pub use Rattle.drawings.specs.Whiskers.{AreWhiskers, IsAtMost, IsLongestAway, NotLonger, one_length, whisker_room}
