@@ -1,6 +1,6 @@
 -- What a run holds back at texts for its operator (where a run waits is this profile's).
 use Rattle.std.specs.Prelude.{ℕ, Bool, ◌&&◌, not, List, [], ◌∷◌, if◌then◌else◌, nat_eq}
-use Rattle.order_parts.specs.declared.pauses.TextPlace.{TextPlace}
+use Rattle.order_parts.specs.declared.pausing.TextPlace.{TextPlace}
 
 -- what is known of a text in a run: how many commands it holds back, whether the run waits there, and whether it stands above each touch that is left
 pub record Held : Type 0 where

@@ -1,5 +1,5 @@
 use Rattle.order_parts.proofs.Names.{◌++◌, ◌≡◌, drop, map, pauses_from, pauses_of, place_seen}
-use Rattle.order_parts.proofs.pauses.pauses.Given as goal
+use Rattle.order_parts.proofs.pausing.pauses.Given as goal
 
 -- the pauses so far, and those of the places that are left
 abbrev pub invariant-loop-place : goal.invariant-loop-place
