@@ -1,4 +1,4 @@
-// The files of an order, and what is shown of the one at fault: its name, and where it is refused.
+// The files of an order, and what is shown of the one at fault: its name, and the place of the refusal.
 
 ghost use Rattle.std.specs.Prelude.{◌≡◌, [], IfOk, string_bytes};
 ghost use Rattle.refusal_guide.specs.Names.{Places, file_in, is_short, IsUnnamed, IsFaultShown, IsPlaceShown};
