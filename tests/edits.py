@@ -38,7 +38,7 @@ def without_prose(path):
     kept, is_import = [], False
     for line in text.decode().splitlines():
         word = line.strip()
-        begins = re.match(r"(ghost )?use " if path.suffix == ".rt" else r"(pub )?(use|mod) ", word) is not None
+        begins = re.match(r"(ghost )?use " if path.suffix == ".rt" else r"(unfoldable )?(pub )?(use|mod) ", word) is not None
         if not (is_import or begins or not word or word.startswith(comment)):
             kept.append(line if path.suffix == ".rt" else re.sub(r"\b\w+\.(?=[A-Z])", "", line))
         # An import of a source ends with a semicolon, perhaps some lines below.

@@ -1,18 +1,22 @@
--- The names of other files that contracts of this crate cite.
-pub use Rattle.std.specs.Char.{digit_value, is_ascii_digit}
-pub use Rattle.std.specs.List.{list_all, prefix_len, take_while}
-pub use Rattle.std.specs.Option.{option_map}
-pub use Rattle.std.specs.Str.Parse.{AllDigits, digits_value, digits_value_after, starts_with_minus, without_leading_sign}
-pub use Rattle.fixed_um.specs.Calls.{Grows, HasRoom, Shows, Writes}
-pub use Rattle.fixed_um.specs.Computed.{is_zero_text, value_of}
-pub use Rattle.fixed_um.specs.Fronts.{BeginsWithDecimals, BeginsWithDigits, BeginsWithLength, minus_if}
-pub use Rattle.fixed_um.specs.Limits.{component_limit, volume_limit, wire_limit}
-pub use Rattle.fixed_um.specs.Numerals.{IsNumeral, IsZero, Numeral, Reads, ReadsDirection, signed}
-pub use Rattle.fixed_um.specs.Points.{IsInVolume, point_difference, point_opposite, point_sum, zero_point}
-pub use Rattle.fixed_um.specs.Rounding.{RoundsUp}
-unfoldable pub use Rattle.fixed_um.specs.Scan.{exponent_of, numeral_of}
-pub use Rattle.fixed_um.specs.Scan.{digits_behind, digits_front, exponent_digits, fraction_behind, fraction_front, is_short_number}
-pub use Rattle.fixed_um.specs.Shapes.{IsDirection}
-pub use Rattle.fixed_um.specs.Taken.{IsPlain, the_numeral}
-unfoldable pub use Rattle.fixed_um.specs.Written.{written, written_component}
-pub use Rattle.fixed_um.specs.Written.{minus_sign, three_digits, written_direction}
+-- Names of features, tools and frames, in this profile.
+use Rattle.std.specs.Prelude.{ℕ, Bool, ◌&&◌, not, ◌≡◌, true, List, length, map, nat_le, codes}
+use Rattle.std.specs.List.{list_all, list_any}
+use Rattle.std.specs.Prelude.{◌==◌}
+use Rattle.std.specs.Char.{to_ascii_uppercase}
+
+-- a byte that can be in a name: from 33 to 126 except ( ) , ' " / = $
+abbrev pub is_name_byte : ℕ → Bool
+is_name_byte b = nat_le 33 b && (nat_le b 126 && not (list_any (λ x. x == b) (codes "(),'\"/=$")))
+
+-- letters a to z as A to Z
+abbrev pub folded : List ℕ → List ℕ
+folded text = map to_ascii_uppercase text
+
+-- 1 to 64 bytes that can be in a name
+abbrev pub is_name_text : List ℕ → Bool
+is_name_text text = nat_le 1 (length text) && (nat_le (length text) 64 && list_all is_name_byte text)
+
+-- a name: such a text with its letters folded
+pub record IsName (bytes : List ℕ) : Type 0 where
+  pub named : is_name_text bytes ≡ true
+  pub capitals : folded bytes ≡ bytes

@@ -2,7 +2,8 @@
 // would first look for its end.
 
 ghost use Rattle.std.specs.Prelude.{◌≡◌, ◌<◌, ◌++◌, ◌≤ℤ◌, pos, unsigned_abs, IfSome};
-ghost use Rattle.fixed_um.specs.Names.{digit_value, minus_if, BeginsWithDigits, BeginsWithDecimals, BeginsWithLength};
+ghost use Rattle.std.specs.Char.{digit_value};
+ghost use Rattle.fixed_um.specs.Fronts.{minus_if, BeginsWithDigits, BeginsWithDecimals, BeginsWithLength};
 
 use crate::lengths::Um;
 use crate::numerals::with_sign;

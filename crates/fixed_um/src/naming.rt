@@ -1,8 +1,10 @@
 // Names of features, tools and frames.
 
 ghost use Rattle.std.specs.Prelude.{◌≡◌, IfOk, IfSome, IfNone, true, false, if◌then◌else◌};
-ghost use Rattle.fixed_um.specs.Names.{list_all, Shows, folded, is_name_byte, is_name_text, IsName};
+ghost use Rattle.std.specs.List.{list_all};
 ghost use Rattle.std.specs.Rc.{rc_slice_items};
+ghost use Rattle.fixed_um.specs.Calls.{Shows};
+ghost use Rattle.fixed_um.specs.Names.{folded, is_name_byte, is_name_text, IsName};
 
 use std::alloc::{AllocError, Global};
 use std::marker::Model;

@@ -1,7 +1,11 @@
 // Reading numerals.
 
 ghost use Rattle.std.specs.Prelude.{◌≡◌, ◌≤◌, ◌<◌, ◌+◌, ◌*◌, ◌^◌, ◌↔◌, ◌≤ℤ◌, ℕ, List, Result, Option, ℤ, pos, unsigned_abs, Ok, Err, SomeIff, MatchOption, IsTrue, IfSome, IfNone};
-ghost use Rattle.fixed_um.specs.Names.{component_limit, wire_limit, Numeral, IsNumeral, IsZero, Reads, ReadsDirection, signed, RoundsUp, value_of, is_zero_text, IsDirection};
+ghost use Rattle.fixed_um.specs.Limits.{component_limit, wire_limit};
+ghost use Rattle.fixed_um.specs.Numerals.{Numeral, IsNumeral, IsZero, Reads, ReadsDirection, signed};
+ghost use Rattle.fixed_um.specs.Rounding.{RoundsUp};
+ghost use Rattle.fixed_um.specs.Computed.{value_of, is_zero_text};
+ghost use Rattle.fixed_um.specs.Shapes.{IsDirection};
 
 use crate::directions::Dir;
 use crate::lengths::Um;

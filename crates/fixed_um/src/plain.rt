@@ -2,7 +2,9 @@
 // are of this form.
 
 ghost use Rattle.std.specs.Prelude.{◌≡◌, ◌<◌, ◌^◌, IfSome};
-ghost use Rattle.fixed_um.specs.Names.{digits_value_after, digits_front, digits_behind, IsPlain};
+ghost use Rattle.std.specs.Str.Parse.{digits_value_after};
+ghost use Rattle.fixed_um.specs.Scan.{digits_front, digits_behind};
+ghost use Rattle.fixed_um.specs.Taken.{IsPlain};
 
 use crate::scanning::cut_sign;
 

@@ -1,7 +1,8 @@
 // Points that are moved.
 
 ghost use Rattle.std.specs.Prelude.{◌≡◌, ◌≤◌, ◌+ℤ◌, ◌-ℤ◌, neg_ℤ, unsigned_abs, SomeIff, ◌↔◌, IsTrue};
-ghost use Rattle.fixed_um.specs.Names.{volume_limit, zero_point, point_sum, point_difference, point_opposite, IsInVolume};
+ghost use Rattle.fixed_um.specs.Limits.{volume_limit};
+ghost use Rattle.fixed_um.specs.Points.{zero_point, point_sum, point_difference, point_opposite, IsInVolume};
 
 use crate::lengths::{Point, Um};
 

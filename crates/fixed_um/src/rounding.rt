@@ -1,7 +1,8 @@
 // The whole number nearest to a fraction whose denominator is a power of ten: in one machine word, and in two.
 
 ghost use Rattle.std.specs.Prelude.{◌≡◌, ◌<◌, ◌*◌, ◌^◌, ◌≤◌, SomeIff};
-ghost use Rattle.fixed_um.specs.Names.{wire_limit, RoundsUp};
+ghost use Rattle.fixed_um.specs.Limits.{wire_limit};
+ghost use Rattle.fixed_um.specs.Rounding.{RoundsUp};
 
 fn power_of_ten(count: usize) -> u64
     requires { count ≤ 18 }

@@ -1,7 +1,13 @@
 // A numeral, taken apart from its front.
 
 ghost use Rattle.std.specs.Prelude.{◌≡◌, ◌<◌, ◌+◌, ◌^◌, length, IfSome, IsTrue, ◌↔◌, drop, ◌++◌, ◌≤◌, true};
-ghost use Rattle.fixed_um.specs.Names.{take_while, prefix_len, list_all, is_ascii_digit, starts_with_minus, without_leading_sign, AllDigits, digits_value, digits_value_after, digits_front, digits_behind, fraction_front, fraction_behind, exponent_digits, exponent_of, is_short_number, numeral_of, Numeral, the_numeral, option_map};
+ghost use Rattle.std.specs.List.{take_while, prefix_len, list_all};
+ghost use Rattle.std.specs.Char.{is_ascii_digit};
+ghost use Rattle.std.specs.Str.Parse.{starts_with_minus, without_leading_sign, AllDigits, digits_value, digits_value_after};
+ghost use Rattle.fixed_um.specs.Scan.{digits_front, digits_behind, fraction_front, fraction_behind, exponent_digits, exponent_of, is_short_number, numeral_of};
+ghost use Rattle.fixed_um.specs.Numerals.{Numeral};
+ghost use Rattle.fixed_um.specs.Taken.{the_numeral};
+ghost use Rattle.std.specs.Option.{option_map};
 
 /// What a numeral says: its sign, the digits on both sides of the point, and the powers of ten of its exponent, of which one is 0.
 #[derive(Clone, Copy)]

@@ -4,7 +4,11 @@
 // so that running out of memory changes nothing.
 
 ghost use Rattle.std.specs.Prelude.{◌≡◌, ◌≤◌, ◌+◌, ◌*◌, ◌%◌, ◌^◌, ◌++◌, ◌∷◌, [], ℕ, length, vec_len, vec_capacity, IfSome, IfNone, OnOk, OnErr, Ok, Some, unsigned_abs, decimal, codes, ◌<◌, drop};
-ghost use Rattle.fixed_um.specs.Names.{Grows, HasRoom, Writes, wire_limit, component_limit, Reads, ReadsDirection, IsDirection, minus_sign, three_digits, written, written_component, written_direction};
+ghost use Rattle.fixed_um.specs.Calls.{Grows, HasRoom, Writes};
+ghost use Rattle.fixed_um.specs.Limits.{wire_limit, component_limit};
+ghost use Rattle.fixed_um.specs.Numerals.{Reads, ReadsDirection};
+ghost use Rattle.fixed_um.specs.Shapes.{IsDirection};
+ghost use Rattle.fixed_um.specs.Written.{minus_sign, three_digits, written, written_component, written_direction};
 
 use crate::directions::Dir;
 use crate::lengths::Um;

@@ -1,7 +1,9 @@
 // Examples: what comes of an answer, and what is known. Each function has laws for its contract and does nothing.
 
 ghost use Rattle.std.specs.Prelude.{◌≡◌, [], ◌∷◌, true, false, Some, is_some};
-ghost use Rattle.run_opening.specs.Names.{Run, Bytes, End, Missing, Done, Found, State, Outside, Known, outcome, read, is_there, untouched};
+ghost use Rattle.dme_words.specs.declared.orders.Run.{Run};
+ghost use Rattle.effects.specs.Effects.{Bytes, End, Missing, Done, Found};
+ghost use Rattle.run_opening.specs.Openings.{State, Outside, Known, outcome, read, is_there, untouched};
 ghost use Rattle.run_opening.specs.declared.stages.Stage.TheVariants as stage;
 ghost use Rattle.run_opening.specs.declared.stages.Text.TheVariants as text;
 

@@ -1,7 +1,11 @@
 // What follows from the definitions. Each function has laws for its contract and does nothing.
 
 ghost use Rattle.std.specs.Prelude.{◌≡◌, true, ℕ, List, Some, is_some};
-ghost use Rattle.run_opening.specs.Names.{Run, Pair, IsSessionOf, IsRunBegun, State, Outside, Known};
+ghost use Rattle.dme_words.specs.declared.orders.Run.{Run};
+ghost use Rattle.record_laws.specs.Recordings.{Pair};
+ghost use Rattle.run_opening.specs.Asking.{IsSessionOf};
+ghost use Rattle.run_opening.specs.Begun.{IsRunBegun};
+ghost use Rattle.run_opening.specs.Openings.{State, Outside, Known};
 ghost use Rattle.run_opening.specs.declared.stages.Stage.TheVariants as stage;
 
 /// The run of a session that is ready, and has a record, begins as `begin_record` gives it of the bytes that were read of that (`IsBegun`):

@@ -1,7 +1,8 @@
 // The files that a run names: none that is written may be another, or take the place of another's next text.
 
 ghost use Rattle.std.specs.Prelude.{◌≡◌, ◌↔◌, true, OnOk};
-ghost use Rattle.run_opening.specs.Names.{the_reply, IsNext, Meet};
+ghost use Rattle.effects.specs.Effects.{the_reply};
+ghost use Rattle.run_opening.specs.Names.{IsNext, Meet};
 ghost use Rattle.run_opening.specs.Openings as spec;
 
 use crate::openings::Opening;

@@ -1,8 +1,8 @@
 // A session that opens a run: what it asks, and what it does with an answer.
 
 ghost use Rattle.std.specs.Prelude.{◌≡◌, ◌↔◌, true, OnOk, IsSome, IfSome};
-ghost use Rattle.run_opening.specs.Names.{the_ask, the_reply, the_place, Reply};
 ghost use Rattle.client_core.specs.Clients.{is_window};
+ghost use Rattle.effects.specs.Effects.{the_ask, the_reply, the_place, Reply};
 ghost use Rattle.run_opening.specs.Openings as spec;
 ghost use Rattle.run_opening.specs.Asking as asking;
 
