@@ -1,8 +1,8 @@
 // What coordinates fill along an axis.
 
 ghost use Rattle.std.specs.Prelude.{◌≡◌, ◌≤◌, ◌≤ℤ◌, ◌-ℤ◌, ℤ, pos, unsigned_abs};
-ghost use Rattle.drawings.specs.Names.{length_limit, height_in, IsBetween, IsWider};
-ghost use Rattle.drawings.specs.Places.{machine_limit};
+ghost use Rattle.drawings.specs.Scales.{length_limit};
+ghost use Rattle.drawings.specs.Places.{machine_limit, height_in, IsBetween, IsWider};
 
 use crate::places::Coordinate;
 

@@ -1,9 +1,10 @@
 // The two views.
 
 ghost use Rattle.std.specs.Prelude.{◌≡◌, ◌≤◌, ◌+◌, ◌-◌, ◌-ℤ◌, unsigned_abs};
-ghost use Rattle.drawings.specs.Names.{height_in, IsBetween, upright_of, part_of, IsInView, moved, tip_of};
 ghost use Rattle.drawings.specs.Scales.{on_paper};
 ghost use Rattle.drawings.specs.Sheet.{margin, sheet_width, sheet_height};
+ghost use Rattle.drawings.specs.Places.{height_in, IsBetween};
+ghost use Rattle.drawings.specs.Views.{upright_of, part_of, IsInView, moved, tip_of};
 
 use crate::away::Away;
 use crate::places::Place;
