@@ -15,4 +15,5 @@ pub mod Exporting
 pub mod Recorded
 pub mod OfRecords
 pub mod RunErrors
+pub mod Reporting
 pub mod Names

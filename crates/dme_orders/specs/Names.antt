@@ -33,6 +33,7 @@ pub use Rattle.dme_orders.specs.OfRecords.{AuditsRecord, ExportsRecord, IsRecord
 pub use Rattle.dme_orders.specs.Orders.{went}
 pub use Rattle.dme_orders.specs.Reading.{Reads, ReadsContacts, ReadsFeatures, ReadsLimits, ReadsProgram, ReadsRecord, ReadsSchedule, ReadsSetup, WhyNoContacts, WhyNoFeatures, WhyNoLimits, WhyNoProgram, WhyNoRecord, WhyNoSchedule, WhyNoSetup, WhyNoText, came}
 pub use Rattle.dme_orders.specs.Recorded.{IsOfProgram, features_in, told_in}
+pub use Rattle.dme_orders.specs.Reporting.{IsPageOf, ReportsRecord, facts_of, part_in}
 pub use Rattle.dme_orders.specs.Reviewing.{ReadsStored, Reviews, review_status}
 pub use Rattle.dme_orders.specs.RunErrors.{error_line, errors_in}
 pub use Rattle.dme_orders.specs.Simulating.{AreTraced, IsPlayed, IsShown, LeavesLines, LeavesReport, ShowsLines, Simulates, SimulatesLines, shown_of}

@@ -5,7 +5,7 @@ ghost use Rattle.dme_program.specs.Names.{is_window, IsReady, OnSetup};
 
 use crate::connecting::loop_program;
 use crate::explaining::{refused, tell_audit};
-use crate::exporting::{explain_topic, export, export_of_record, record_files};
+use crate::exporting::{explain_topic, export, export_of_record, record_files, report_of_record};
 use crate::faults::Fault;
 use crate::files::{NamedSource, Sources, file_of};
 use crate::serving::{read_recordings, run_program, serve, watch};
@@ -17,13 +17,13 @@ use dme_orders::{
 };
 use dme_words::{Audit, Check, Lower, Order, RecordAudit, Review, Simulation, read_words};
 use order_parts::{FilesFault, status};
-use refusal_guide::InputFiles;
-use watched_ends::Job;
 use program_lowering::{Choices, SourceNames, lower_program};
 use program_review::{FindingForm, FindingStyle};
+use refusal_guide::InputFiles;
 use std::alloc::{AllocError, Global};
 use std::env;
 use std::io::{self, Write};
+use watched_ends::Job;
 
 /// The words of the command line; the first names the program in `clap`'s texts, whatever file it runs from.
 fn words_of(alloc: Global, given: &[String]) -> Result<Vec<&str>, AllocError> {
@@ -262,6 +262,7 @@ fn carry_out(rt: HostRuntime, order: Order) -> Result<u8, Fault>
         Order::Judge(order) => Ok(read_recordings(rt, Job::Judge, order.up, order.down)?),
         Order::Watch(order) => Ok(watch(rt, order)?),
         Order::Lower(order) => Ok(lower(rt, order)?),
+        Order::Report(order) => Ok(report_of_record(rt, order)?),
     }
 }
 
