@@ -1,6 +1,6 @@
 // What follows from the definitions alone. Each function has laws for its contract and does nothing.
-ghost use Rattle.std.specs.Prelude.{◌≡◌, ◌<◌, ◌^◌, ◌++◌, ◌∷◌, ◌*◌, [], ℕ, ℤ, pos, neg_ℤ, int_lt, unsigned_abs, List, length, codes, false, true, Some, None, Ok};
-ghost use Rattle.program_lowering.specs.Names.{option_map, BadByte, Passes, AllByRecursion, Point, Meaning, program_of, text_reading, acts_of, IsComment, Names, head_lines, keyword_of, Ptmeas, has_open_text, Statement, ended_lines, flat_program, kept, left_out_at, lowered_meaning, passed_over, in_manual, is_skipped, component_limit, IsRounded, signed, length_of, all_stated, in_inches, in_millimetres, inch_length, stated, all_choices, bare, first_by_hand, manual_front, measured, mode_man, mode_prog, plain_choices, start, to_operator, flat, flat_text, is_operator_text, TextsFit, flat_meant, text_refusal, left_out, Choices};
+ghost use Rattle.std.specs.Prelude.{◌≡◌, ◌<◌, ◌^◌, ◌++◌, ◌∷◌, ◌*◌, [], ℕ, ℤ, pos, neg_ℤ, int_lt, unsigned_abs, List, length, map, codes, false, true, Some, None, Ok};
+ghost use Rattle.program_lowering.specs.Names.{option_map, BadByte, Passes, AllByRecursion, Point, Meaning, program_of, text_reading, acts_of, IsComment, Names, head_lines, keyword_of, Ptmeas, has_open_text, Statement, ended_lines, flat_program, kept, left_out_at, lowered_meaning, passed_over, in_manual, is_skipped, component_limit, IsRounded, signed, length_of, all_stated, in_inches, in_millimetres, inch_length, stated, all_choices, bare, first_by_hand, manual_front, measured, mode_man, mode_prog, plain_choices, start, to_operator, flat, flat_text, is_operator_text, TextsFit, flat_meant, text_refusal, left_out, Choices, Recalls, by_frame, frame_note, frame_notes, stored_frame, frame_said, nearest, saying, make_b, recall_a, naming_a, naming_none, of_setup, saving, two_frames};
 ghost use Rattle.fixed_um.specs.Numerals.{Reads};
 ghost use Rattle.program_lowering.specs.declared.words.Reason.TheVariants as reason;
 
@@ -69,6 +69,31 @@ pub fn examples_of_manual_blocks()
     ensures scanned { is_skipped true (bare (codes "SCAN") []) ≡ true }
     ensures looped { is_skipped true (bare (codes "DO") []) ≡ false }
     ensures open { is_skipped true (bare (codes "GOTO") (codes "'A" ∷ [])) ≡ false }
+{}
+
+/// What makes or recalls a coordinate system by name selects the stored frame of this name, and no other statement changes.
+pub fn frames_are_selected_by_name()
+    ensures selects { (choices : Choices) (s : Statement) (name : List ℕ)
+        → stored_frame choices s ≡ Some name → saying (by_frame choices s) ≡ Ok (Recalls name) }
+    ensures others { (choices : Choices) (s : Statement) → stored_frame choices s ≡ None
+        → by_frame choices s ≡ s }
+{}
+
+/// Examples: alignments by name, what the setup's frames take the place of, the frame of a touch, and the notes.
+pub fn examples_of_frames()
+    ensures selecting { map (by_frame all_choices) naming_a
+        ≡ recall_a ∷ (recall_a ∷ (recall_a ∷ (recall_a ∷ []))) }
+    ensures unasked { map (by_frame plain_choices) naming_a ≡ naming_a }
+    ensures others { map (by_frame all_choices) naming_none ≡ naming_none }
+    ensures setup { map (left_out all_choices) of_setup
+        ≡ Some reason.Stored ∷ (Some reason.Stored ∷ (Some reason.Stored ∷ [])) }
+    ensures setup_unasked { map (left_out plain_choices) of_setup ≡ None ∷ (None ∷ (None ∷ [])) }
+    ensures saved { map (left_out all_choices) saving ≡ None ∷ (None ∷ []) }
+    ensures nearest { nearest frame_said (make_b ∷ (recall_a ∷ [])) ≡ Some (codes "B") }
+    ensures before { nearest frame_said (recall_a ∷ (make_b ∷ (recall_a ∷ [])))
+        ≡ Some (codes "A") }
+    ensures listed { frame_notes two_frames ≡ frame_note 1 (Ok (Recalls (codes "A"))) 2
+        ++ (frame_note 1 (Ok (Recalls (codes "B"))) 1 ++ []) }
 {}
 
 /// The head of a flat program is comments alone.

@@ -1,7 +1,7 @@
 // The words that a flat program does not have.
 
 ghost use Rattle.std.specs.Prelude.{◌≡◌};
-ghost use Rattle.program_lowering.specs.Names.{is_among, keyword_of, clearing, compensation, left_out, naming, passed_motion, passed_reason, printing, reason_of, reason_text};
+ghost use Rattle.program_lowering.specs.Names.{is_among, keyword_of, clearing, compensation, left_out, naming, passed_motion, passed_reason, printing, reason_of, reason_text, is_of_setup, saves_frame};
 
 use dmis_program::Keyword;
 use dmis_text::{Statement, Text};
@@ -16,6 +16,8 @@ pub struct Choices {
     pub compensated: bool,
     /// What the operator would measure is left out.
     pub skip_manual: bool,
+    /// Alignments select the frames of the setup that have their names.
+    pub stored_frames: bool,
 }
 
 /// Why nothing is written of a statement.
@@ -37,6 +39,8 @@ pub enum Reason {
     Compensated,
     /// The operator would measure.
     Manual,
+    /// The setup has the frames.
+    Stored,
     /// It commands nothing.
     Passed,
 }
@@ -85,6 +89,23 @@ fn compensation(compensated: bool, params: &[Text]) -> Option<Reason>
     None
 }
 
+/// Whether a `SAVE` with these parameters saves a frame.
+fn saves_frame(params: &[Text]) -> bool
+    ensures { result ≡ saves_frame params.now }
+{
+    match params {
+        [only] => only.starts_with(b"D(") || only.starts_with(b"DA("),
+        _ => false,
+    }
+}
+
+/// What the setup's frames take the place of.
+fn is_of_setup(word: &[u8], params: &[Text]) -> bool
+    ensures { result ≡ is_of_setup word.now params.now }
+{
+    is_text(word, "DATDEF") || (is_text(word, "SAVE") && saves_frame(params))
+}
+
 /// Why a word that no flat program has may be left out.
 fn reason_of(choices: Choices, word: &[u8], params: &[Text]) -> Option<Reason>
     ensures { result ≡ reason_of choices word.now params.now }
@@ -110,6 +131,9 @@ fn reason_of(choices: Choices, word: &[u8], params: &[Text]) -> Option<Reason>
     }
     if is_text(word, "TECOMP") {
         return compensation(choices.compensated, params);
+    }
+    if choices.stored_frames && is_of_setup(word, params) {
+        return Some(Reason::Stored);
     }
     None
 }
@@ -156,6 +180,7 @@ pub(crate) fn reason_text(reason: Reason) -> &'static [u8]
         Reason::Uncompensated => b"nothing is corrected for temperature",
         Reason::Compensated => b"the machine corrects for temperature",
         Reason::Manual => b"it is in a manual block; the operator would carry it out",
+        Reason::Stored => b"the frames are the setup's",
         Reason::Passed => b"it commands nothing",
     }
 }
