@@ -1,9 +1,17 @@
 -- Lengths on paper.
-use Rattle.std.proofs.Common.{◌+◌, ◌≡◌, ◌∙◌, ap, mul-le-mul, ℕ, zero, suc, ◌/◌, ◌*◌, ◌≤◌, ◌<◌, arith, mul-le-mul_right, div-mul-le_self}
-use Rattle.std.proofs.Math.Nat.{div-zero, zero-div, div-le_self}
+use Rattle.std.proofs.Common.{◌+◌, ◌%◌, ◌≡◌, ◌∙◌, ap, mul-le-mul, ℕ, zero, suc, ◌/◌, ◌*◌, ◌≤◌, ◌<◌, arith, mul-le-mul_right, div-mul-le_self}
+use Rattle.std.proofs.Math.Nat.{div-zero, zero-div, div-le_self, mul-pos, one-le-pow}
 use Rattle.std.proofs.lemmas.Nat.{le-div, mul-lt}
-use Rattle.drawings.specs.Scales.{on_paper, numerator, denominator, Fits, AreShort}
+use Rattle.drawings.specs.Scales.{on_paper, numerator, denominator, Fits, AreShort, leading, round}
 use Rattle.drawings.specs.declared.scales.Lengths.{Lengths}
+
+leading_some : (n : ℕ) → 0 < leading n
+leading_some zero = omega arith
+leading_some (suc zero) = omega arith
+leading_some (suc (suc n)) = omega arith
+
+pub round_some : (index : ℕ) → 0 < round index
+round_some index = mul-pos (leading_some (index % 3)) (one-le-pow (index / 3) 10 (omega arith))
 
 quotients : (a b d : ℕ) → a ≤ b → a / d ≤ b / d
 quotients a b zero le = let e = div-zero a in let f = div-zero b in omega (arith, e, f)

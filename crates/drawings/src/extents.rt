@@ -6,6 +6,7 @@ ghost use Rattle.drawings.specs.Extents.{AreFilled, IsAlone, TakesIn};
 use crate::places::Place;
 use crate::spans::Span;
 use crate::walk::Stop;
+use fixed_um::Point;
 
 /// The spans that stops occupy along each axis.
 #[derive(Clone, Copy)]
@@ -52,11 +53,7 @@ impl Extents {
     {
         match stops {
             [first, others @ ..] => Extents::reaching(first, others),
-            [] => Extents {
-                x: Span::zero(),
-                y: Span::zero(),
-                z: Span::zero(),
-            },
+            [] => Extents::at(Place::of(Point::zero(), Point::zero())),
         }
     }
 }

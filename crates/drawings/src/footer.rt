@@ -117,19 +117,13 @@ fn put_legend_words(out: &mut Vec<u8>) -> Result<(), AllocError>
 fn is_measured(stop: &Stop) -> bool
     ensures { result ≡ is_measured stop.now.act }
 {
-    match stop.act {
-        Act::Measured(_) => true,
-        Act::Move | Act::Touch => false,
-    }
+    matches!(stop.act, Act::Measured(_))
 }
 
 fn is_asked(stop: &Stop) -> bool
     ensures { result ≡ is_asked stop.now.act }
 {
-    match stop.act {
-        Act::Measured(_) | Act::Touch => true,
-        Act::Move => false,
-    }
+    matches!(stop.act, Act::Measured(_) | Act::Touch)
 }
 
 #[tactic(auto, unfolding(crate::specs::Footer::counts_text))]

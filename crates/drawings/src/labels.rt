@@ -1,7 +1,7 @@
 // The column of the features' names.
 
 ghost use Rattle.std.specs.Prelude.{◌≡◌, ◌≤◌, ◌+◌, ◌-◌, ◌*◌, ◌++◌, length, take, slice_get, IfOk, OnOk};
-ghost use Rattle.drawings.specs.Names.{shown_name, Adds, bullet_start, bullet_text, name_text, label_text, most_labels, line_for, anchors_from, AreOrdered, AreOnLines, label_at, more_text, more_if_any, AreLabels};
+ghost use Rattle.drawings.specs.Names.{shown_name, Adds, bullet_start, bullet_text, name_text, label_text, most_labels, line_for, anchors_from, AreOrdered, AreOnLines, label_at, more_if_any, AreLabels};
 
 use crate::marks::Mark;
 use crate::sheet::Position;
@@ -188,27 +188,19 @@ fn put_each_label(
     Ok(())
 }
 
-/// Writes how many features have no line.
-#[tactic(auto, unfolding(crate::specs::Labels::more_text))]
-fn put_more(out: &mut Vec<u8>, more: u64) -> Result<(), AllocError>
-    ensures { OnOk result (out.new.items ≡ out.old.items ++ more_text more) }
-{
-    begin_text(out, Position::new(227_000, 190_800))?;
-    out.extend_from_slice(b"and ")?;
-    put_number(out, more)?;
-    out.extend_from_slice(b" more")?;
-    end_text(out)
-}
-
 /// Writes how many features have no line, if there are any.
+#[tactic(auto, unfolding(crate::specs::Labels::more_text))]
 fn put_more_if_any(out: &mut Vec<u8>, more: usize) -> Result<(), AllocError>
     ensures { OnOk result (out.new.items ≡ out.old.items ++ more_if_any more) }
 {
     if more == 0 {
-        Ok(())
-    } else {
-        put_more(out, more as u64)
+        return Ok(());
     }
+    begin_text(out, Position::new(227_000, 190_800))?;
+    out.extend_from_slice(b"and ")?;
+    put_number(out, more as u64)?;
+    out.extend_from_slice(b" more")?;
+    end_text(out)
 }
 
 /// Appends the names of the first features, each on a line of its own, in the order of their marks from top to bottom, and how many more

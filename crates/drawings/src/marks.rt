@@ -1,13 +1,12 @@
 // What labels name.
 
 ghost use Rattle.std.specs.Prelude.{◌≡◌, ◌<◌, length, IfOk};
-ghost use Rattle.drawings.specs.Named.{touch_place, farther, farthest, farthest_of, is_begun, marks_of};
+ghost use Rattle.drawings.specs.Named.{touch_place, farther, farthest, farthest_of, marks_of};
 
 use crate::places::Place;
-use crate::walk::{later_features, next_points, zero_of};
+use crate::walk::{after_first, next_points, zero_of};
 use contact_ledger::Feature;
 use dmis_program::{Program, Touch, Wanted};
-use fixed_um::Point;
 use std::alloc::{AllocError, Global};
 
 /// A feature: its touch that is farthest to the right, and whether its first touch was measured.
@@ -54,15 +53,6 @@ fn farthest_of(touches: &[Touch]) -> Place
     }
 }
 
-fn is_begun(points: &[Point]) -> bool
-    ensures { result ≡ is_begun points.now }
-{
-    match points {
-        [_, ..] => true,
-        [] => false,
-    }
-}
-
 /// The mark of each feature of a program, paired with the features that were measured first.
 pub(crate) fn marks_of(
     alloc: Global,
@@ -76,10 +66,10 @@ pub(crate) fn marks_of(
     let mut measured = features;
     while let [feature, later @ ..] = wanted {
         let place = farthest_of(feature.touches.as_slice());
-        let is_measured = is_begun(next_points(measured));
+        let is_measured = !next_points(measured).is_empty();
         marks.push(Mark { place, is_measured })?;
         wanted = later;
-        measured = later_features(measured);
+        measured = after_first(measured);
     }
     Ok(marks)
 }

@@ -1,7 +1,7 @@
 // What is drawn in a view.
 
 ghost use Rattle.std.specs.Prelude.{◌≡◌, ◌≤◌, ◌+◌, ◌++◌, OnOk};
-ghost use Rattle.drawings.specs.Names.{flat_map, disc_text, spot_of, open_dot, done_dot, whisker, thickness_for, way_spot, way_text, dots_text, whiskers_text, span_text, title_text, arrow_text, arrows_text, letters_text, axes_text, picture_text};
+ghost use Rattle.drawings.specs.Names.{flat_map, open_dot, done_dot, whisker, thickness_for, way_spot, way_text, dots_text, whiskers_text, span_text, title_text, arrow_text, arrows_text, letters_text, axes_text, picture_text};
 
 use crate::sheet::Position;
 use crate::sides::Side;
@@ -10,7 +10,7 @@ use crate::texts::{
     begin_text, end_text, put_attribute, put_coordinate, put_disc, put_frame, put_line, put_markup,
     put_spot, put_text,
 };
-use crate::views::View;
+use crate::views::{FRAME_LEFT, FRAME_RIGHT, View};
 use crate::walk::{Act, Stop};
 use crate::whiskers::Whiskers;
 use std::alloc::AllocError;
@@ -106,25 +106,20 @@ fn put_axes(out: &mut Vec<u8>, view: &View) -> Result<(), AllocError>
         out,
         b"<g fill=\"none\" stroke=\"#000\" stroke-width=\"0.2\">\n",
     )?;
-    put_frame(out, view.corner(), view.far_corner())?;
+    let corner = Position::new(FRAME_LEFT, view.top);
+    put_frame(out, corner, Position::new(FRAME_RIGHT, view.bottom))?;
     put_arrows(out, view)?;
     put_markup(out, b"</g>\n")?;
     put_letters(out, view)
 }
 
 #[tactic(auto, unfolding(crate::specs::Marks::way_spot))]
-fn put_way_spot(out: &mut Vec<u8>, view: &View, stop: &Stop) -> Result<(), AllocError>
-    ensures { OnOk result (out.new.items ≡ out.old.items ++ way_spot view.now stop.now) }
-{
-    put_spot(out, view.position(stop.place))?;
-    Ok(out.push(b'\n')?)
-}
-
 fn put_way_spots(out: &mut Vec<u8>, view: &View, stops: &[Stop]) -> Result<(), AllocError>
     ensures { OnOk result (out.new.items ≡ out.old.items ++ flat_map (way_spot view.now) stops.now) }
 {
     for stop in stops {
-        put_way_spot(out, view, stop)?;
+        put_spot(out, view.position(stop.place))?;
+        out.push(b'\n')?;
     }
     Ok(())
 }
@@ -141,40 +136,7 @@ fn put_way(out: &mut Vec<u8>, view: &View, stops: &[Stop]) -> Result<(), AllocEr
     put_markup(out, b"\"/>\n")
 }
 
-fn put_dot(out: &mut Vec<u8>, view: &View, stop: &Stop, radius: u64) -> Result<(), AllocError>
-    requires { radius ≤ 5000 }
-    ensures { OnOk result (out.new.items
-        ≡ out.old.items ++ disc_text (spot_of view.now stop.now.place) radius) }
-{
-    put_disc(out, view.position(stop.place), radius)
-}
-
-/// The disc of a point that is not measured yet.
 #[tactic(auto, unfolding(crate::specs::Marks::open_dot))]
-fn put_open_dot(out: &mut Vec<u8>, view: &View, stop: &Stop, radius: u64) -> Result<(), AllocError>
-    requires { radius ≤ 5000 }
-    ensures { OnOk result (out.new.items
-        ≡ out.old.items ++ open_dot view.now radius stop.now) }
-{
-    match stop.act {
-        Act::Touch => put_dot(out, view, stop, radius),
-        Act::Move | Act::Measured(_) => Ok(()),
-    }
-}
-
-/// The disc of a measured point.
-#[tactic(auto, unfolding(crate::specs::Marks::done_dot))]
-fn put_done_dot(out: &mut Vec<u8>, view: &View, stop: &Stop, radius: u64) -> Result<(), AllocError>
-    requires { radius ≤ 5000 }
-    ensures { OnOk result (out.new.items
-        ≡ out.old.items ++ done_dot view.now radius stop.now) }
-{
-    match stop.act {
-        Act::Measured(_) => put_dot(out, view, stop, radius),
-        Act::Move | Act::Touch => Ok(()),
-    }
-}
-
 fn put_open_dots(
     out: &mut Vec<u8>,
     view: &View,
@@ -186,11 +148,14 @@ fn put_open_dots(
         ≡ out.old.items ++ flat_map (open_dot view.now radius) stops.now) }
 {
     for open in stops {
-        put_open_dot(out, view, open, radius)?;
+        if let Act::Touch = open.act {
+            put_disc(out, view.position(open.place), radius)?;
+        }
     }
     Ok(())
 }
 
+#[tactic(auto, unfolding(crate::specs::Marks::done_dot))]
 fn put_done_dots(
     out: &mut Vec<u8>,
     view: &View,
@@ -202,7 +167,9 @@ fn put_done_dots(
         ≡ out.old.items ++ flat_map (done_dot view.now radius) stops.now) }
 {
     for done in stops {
-        put_done_dot(out, view, done, radius)?;
+        if let Act::Measured(_) = done.act {
+            put_disc(out, view.position(done.place), radius)?;
+        }
     }
     Ok(())
 }
@@ -223,26 +190,7 @@ fn put_dots(out: &mut Vec<u8>, view: &View, stops: &[Stop]) -> Result<(), AllocE
     put_markup(out, b"</g>\n")
 }
 
-/// The line of a stop's deviation.
 #[tactic(auto, unfolding(crate::specs::Marks::whisker))]
-fn put_whisker(
-    out: &mut Vec<u8>,
-    view: &View,
-    stop: &Stop,
-    whiskers: &Whiskers,
-) -> Result<(), AllocError>
-    ensures { OnOk result (out.new.items
-        ≡ out.old.items ++ whisker view.now whiskers.now stop.now) }
-{
-    match stop.act {
-        Act::Measured(away) => {
-            let from = view.position(stop.place);
-            put_line(out, from, view.tip(from, &away, whiskers))
-        }
-        Act::Move | Act::Touch => Ok(()),
-    }
-}
-
 fn put_each_whisker(
     out: &mut Vec<u8>,
     view: &View,
@@ -253,7 +201,10 @@ fn put_each_whisker(
         ≡ out.old.items ++ flat_map (whisker view.now whiskers.now) stops.now) }
 {
     for stop in stops {
-        put_whisker(out, view, stop, whiskers)?;
+        if let Act::Measured(away) = stop.act {
+            let from = view.position(stop.place);
+            put_line(out, from, view.tip(from, &away, whiskers))?;
+        }
     }
     Ok(())
 }

@@ -46,50 +46,10 @@ pub(crate) fn round(index: usize) -> u64
     ensures few { index ≤ 12 → result ≤ 10 ^ 4 }
     ensures within { result ≤ 10 ^ 10 }
 {
-    match index {
-        0 => 1,
-        1 => 2,
-        2 => 5,
-        3 => 10,
-        4 => 20,
-        5 => 50,
-        6 => 100,
-        7 => 200,
-        8 => 500,
-        9 => 1_000,
-        10 => 2_000,
-        11 => 5_000,
-        12 => 10_000,
-        13 => 20_000,
-        14 => 50_000,
-        15 => 100_000,
-        16 => 200_000,
-        17 => 500_000,
-        18 => 1_000_000,
-        19 => 2_000_000,
-        20 => 5_000_000,
-        21 => 10_000_000,
-        22 => 20_000_000,
-        23 => 50_000_000,
-        24 => 100_000_000,
-        25 => 200_000_000,
-        26 => 500_000_000,
-        27 => 1_000_000_000,
-        28 => 2_000_000_000,
-        29 => 5_000_000_000,
-        30 => 10_000_000_000,
-        _ => unreachable!(),
-    }
+    [1, 2, 5][index % 3] * 10u64.pow(index as u32 / 3)
 }
 
 impl Scale {
-    /// 1:1.
-    fn full() -> Scale
-        ensures { result ≡ 12 }
-    {
-        Scale { number: 12 }
-    }
-
     /// The numerator of the ratio of paper to part.
     #[tactic(auto, unfolding(crate::specs::Scales::numerator))]
     pub fn numerator(self) -> u64
@@ -152,7 +112,7 @@ impl Scale {
         ensures { IsScaleFor lengths room result }
     {
         if lengths.across == 0 && lengths.first == 0 && lengths.second == 0 {
-            Scale::full()
+            Scale { number: 12 }
         } else {
             Scale::largest(lengths, room)
         }

@@ -1,8 +1,8 @@
 // What coordinates fill along an axis.
 
 ghost use Rattle.std.specs.Prelude.{◌≡◌, ◌≤◌, ◌≤ℤ◌, ◌-ℤ◌, ℤ, pos, unsigned_abs};
-ghost use Rattle.drawings.specs.Names.{length_limit, height_in, IsBetween, IsWider};
-ghost use Rattle.drawings.specs.Places.{machine_limit};
+ghost use Rattle.drawings.specs.Scales.{length_limit};
+ghost use Rattle.drawings.specs.Places.{machine_limit, height_in, IsBetween, IsWider};
 
 use crate::places::Coordinate;
 
@@ -27,14 +27,6 @@ impl Span {
             low: only,
             high: only,
         }
-    }
-
-    /// The zero point alone.
-    pub fn zero() -> Span
-        ensures low { result.low ≡ pos 0 }
-        ensures high { result.high ≡ pos 0 }
-    {
-        Span { low: 0, high: 0 }
     }
 
     /// The span extended to include this coordinate.

@@ -1,9 +1,10 @@
 // The two views.
 
 ghost use Rattle.std.specs.Prelude.{◌≡◌, ◌≤◌, ◌+◌, ◌-◌, ◌-ℤ◌, unsigned_abs};
-ghost use Rattle.drawings.specs.Names.{height_in, IsBetween, upright_of, part_of, IsInView, moved, tip_of};
 ghost use Rattle.drawings.specs.Scales.{on_paper};
 ghost use Rattle.drawings.specs.Sheet.{margin, sheet_width, sheet_height};
+ghost use Rattle.drawings.specs.Places.{height_in, IsBetween};
+ghost use Rattle.drawings.specs.Views.{upright_of, part_of, IsInView, moved, tip_of};
 
 use crate::away::Away;
 use crate::places::Place;
@@ -16,7 +17,7 @@ use crate::whiskers::Whiskers;
 /// The left and the right edge of both frames.
 pub(crate) const FRAME_LEFT: u64 = 10_000;
 
-const FRAME_RIGHT: u64 = 217_000;
+pub(crate) const FRAME_RIGHT: u64 = 217_000;
 
 /// A view: what it shows across and upright, at which scale, where the lowest of both is on the sheet, and its frame.
 #[derive(Clone, Copy)]
@@ -77,20 +78,6 @@ impl View {
         let part = self.side.part_of(away);
         let down = moved(from.down(), -part, whiskers.length(part));
         Position::new(across, down)
-    }
-
-    /// The left upper corner of the frame.
-    pub fn corner(&self) -> Position
-        ensures { result ≡ record { across = 10000; down = self.now.top } }
-    {
-        Position::new(FRAME_LEFT, self.top)
-    }
-
-    /// The right lower corner of the frame.
-    pub fn far_corner(&self) -> Position
-        ensures { result ≡ record { across = 217000; down = self.now.bottom } }
-    {
-        Position::new(FRAME_RIGHT, self.bottom)
     }
 }
 

@@ -6,7 +6,7 @@ ghost use Rattle.drawings.specs.Names.{place_of, zero_of, zero_with, later_with,
 use crate::away::Away;
 use crate::places::Place;
 use contact_ledger::Feature;
-use dmis_program::{Step, Touch};
+use dmis_program::Step;
 use fixed_um::{Frame, Point};
 use std::alloc::{AllocError, Global};
 
@@ -56,19 +56,10 @@ pub(crate) fn next_points<'a>(features: &'a [Feature]) -> &'a [Point]
     }
 }
 
-pub(crate) fn later_features<'a>(features: &'a [Feature]) -> &'a [Feature]
-    ensures { result.now ≡ drop 1 features.now }
+pub(crate) fn after_first<'a, T>(items: &'a [T]) -> &'a [T]
+    ensures { result.now ≡ drop 1 items.now }
 {
-    match features {
-        [_, later @ ..] => later,
-        [] => &[],
-    }
-}
-
-fn later_points<'a>(points: &'a [Point]) -> &'a [Point]
-    ensures { result.now ≡ drop 1 points.now }
-{
-    match points {
+    match items {
         [_, later @ ..] => later,
         [] => &[],
     }
@@ -96,8 +87,16 @@ impl<'a> Walk<'a> {
     {
         match step {
             Step::Goto(target) => self.stop(*target, Act::Move)?,
-            Step::Begin(_) => self.begin(),
-            Step::Touch(touch) => self.touch(touch)?,
+            Step::Begin(_) => {
+                self.points = next_points(self.features);
+                self.features = after_first(self.features);
+            }
+            Step::Touch(touch) => {
+                let act = act_by(self.points, touch.target);
+                self.origin = zero_of(touch.frame);
+                self.points = after_first(self.points);
+                self.stop(touch.target, act)?;
+            }
             Step::Recall(offset) => self.origin = *offset,
             Step::End => self.points = &[],
             Step::Tool(_) => {}
@@ -115,32 +114,6 @@ impl<'a> Walk<'a> {
         let place = Place::of(target, self.origin);
         self.stops.push(Stop { place, act })?;
         Ok(())
-    }
-
-    fn begin(&mut self)
-        ensures points { self.new.points.now ≡ next_points self.old.features.now }
-        ensures later { self.new.features.now ≡ drop 1 self.old.features.now }
-        ensures origin { self.new.origin ≡ self.old.origin }
-        ensures stops { self.new.stops.items ≡ self.old.stops.items }
-    {
-        self.points = next_points(self.features);
-        self.features = later_features(self.features);
-    }
-
-    fn touch(&mut self, touch: &Touch) -> Result<(), AllocError>
-        ensures stops { OnOk result (self.new.stops.items ≡ self.old.stops.items
-            ++ record {
-              place = place_of touch.now.target (zero_of touch.now.frame);
-              act = act_by self.old.points.now touch.now.target;
-            } ∷ []) }
-        ensures origin { self.new.origin ≡ zero_of touch.now.frame }
-        ensures later { self.new.features.now ≡ self.old.features.now }
-        ensures points { self.new.points.now ≡ drop 1 self.old.points.now }
-    {
-        let act = act_by(self.points, touch.target);
-        self.origin = zero_of(touch.frame);
-        self.points = later_points(self.points);
-        self.stop(touch.target, act)
     }
 }
 

@@ -10,8 +10,8 @@ returns c = on_ok_weaker c.put_letters.result
       c.in_ok-put_arrows.ensures,
       c.in_ok-put_frame.ensures,
       c.in_ok-put_markup.ensures,
-      c.far_corner.ensures,
-      c.corner.ensures,
+      c.new.ensures,
+      c.new-corner.ensures,
       append_assoc,
     ))
     c.put_letters.ensures
