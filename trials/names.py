@@ -8,6 +8,8 @@ LINE = re.compile(r'^ghost use (Rattle\.[^\n{;]+)\.\{([^}]*)\};\n', re.M)
 PRELUDE = 'Rattle.std.specs.Prelude'
 GHOSTS = re.compile(r'^\s*(pub )?ghost (?!use)\w+\s*[:=]', re.M)
 
+TYPES = re.compile(r'^\s*(pub(\([a-z]+\))? )?(struct|enum|trait|union) |^\s*impl(<[^>]*>)? [^{]* for ', re.M)
+
 def spec_file(path):
     parts = path.split('.')
     if parts[1] == 'std' or parts[2] != 'specs' or parts[3:4] == ['declared']: return None
@@ -28,9 +30,10 @@ def work(crate):
         text = f.read_text()
         for path, names in LINE.findall(text):
             for name in (n.strip() for n in names.replace('\n', ' ').split(',')):
-                if name: origin[name].add(path)
+                if name: origin[name.split(' as ')[-1]].add((path, name) if ' as ' in name else path)
     names_file = base / 'specs' / 'Names.antt'
     old = names_file.read_text() if names_file.is_file() else None
+    if old and re.search(r"^(abbrev|unfoldable abbrev|pub record|pub [a-z]\w* :|data)", old, re.M): return print(crate, "has definitions in specs/Names")
     passed = collections.defaultdict(set)   # path -> names
     known = {}
     if old:
@@ -41,7 +44,8 @@ def work(crate):
     changed = 0
     for f in files:
         text = f.read_text()
-        if GHOSTS.search(text) and False: continue
+        # what a type's file imports is imported by the specs of its declaration: through Names that is a cycle
+        if TYPES.search(text): continue
         lines = LINE.findall(text)
         take, keep = [], []
         for path, names in lines:
@@ -49,7 +53,8 @@ def work(crate):
             mine, stay = [], []
             for n in (n.strip() for n in names.replace('\n', ' ').split(',')):
                 if not n: continue
-                ok = '◌' not in n and len(origin[n] - {own + 'Names'}) == 1 and known.get(n, path) == path
+                key = n.split(' as ')[-1]
+                ok = '◌' not in n and len(origin[key] - {own + 'Names'}) == 1 and known.get(n, path) == path and ' as ' not in n
                 (mine if ok else stay).append(n)
             take.append((path, mine, stay))
         total = sum(1 for p, m, s in take if m and not s)
