@@ -5,24 +5,7 @@ ghost use Rattle.std.specs.List.{list_all};
 ghost use Rattle.std.specs.Char.{is_ascii_digit};
 ghost use Rattle.std.specs.Str.Parse.{digits_value};
 ghost use Rattle.tool_rack.specs.Fields.{fields_of};
-ghost use Rattle.link_world.specs.ScheduleTexts.{
-  is_number,
-  number_of,
-  beside,
-  alone,
-  numbered,
-  before_all,
-  of_machine,
-  rounds,
-  with_number,
-  of_two,
-  touch,
-  instruction_of,
-  instruction_on,
-  schedule_of,
-  IsRefusal,
-  GivesSchedule,
-};
+ghost use Rattle.link_world.specs.ScheduleTexts.{is_number, number_of, beside, alone, numbered, before_all, of_machine, rounds, with_number, of_two, touch, instruction_on, schedule_of, IsRefusal, GivesSchedule};
 ghost use Rattle.link_world.specs.ScheduleCarrying.{read_line};
 
 use crate::texts::schedule_faults::ScheduleFault;
@@ -181,10 +164,13 @@ fn touch(values: &[u8]) -> Option<Instruction>
     Some(Instruction::Once(Event::Machine(Outcome::Touched(point))))
 }
 
-#[tactic(auto, unfolding(crate::specs::ScheduleTexts::instruction_of))]
-fn fields_instruction(line: &[u8]) -> Option<Instruction>
-    ensures { result ≡ instruction_of (fields_of line.now) }
+#[tactic(auto, unfolding(crate::specs::ScheduleTexts::instruction_on, crate::specs::ScheduleTexts::instruction_of))]
+fn instruction_on(line: &[u8]) -> Option<Instruction>
+    ensures { result ≡ instruction_on line.now }
 {
+    if has_outer_space(line) {
+        return None;
+    }
     let (word, rest) = cut_field(line)?;
     let Some((value, rest)) = cut_field(rest) else {
         return alone(word);
@@ -197,16 +183,6 @@ fn fields_instruction(line: &[u8]) -> Option<Instruction>
     } else {
         None
     }
-}
-
-#[tactic(auto, unfolding(crate::specs::ScheduleTexts::instruction_on))]
-fn instruction_on(line: &[u8]) -> Option<Instruction>
-    ensures { result ≡ instruction_on line.now }
-{
-    if has_outer_space(line) {
-        return None;
-    }
-    fields_instruction(line)
 }
 
 impl Schedule {
