@@ -72,10 +72,7 @@ fn served_point(connection: u64, touch: &Touch, on: u64, act: &Act) -> Option<Po
     else {
         return None;
     };
-    if on != connection || !is_asked(touch, *target, *dir, tool, *frame) {
-        return None;
-    }
-    Some(*point)
+    (on == connection && is_asked(touch, *target, *dir, tool, *frame)).then_some(*point)
 }
 
 /// The points that the contacts among these acts reported, if each serves its own touch, in order, all on this connection. Fails only if

@@ -9,17 +9,6 @@ use crate::records::Record;
 use dmis_program::{Program, Touch, Wanted};
 use fixed_um::Name;
 
-fn same_part(one: Option<&[u8]>, other: Option<&[u8]>) -> bool
-    ensures { IsTrue result ↔ (option_map (λ p. p.now) one.entry
-        ≡ option_map (λ p. p.now) other.entry) }
-{
-    match (one, other) {
-        (None, None) => true,
-        (Some(one), Some(other)) => one == other,
-        _ => false,
-    }
-}
-
 fn same_touch(one: &Touch, other: &Touch) -> bool
     ensures { IsTrue result ↔ (one.now ≡ other.now) }
 {
@@ -71,7 +60,11 @@ fn first_other<'a>(asked: &'a [Asked], wanted: &'a [Wanted]) -> Option<&'a Name>
 pub fn is_of_part(recorded: &Record, part: Option<&[u8]>) -> bool
     ensures { IsTrue result ↔ (recorded.now.part ≡ option_map (λ p. p.now) part.entry) }
 {
-    same_part(recorded.part(), part)
+    match (recorded.part(), part) {
+        (None, None) => true,
+        (Some(one), Some(other)) => one == other,
+        _ => false,
+    }
 }
 
 /// The label of the first feature in which what a record asked is not what a program wants; `None` if it was written for that program.
