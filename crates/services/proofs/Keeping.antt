@@ -1,5 +1,5 @@
 -- What the contacts file has stays all that the server has done.
-use Rattle.std.proofs.Common.{◌≡◌, ◌⊎◌, inl, inr, refl, sym, ap, subst, ◌∙◌, true≢false, ℕ, Bool, true, false, List, [], ◌∷◌, ◌++◌, ◌&&◌, not, length, drop, map, append-nil, codes}
+use Rattle.std.proofs.Common.{◌≡◌, refl, sym, ap, subst, ◌∙◌, true≢false, ℕ, Bool, true, false, List, [], ◌∷◌, ◌++◌, ◌&&◌, not, length, drop, map, append-nil, codes}
 use Rattle.std.proofs.lemmas.List.{map-append}
 use Rattle.std.proofs.Math.Seq.{drop-append_seam}
 use Rattle.contact_ledger.specs.Lines.{text_of}
@@ -124,3 +124,6 @@ said_ready s t reply e f = λ o k. subst (λ (x : State). Ready (due x) x.core (
     (subst (λ (st : Stage). Ready (due_at s.next s.next) s.core (outcome st s.core reply o)) (sym e)
     (subst (λ (d : Stage). Ready d s.core o) (sym (due_same s.next))
     (subst (λ (st : Stage). Ready (due_at st s.next) s.core o) e k)))
+
+pub said_due : (s t : State) → s.stage ≡ Stage.Saying → t ≡ record s { stage = s.next } → due t ≡ due s
+said_due s t e f = ap due f ∙ (due_same s.next ∙ ap (λ (st : Stage). due_at st s.next) (sym e))
