@@ -21,6 +21,6 @@ while len(done)+len(failed)<len(L):
         b=[d for d in deps[n] if d in L]
         if any(d in failed for d in b): failed.add(n); print('skip',n,file=log); continue
         if all(d in done for d in b):
-            run[n]=(subprocess.Popen(['bash','-c',f'cd /work/stand/crates/{n} && /work/nolock-kit/bin/rt lib > /tmp/s/st.{n} 2>&1'],env=env),time.time())
+            run[n]=(subprocess.Popen(['bash','-c',f'/work/tools/stlib {n} > /tmp/s/st.{n} 2>&1'],env=env),time.time())
     time.sleep(1)
 print('end',failed,file=log)
