@@ -26,28 +26,40 @@ use Rattle.server_core.specs.Serving.{may_accept, may_turn}
 use Rattle.server_core.specs.declared.faults.ServerFault.{ServerFault}
 use Rattle.effects.specs.Effects.{Reply, Done, Bytes}
 use Rattle.services.specs.declared.stages.Stage.{Stage}
-use Rattle.services.specs.Sessions.{State, Brings, Serves, Hears, Rests, Stands, due, due_at, left as gone}
-use Rattle.services.specs.Serving.{Talk, Traffic, heard_more, IsBreak, IsOfTurn, Served, begins, accepts, refuses, works, breaks, leaves, closes, loses, IsServing, IsAt, IsFree, is_over, no_traffic, passed}
+use Rattle.services.specs.Sessions.{State, Brings, Serves, StaysOn, Hears, Rests, Stands, due, due_at, left as gone}
+use Rattle.services.specs.Serving.{Talk, Traffic, heard_more, GoesOnWith, IsBreak, IsBroken, may_leave, HasBroken, IsOfTurn, Served, begins, accepts, refuses, works, breaks, leaves, closes, loses, IsServing, IsAt, IsFree, is_over, no_traffic, passed}
 use Rattle.tool_rack.specs.Setups.{SetupValue}
 
--- ---- the number of the last connection
+-- ---- a turn leaves the connection as it was: on or off, and with its number
 
-front_last : (e : ServerEnd) (f : Front) → (front_served e f).server.last ≡ e.server.last
-front_last e (Ok None) = refl
-front_last e (Ok (Some (line, rest))) = (read_moves e.server (reading_of (command_of line))).last
-front_last e (Err why) = refl
+abbrev pub IsSame : ServerEnd → ServerEnd → Type 0
+IsSame e f = (f.server.on ≡ e.server.on) × (f.server.last ≡ e.server.last)
 
-turn_last : (answer : Job → ℕ → Outcome) (least : ℕ) (start : ServerEnd) (step : Step) (read written : List ℕ) (e : ServerEnd)
-    → ServerTurn answer least start step read written e → e.server.last ≡ start.server.last
-turn_last answer least start _ _ _ _ starts = refl
-turn_last answer least start _ _ _ _ (takes r may) = refl
-turn_last answer least start _ _ _ _ (has f r t enough) = turn_last answer least start _ _ _ f t
-turn_last answer least start _ _ _ _ (reads f r t on is) = front_last f (next_of f.input.rest) ∙ turn_last answer least start _ _ _ f t
-turn_last answer least start _ _ _ _ (knows f r t none) = turn_last answer least start _ _ _ f t
-turn_last answer least start _ _ _ _ (turns f r t may) = (turned_moves f.server).1.last ∙ turn_last answer least start _ _ _ f t
-turn_last answer least start _ _ _ _ (ends f r job t runs) =
-    (machined_moves f.server (answer job (contact_count f.server.ledger))).1.last ∙ turn_last answer least start _ _ _ f t
-turn_last answer least start _ _ _ _ (writes f r count t none idle within) = turn_last answer least start _ _ _ f t
+then_same : (e f g : ServerEnd) → IsSame e f → IsSame f g → IsSame e g
+then_same e f g h k = (k.0 ∙ h.0, k.1 ∙ h.1)
+
+front_same : (e : ServerEnd) (f : Front) → IsSame e (front_served e f)
+front_same e (Ok None) = (refl, refl)
+front_same e (Ok (Some (line, rest))) =
+    ((read_moves e.server (reading_of (command_of line))).on, (read_moves e.server (reading_of (command_of line))).last)
+front_same e (Err why) = (refl, refl)
+
+turn_same : (answer : Job → ℕ → Outcome) (least : ℕ) (start : ServerEnd) (step : Step) (read written : List ℕ) (e : ServerEnd)
+    → ServerTurn answer least start step read written e → IsSame start e
+turn_same answer least start _ _ _ _ starts = (refl, refl)
+turn_same answer least start _ _ _ _ (takes r may) = (refl, refl)
+turn_same answer least start _ _ _ _ (has f r t enough) = turn_same answer least start _ _ _ f t
+turn_same answer least start _ _ _ _ (reads f r t on is) = then_same start f (serving_read f) (turn_same answer least start _ _ _ f t)
+    (front_same f (next_of f.input.rest))
+turn_same answer least start _ _ _ _ (knows f r t none) = turn_same answer least start _ _ _ f t
+turn_same answer least start _ _ _ _ (turns f r t may) = then_same start f (serving_turned f) (turn_same answer least start _ _ _ f t)
+    ((turned_moves f.server).1.on, (turned_moves f.server).1.last)
+turn_same answer least start _ _ _ _ (ends f r job t runs) =
+    then_same start f (serving_machined (answer job (contact_count f.server.ledger)) f) (turn_same answer least start _ _ _ f t) (
+      (machined_moves f.server (answer job (contact_count f.server.ledger))).1.on,
+      (machined_moves f.server (answer job (contact_count f.server.ledger))).1.last,
+    )
+turn_same answer least start _ _ _ _ (writes f r count t none idle within) = turn_same answer least start _ _ _ f t
 
 too_many : (n : ℕ) → n < suc n
 too_many n = omega arith
@@ -64,13 +76,13 @@ served_last setup _ _ _ _ begins few = refl
 served_last setup _ _ _ _ (accepts heard written e s may) few = refl
 served_last setup _ _ _ _ (refuses heard written e s many) few = absurd (no_more (length heard) connection_most many few)
 served_last setup _ _ _ _ (works heard bytes written piece more e f s t none) few =
-    turn_last (simulated setup.shifts) (length piece) e Writing piece more f t ∙ served_last setup false (bytes ∷ heard) written e s few
+    (turn_same (simulated setup.shifts) (length piece) e Writing piece more f t).1 ∙ served_last setup false (bytes ∷ heard) written e s few
 served_last setup _ _ _ _ (breaks heard bytes written read rest more step why e f s t is) few =
-    turn_last (simulated setup.shifts) (length (read ++ rest)) e step read more f t ∙ served_last setup false (bytes ∷ heard) written e s few
+    (turn_same (simulated setup.shifts) (length (read ++ rest)) e step read more f t).1 ∙ served_last setup false (bytes ∷ heard) written e s few
 served_last setup _ _ _ _ (leaves over heard written e s) few = served_last setup over heard written e s few
 served_last setup _ _ _ _ (closes heard written e s) few = served_last setup false heard written e s few
 served_last setup _ _ _ _ (loses heard bytes written read rest more step e f s t) few =
-    turn_last (simulated setup.shifts) (length (read ++ rest)) e step read more f t ∙ served_last setup false (bytes ∷ heard) written e s few
+    (turn_same (simulated setup.shifts) (length (read ++ rest)) e step read more f t).1 ∙ served_last setup false (bytes ∷ heard) written e s few
 
 -- before the first connection it is on none
 off_first : (setup : SetupValue) (over : Bool) (heard : List (List ℕ)) (written : List ℕ) (e : ServerEnd) → Served setup over heard written e
@@ -328,6 +340,31 @@ stopped_lost t u last piece from left sent taken why from_is sent_is h end answe
 pub unheard_lost : (t u : Talk) (piece : List ℕ) → u.end ≡ serving_left t.end → simulated u.shifts ≡ simulated t.shifts → u.number ≡ t.number
     → Hears true t piece u
 unheard_lost t u piece end answers number = λ on setup f s. unheard setup t u f piece end answers number on s
+
+-- the connection goes on after a whole turn, or has broken off
+pub moved_goes : (t u : Talk) (piece : List ℕ) (from left sent taken : Option (List ℕ)) (moved : Moved)
+    → ServerMoved (simulated t.shifts) (length piece) t.end u.end from left sent taken moved → GoesOnWith t piece u
+moved_goes t u piece from left sent taken moved m = λ on.
+    inl ((turn_same (simulated t.shifts) (length piece) t.end Writing m.read m.written u.end m.turn).0 ∙ on)
+
+pub broken_goes : {A E : Type 0} (r : Result A E) (t u : Talk) (piece : List ℕ) (from left sent taken : Option (List ℕ)) (why : PumpFault ServerFault)
+    → from ≡ Some piece → OnOk r (IsOfTurn why)
+    → ServerStopped (simulated t.shifts) (length piece) (2 ^ 64 - 1) t.end u.end from left sent taken why → OnOk r (GoesOnWith t piece u)
+broken_goes r t u piece from left sent taken why from_is of h = on_ok r (IsOfTurn why) (GoesOnWith t piece u) (λ is on.
+    let two : Halves piece h.read = halves piece left h.read h.lost
+    (subst (λ (x : Option (List ℕ)). Consumes x left (h.read ++ h.lost)) from_is h.consumed) in
+    inr (record {
+      read = h.read;
+      rest = two.rest;
+      more = h.written;
+      step = h.stage;
+      why = why;
+      last = h.last;
+      parts = two.parts;
+      turn = h.turn;
+      is = told (length piece) (length h.read) (length h.written) (length t.end.input.rest) left h.last why is h.why;
+      leaves = h.leaves;
+    })) of
 
 -- ---- a connection is taken
 
@@ -604,3 +641,30 @@ pub rest_stands : {A E : Type 0} (r : Result A E) (v s t : State) → v ≡ s �
     → OnOk r (Stands s → Stands t)
 rest_stands r v s t is rest rests = on_ok r (Rests s.talk t) (Stands s → Stands t)
     (λ h stands. h (subst (λ (x : State). RestsAt x.stage) is rest s.next s.talk stands)) rests
+
+-- ---- a connection is left only where it may be
+
+pub goes_ok : {A E : Type 0} (r : Result A E) (t u v : Talk) (piece : List ℕ) → GoesOnWith t piece u → v ≡ u → OnOk r (GoesOnWith t piece v)
+goes_ok r t u v piece goes same = all_ok r (GoesOnWith t piece v) (subst (λ (x : Talk). GoesOnWith t piece x) (sym same) goes)
+
+pub end_stays : {A E : Type 0} (r : Result A E) (s t : State) (reply : Reply) → t.talk.end ≡ s.talk.end → OnOk r (StaysOn s reply t)
+end_stays r s t reply same = all_ok r (StaysOn s reply t) (λ on. inl (ap (λ (e : ServerEnd). e.server.on) same ∙ on))
+
+pub talk_stays : {A E : Type 0} (r : Result A E) (s t : State) (reply : Reply) → t.talk ≡ s.talk → OnOk r (StaysOn s reply t)
+talk_stays r s t reply same = end_stays r s t reply (ap (λ (x : Talk). x.end) same)
+
+pub on_stays : {A E : Type 0} (r : Result A E) (s t : State) (reply : Reply)
+    → OnOk r (s.talk.end.server.on ≡ true → t.talk.end.server.on ≡ true) → OnOk r (StaysOn s reply t)
+on_stays r s t reply = on_ok r (s.talk.end.server.on ≡ true → t.talk.end.server.on ≡ true) (StaysOn s reply t) (λ h on. inl (h on))
+
+pub may_stay : {A E : Type 0} (r : Result A E) (s t : State) (at : Stage) (reply : Reply) → s.stage ≡ at → may_leave at reply ≡ true
+    → OnOk r (StaysOn s reply t)
+may_stay r s t at reply is may = all_ok r (StaysOn s reply t) (λ on. inr (inl (ap (λ (x : Stage). may_leave x reply) is ∙ may)))
+
+pub heard_stays : {A E : Type 0} (r : Result A E) (s t : State) (piece : List ℕ) → OnOk r (GoesOnWith s.talk piece t.talk)
+    → OnOk r (StaysOn s (Bytes piece) t)
+heard_stays r s t piece = on_ok r (GoesOnWith s.talk piece t.talk) (StaysOn s (Bytes piece) t)
+    (λ goes on. elim (goes on) [ inl still ↦ inl still | inr broken ↦ inr (inr (inl broken)) ])
+
+pub over_stays : (s t : State) (reply : Reply) → is_over (due t) ≡ true → StaysOn s reply t
+over_stays s t reply over = λ on. inr (inr (inr over))

@@ -1,7 +1,7 @@
 -- What the server of `serve` was given and has answered, connection after connection (this profile).
-use Rattle.std.specs.Prelude.{◌≡◌, ◌+◌, ◌*◌, ◌-◌, ◌^◌, ◌<◌, ◌≤◌, ⊤, ℕ, suc, Bool, true, false, List, [], ◌∷◌, ◌++◌, length}
+use Rattle.std.specs.Prelude.{◌≡◌, ◌⊎◌, ◌+◌, ◌*◌, ◌-◌, ◌^◌, ◌<◌, ◌≤◌, ⊤, ℕ, suc, Bool, true, false, List, [], ◌∷◌, ◌++◌, length}
 use Rattle.contact_ledger.specs.Ledgers.{connection_most}
-use Rattle.effects.specs.Effects.{Reply, Done, Bytes}
+use Rattle.effects.specs.Effects.{Reply, Done, Bytes, Found, Nothing, At}
 use Rattle.fixed_um.specs.declared.lengths.Point.{Point}
 use Rattle.link_world.specs.Machines.{simulated}
 use Rattle.link_world.specs.Pumps.{Stage as Step, Writing}
@@ -48,6 +48,39 @@ abbrev pub IsBreak : PumpFault ServerFault → (n written : ℕ) → ServerEnd �
 IsBreak (fault.Core why) n written e = IsServerRefusal e why
 IsBreak fault.TurnsSpent n written e = 2 ^ 64 - 1 ≤ written + 4 * n + 129
 IsBreak why n written e = ⊥
+
+-- a turn with this piece has broken off, and the connection was left
+pub record IsBroken (t : Talk) (piece : List ℕ) (u : Talk) : Type 0 where
+  pub read : List ℕ
+  pub rest : List ℕ
+  pub more : List ℕ
+  pub step : Step
+  pub why : PumpFault ServerFault
+  pub last : ServerEnd
+  pub parts : piece ≡ read ++ rest
+  pub turn : ServerTurn (simulated t.shifts) (length piece) t.end step read more last
+  pub is : IsBreak why (length read + length t.end.input.rest) (length more) last
+  pub leaves : u.end ≡ serving_left last
+
+-- the connection goes on with this piece, unless that has broken it off
+abbrev pub GoesOnWith : Talk → List ℕ → Talk → Type 0
+GoesOnWith t piece u = t.end.server.on ≡ true → (u.end.server.on ≡ true) ⊎ IsBroken t piece u
+
+-- the answers at which a connection may be left: its client has ended it, a port has failed, a limit of time may be over, or the stop file
+-- is there
+abbrev pub may_leave : Stage → Reply → Bool
+may_leave stage.Checking Found = true
+may_leave stage.Timing (At time) = true
+may_leave stage.Receiving (Bytes piece) = false
+may_leave stage.Receiving Nothing = false
+may_leave stage.Receiving reply = true
+may_leave stage.Sending Done = false
+may_leave stage.Sending reply = true
+may_leave s reply = false
+
+abbrev pub HasBroken : Talk → Reply → Talk → Type 0
+HasBroken t (Bytes piece) u = IsBroken t piece u
+HasBroken t reply u = ⊥
 
 -- those that are not of its memory or its ports
 abbrev pub IsOfTurn : PumpFault ServerFault → Type 0

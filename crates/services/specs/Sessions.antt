@@ -10,7 +10,7 @@ use Rattle.effects.specs.declared.vocabulary.Peer.TheVariants.{Client}
 use Rattle.effects.specs.Effects.{Ask, Look, Make, Begin, Keep, Listen, Accept, Receive, Send, Leave, Replace, Print, Reply, Done, Found}
 use Rattle.services.specs.declared.stages.Stage.{Stage}
 use Rattle.services.specs.declared.stages.Stage.TheVariants as stage
-use Rattle.services.specs.Serving.{Talk, Traffic, passed, heard_more, is_over, IsServing, IsAt, IsFree}
+use Rattle.services.specs.Serving.{Talk, Traffic, passed, heard_more, is_over, may_leave, HasBroken, IsServing, IsAt, IsFree}
 use Rattle.tool_rack.specs.Setups.{SetupValue}
 
 -- the contacts file, and what the server has done
@@ -60,6 +60,11 @@ Serves s reply t = Brings (is_over (due t)) s reply t
 abbrev pub Hears : (over : Bool) → Talk → List ℕ → Talk → Type 0
 Hears over t piece u = t.end.server.on ≡ true → (setup : SetupValue) (f : Traffic) → IsServing setup false t f
     → IsServing setup over u (record f { heard = heard_more piece f.heard })
+
+-- its connection is left only at answers that say so, after a turn that has broken off, or if the service is over
+abbrev pub StaysOn : State → Reply → State → Type 0
+StaysOn s reply t = s.talk.end.server.on ≡ true → (t.talk.end.server.on ≡ true) ⊎ ((may_leave s.stage reply ≡ true)
+    ⊎ (HasBroken s.talk reply t.talk ⊎ (is_over (due t) ≡ true)))
 
 -- its server leaves its connection
 abbrev pub left : State → State

@@ -1,7 +1,7 @@
 // What follows from the definitions. Each function has laws for its contract and does nothing.
 
 ghost use Rattle.std.specs.Prelude.{◌≡◌, ℕ, Bool, List, [], ◌∷◌, true, false, None, Ok};
-ghost use Rattle.services.specs.Names.{Bytes, Done, next_of, ServerEnd, running_job, may_turn, Talk, Traffic, Served, IsBreak, IsServing, IsAt, is_over, passed, SetupValue};
+ghost use Rattle.services.specs.Names.{At, Bytes, Done, End, Found, Nothing, next_of, ServerEnd, running_job, may_turn, Talk, Traffic, Served, IsBreak, IsServing, IsAt, is_over, may_leave, passed, SetupValue};
 ghost use Rattle.link_world.specs.declared.connections.pumps.PumpFault.TheVariants as fault;
 ghost use Rattle.services.specs.declared.stages.Stage.TheVariants as stage;
 
@@ -19,7 +19,7 @@ pub fn servers_of_sessions_have_worked()
 
 /// What is received joins what was before on the connection, of which nothing is on the next one; nothing is received while something is to
 /// be sent, or on no connection; no connection is taken before the last is left; the first has the number 1; what is to be sent is just
-/// what the server has written; and a connection is not broken off for memory, unless the service is over, which takes no other, receives
+/// what the server has written; no connection is left at bytes, nor once all was sent; and a connection is not broken off for memory, unless the service is over, which takes no other, receives
 /// nothing and sends nothing.
 pub fn serving_rows()
     ensures received { passed stage.Receiving [] (Bytes (7 ∷ []))
@@ -41,4 +41,10 @@ pub fn serving_rows()
     ensures receiving { is_over stage.Receiving ≡ false }
     ensures sending { is_over stage.Sending ≡ false }
     ensures leaving { is_over stage.Leaving ≡ false }
+    ensures kept { may_leave stage.Receiving (Bytes (7 ∷ [])) ≡ false }
+    ensures waiting { may_leave stage.Receiving Nothing ≡ false }
+    ensures sent { may_leave stage.Sending Done ≡ false }
+    ensures ended { may_leave stage.Receiving End ≡ true }
+    ensures stopped { may_leave stage.Checking Found ≡ true }
+    ensures lapsed { (ms : ℕ) → may_leave stage.Timing (At ms) ≡ true }
 {}

@@ -75,12 +75,13 @@ impl Session {
         self.leave();
     }
 
-    #[tactic(auto, using(crate::proofs::Served::left_now, crate::proofs::Served::lost_now))]
+    #[tactic(auto, using(crate::proofs::Served::left_now, crate::proofs::Served::lost_now, crate::proofs::Served::end_stays, crate::proofs::Served::may_stay, crate::proofs::Served::heard_stays))]
     pub(crate) fn receive(&mut self, answer: Answer<'_>) -> Result<(), AllocError>
         requires { spec.is_receiving self.old.stage ≡ true }
         ensures goes { OnOk result (spec.GoesOn self.old (the_reply answer.entry) self.new) }
         ensures served { OnOk result
             (spec.Brings false self.old (the_reply answer.entry) self.new) }
+        ensures stays { OnOk result (spec.StaysOn self.old (the_reply answer.entry) self.new) }
         ensures lost { OnErr result
             (spec.Brings true self.old (the_reply answer.entry) (spec.left self.new)) }
         ensures stands { OnOk result (spec.Stands self.old → spec.Stands self.new) }
@@ -108,6 +109,7 @@ impl Session {
         ensures core { OnOk result (self.new.core
             ≡ record (self.old.core) { ledger = self.new.core.ledger }) }
         ensures hears { OnOk result (spec.Hears false self.old.talk piece.now self.new.talk) }
+        ensures goes { OnOk result (serving.GoesOnWith self.old.talk piece.now self.new.talk) }
         ensures lost { OnErr result (spec.Hears true self.old.talk piece.now
             (spec.left self.new).talk) }
     {
@@ -132,11 +134,12 @@ impl Session {
     }
 
     /// Bytes have come.
-    #[tactic(auto, using(crate::proofs::Served::lost_now, crate::proofs::Served::unheard_now, crate::proofs::Served::on_err))]
+    #[tactic(auto, using(crate::proofs::Served::lost_now, crate::proofs::Served::unheard_now, crate::proofs::Served::on_err, crate::proofs::Served::goes_ok))]
     fn came(&mut self, piece: &[u8]) -> Result<(), AllocError>
         ensures kept { OnOk result ((o : spec.Outside) → spec.IsKept self.old.core o
             → spec.Ready (spec.due self.new) self.new.core o) }
         ensures hears { OnOk result (spec.Hears false self.old.talk piece.now self.new.talk) }
+        ensures goes { OnOk result (serving.GoesOnWith self.old.talk piece.now self.new.talk) }
         ensures lost { OnErr result (spec.Hears true self.old.talk piece.now
             (spec.left self.new).talk) }
         ensures stands { OnOk result (spec.Stands self.new) }
@@ -251,11 +254,12 @@ impl Session {
         Ok(())
     }
 
-    #[tactic(auto, using(crate::proofs::Served::left_now, crate::proofs::Served::sent_now))]
+    #[tactic(auto, using(crate::proofs::Served::left_now, crate::proofs::Served::sent_now, crate::proofs::Served::end_stays, crate::proofs::Served::may_stay))]
     pub(crate) fn answer(&mut self, answer: Answer<'_>) -> Result<(), AllocError>
         requires { spec.is_answering self.old.stage ≡ true }
         ensures goes { OnOk result (spec.GoesOn self.old (the_reply answer.entry) self.new) }
         ensures served { spec.Brings false self.old (the_reply answer.entry) self.new }
+        ensures stays { OnOk result (spec.StaysOn self.old (the_reply answer.entry) self.new) }
         ensures stands { OnOk result (spec.Stands self.old → spec.Stands self.new) }
     {
         match (self.stage, answer) {

@@ -205,10 +205,11 @@ impl Session {
     }
 
     /// What came of it. If memory runs out meanwhile, the connection is left, and the service ends.
-    #[tactic(auto, using(crate::proofs::Served::short_serves))]
+    #[tactic(auto, using(crate::proofs::Served::short_serves, crate::proofs::Served::over_stays))]
     pub fn take(&mut self, answer: Answer<'_>)
         ensures goes { spec.GoesOn self.old (the_reply answer.entry) self.new }
         ensures served { spec.Serves self.old (the_reply answer.entry) self.new }
+        ensures stays { spec.StaysOn self.old (the_reply answer.entry) self.new }
         ensures stands { spec.Stands self.old → spec.Stands self.new }
     {
         if self.step(answer).is_err() {
@@ -219,6 +220,7 @@ impl Session {
     fn step(&mut self, answer: Answer<'_>) -> Result<(), AllocError>
         ensures goes { OnOk result (spec.GoesOn self.old (the_reply answer.entry) self.new) }
         ensures served { OnOk result (spec.Serves self.old (the_reply answer.entry) self.new) }
+        ensures stays { OnOk result (spec.StaysOn self.old (the_reply answer.entry) self.new) }
         ensures lost { OnErr result
             (spec.Brings true self.old (the_reply answer.entry) (spec.left self.new)) }
         ensures stands { OnOk result (spec.Stands self.old → spec.Stands self.new) }

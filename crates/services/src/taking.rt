@@ -43,10 +43,12 @@ impl Session {
         Ok(())
     }
 
+    #[tactic(auto, using(crate::proofs::Served::end_stays, crate::proofs::Served::on_stays))]
     pub(crate) fn take_next(&mut self, answer: Answer<'_>) -> Result<(), AllocError>
         requires { spec.is_taking self.old.stage ≡ true }
         ensures goes { OnOk result (spec.Continues self.old self.new) }
         ensures served { spec.Brings false self.old (the_reply answer.entry) self.new }
+        ensures stays { OnOk result (spec.StaysOn self.old (the_reply answer.entry) self.new) }
         ensures stands { OnOk result (spec.Stands self.old → spec.Stands self.new) }
     {
         match (self.stage, answer) {
@@ -73,6 +75,8 @@ impl Session {
         requires { self.old.stage ≡ Stage.Accepting }
         ensures goes { OnOk result (spec.Continues self.old self.new) }
         ensures served { spec.Brings false self.old Done self.new }
+        ensures stays { OnOk result (self.old.talk.end.server.on ≡ true
+            → self.new.talk.end.server.on ≡ true) }
         ensures stands { OnOk result (spec.Stands self.old → spec.Stands self.new) }
     {
         self.number = self.number.saturating_add(1);

@@ -1,8 +1,8 @@
 use Rattle.std.proofs.Common.{refl, rules, subst, ◌≡◌, ◌++◌, ap, ◌∙◌, List, ℕ, OnOk, Some}
 use Rattle.services.specs.Sessions.{Hears, State}
-use Rattle.services.specs.Serving.{Talk}
+use Rattle.services.specs.Serving.{GoesOnWith, Talk}
 use Rattle.protocol_model.specs.Ends.{serving_left}
-use Rattle.services.proofs.Served.{all_ok, broken_hears, moved_hears, moved_lost, on_err, one_source, stopped_lost, unheard_lost}
+use Rattle.services.proofs.Served.{all_ok, broken_goes, broken_hears, moved_goes, moved_hears, moved_lost, on_err, one_source, stopped_lost, unheard_lost}
 use Rattle.services.proofs.Working.{turn_more}
 use Rattle.byte_ports.specs.Pieces.{PiecesValue}
 use Rattle.services.proofs.sessions.Session.work.Goals as goal
@@ -48,6 +48,18 @@ returns-in-Ok-clause-hears c =
     (ap Some c.new-sink.ensures.taken) c.in-Ok.ensures.moved.whole c.in-Ok.ensures.keeps refl
     (c.in_ok-extend_from_slice-in-Ok.ensures.items ∙ ap (λ (l : List ℕ). c.self.inside.out.items ++ l) c.taken.ensures))
 
+pub returns-in-Ok-clause-goes : goal.returns-in-Ok-clause-goes
+returns-in-Ok-clause-goes c =
+    let t : Talk = record { end = c.self.inside.server.end; shifts = c.self.inside.machine; number = c.self.inside.number; out = c.self.inside.out.items } in
+    let u : Talk = record {
+      end = c.serve_turns-turned.new.server.end;
+      shifts = c.serve_turns-turned.new.machine;
+      number = c.self.inside.number;
+      out = c.extend_from_slice.new.self.items;
+    } in
+    subst (λ (s : State). GoesOnWith s.talk c.args.piece.now u) c.self.view_is
+    (moved_goes t u c.args.piece.now _ _ _ _ _ c.in-Ok.ensures.moved.whole)
+
 pub returns : goal.returns
 returns c =
     let front = c.in-Err.ensures.stopped.front in
@@ -66,6 +78,8 @@ returns c =
       core = search rules;
       hears = subst (λ (s : State). OnOk c.of_turn.result (Hears false s.talk c.args.piece.now u)) c.self.view_is
           (broken_hears c.of_turn.result t u c.args.piece.now _ _ _ _ _ from (ap Some c.new-sink.ensures.taken) c.of_turn.ensures front c.in-Err.ensures.keeps refl);
+      goes = subst (λ (s : State). OnOk c.of_turn.result (GoesOnWith s.talk c.args.piece.now u)) c.self.view_is
+          (broken_goes c.of_turn.result t u c.args.piece.now _ _ _ _ _ from c.of_turn.ensures front);
       lost = on_err c.of_turn.result (Hears true c.args.self.now.talk c.args.piece.now v) (subst (λ (s : State). Hears true s.talk c.args.piece.now v) c.self.view_is
           (stopped_lost t v c.serve_turns-turned.new.server.end c.args.piece.now _ _ _ _ _ from (ap Some c.new-sink.ensures.taken) front refl
           c.in-Err.ensures.keeps refl));
