@@ -1,7 +1,13 @@
 // What follows from the definitions. Each function has laws for its contract and does nothing.
 
 ghost use Rattle.std.specs.Prelude.{◌≡◌, ℕ, Bool, List, [], ◌∷◌, true, false, None, Ok};
-ghost use Rattle.services.specs.Names.{At, Bytes, Done, End, Found, Nothing, next_of, ServerEnd, running_job, may_turn, Talk, Traffic, Served, IsBreak, IsServing, IsAt, is_over, may_leave, passed, SetupValue};
+ghost use Rattle.effects.specs.Effects.{At, Bytes, Done, End, Found, Nothing};
+ghost use Rattle.line_framing.specs.Next.{next_of};
+ghost use Rattle.protocol_model.specs.Ends.{ServerEnd};
+ghost use Rattle.protocol_model.specs.Server.{running_job};
+ghost use Rattle.server_core.specs.Serving.{may_turn};
+ghost use Rattle.tool_rack.specs.Setups.{SetupValue};
+ghost use Rattle.services.specs.Serving.{Talk, Traffic, Served, IsBreak, IsServing, IsAt, is_over, may_leave, passed};
 ghost use Rattle.link_world.specs.declared.connections.pumps.PumpFault.TheVariants as fault;
 ghost use Rattle.services.specs.declared.stages.Stage.TheVariants as stage;
 

@@ -1,7 +1,8 @@
 // A session: what it asks, and what it does with an answer.
 
 ghost use Rattle.std.specs.Prelude.{◌≡◌, true, false, OnOk, OnErr, IfOk};
-ghost use Rattle.services.specs.Names.{the_ask, the_reply, Reply, serving_left};
+ghost use Rattle.effects.specs.Effects.{the_ask, the_reply, Reply};
+ghost use Rattle.protocol_model.specs.Ends.{serving_left};
 ghost use Rattle.services.specs.Sessions as spec;
 ghost use Rattle.services.specs.Serving as serving;
 
