@@ -151,7 +151,10 @@ impl Lowering {
             manual: false,
             text: Vec::new(alloc),
             notes: Vec::new(alloc),
-            frames: FrameNotes::new(alloc),
+            frames: FrameNotes {
+                text: Vec::new(alloc),
+                since: None,
+            },
         }
     }
 

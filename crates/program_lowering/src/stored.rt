@@ -1,8 +1,8 @@
 // Alignments by name.
 
-ghost use Rattle.std.specs.Prelude.{◌≡◌, ◌<◌, ◌++◌, [], IfOk, IfSome, OnOk, None};
+ghost use Rattle.std.specs.Prelude.{◌≡◌, ◌<◌, ◌++◌, IfOk, IfSome, OnOk};
 ghost use Rattle.std.specs.Option.{option_map};
-ghost use Rattle.dmis_program.specs.Keywords.{is_among, keyword_of};
+ghost use Rattle.dmis_program.specs.Keywords.{keyword_of};
 ghost use Rattle.dmis_program.specs.Parameters.{before_close, is_other_recall, name_within};
 ghost use Rattle.program_lowering.specs.Carried.{frames_after, frames_closed, since_after};
 ghost use Rattle.program_lowering.specs.StoredFrames as spec;
@@ -69,13 +69,6 @@ fn only_frame(alloc: Global, params: &[Text]) -> Result<Option<Name>, AllocError
     }
 }
 
-/// Whether a word makes a coordinate system.
-fn is_alignment(word: &[u8]) -> bool
-    ensures { result ≡ is_among word.now spec.alignments }
-{
-    is_among(word, &["DATSET", "TRANS", "ROTATE"])
-}
-
 /// Whether a `RECALL` recalls what no flat program does.
 fn is_other_recall(params: &[Text]) -> bool
     ensures { result ≡ is_other_recall params.now }
@@ -100,7 +93,7 @@ pub(crate) fn stored_frame(
         Keyword::Recall if is_other_recall(&statement.params) => {
             only_frame(alloc, &statement.params)
         }
-        Keyword::Unknown if is_alignment(&statement.word) => {
+        Keyword::Unknown if is_among(&statement.word, &["DATSET", "TRANS", "ROTATE"]) => {
             labelled_frame(alloc, &statement.label)
         }
         _ => Ok(None),
@@ -127,36 +120,18 @@ fn push_frame(out: &mut Vec<u8>, line: u64, name: &Name) -> Result<(), AllocErro
     out.extend_from_slice(b" of the setup; touches that refer to it: ")
 }
 
-/// Appends the count of touches, and the end of the line.
-fn push_touches(out: &mut Vec<u8>, touches: u64) -> Result<(), AllocError>
-    ensures { OnOk result (out.new.items ≡ out.old.items ++ spec.frame_end touches) }
-{
-    push_number(out, touches)?;
-    out.extend_from_slice(b"\n")
-}
-
 impl FrameNotes {
-    /// Before any frame is selected.
-    pub(crate) fn new(alloc: Global) -> FrameNotes
-        ensures text { result.text.items ≡ [] }
-        ensures since { result.since ≡ None }
-    {
-        FrameNotes {
-            text: Vec::new(alloc),
-            since: None,
-        }
-    }
-
     /// Ends the open line.
     fn close(&mut self) -> Result<(), AllocError>
         ensures text { OnOk result (self.new.text.items
             ≡ frames_closed self.old.text.items self.old.since) }
         ensures since { self.new.since ≡ self.old.since }
     {
-        match self.since {
-            Some(touches) => push_touches(&mut self.text, touches),
-            None => Ok(()),
+        if let Some(touches) = self.since {
+            push_number(&mut self.text, touches)?;
+            self.text.extend_from_slice(b"\n")?;
         }
+        Ok(())
     }
 
     /// Appends all lines.
