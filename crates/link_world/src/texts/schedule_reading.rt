@@ -1,6 +1,8 @@
 // Schedules, read from a text.
 
 ghost use Rattle.std.specs.Prelude.{◌≡◌, ◌<◌, ◌^◌, IfSome, OnOk, IfErr, Ok, Some, true};
+ghost use Rattle.std.specs.List.{list_all};
+ghost use Rattle.std.specs.Char.{is_ascii_digit};
 ghost use Rattle.std.specs.Str.Parse.{digits_value};
 ghost use Rattle.tool_rack.specs.Fields.{fields_of};
 ghost use Rattle.link_world.specs.ScheduleTexts.{is_number, number_of, beside, alone, numbered, before_all, of_machine, rounds, with_number, of_two, touch, instruction_on, schedule_of, IsRefusal, GivesSchedule};
@@ -15,11 +17,17 @@ use std::alloc::Global;
 use tool_rack::fields::{cut_field, has_outer_space, is_dropped, is_word, three_fields};
 use tool_rack::positions::point_in_volume;
 
+fn all_digits(text: &[u8]) -> bool
+    ensures { result ≡ list_all is_ascii_digit text.now }
+{
+    text.iter().all(|byte| byte.is_ascii_digit())
+}
+
 /// Whether a text is one to ten digits.
 fn is_number(text: &[u8]) -> bool
     ensures { result ≡ is_number text.now }
 {
-    text.iter().all(|byte| byte.is_ascii_digit()) && text.len() >= 1 && text.len() <= 10
+    all_digits(text) && text.len() >= 1 && text.len() <= 10
 }
 
 #[tactic(auto, using(crate::proofs::ScheduleNumbers::numbers))]
