@@ -1,14 +1,15 @@
 -- The examples, computed.
 use Rattle.program_lowering.proofs.Names.{[], ◌++◌, ◌∷◌, ◌≡◌, ◌≤◌, arith, as_read, BadByte, codes, decimal, false, flat, flat_line, flat_meant}
 use Rattle.program_lowering.proofs.Names.{flat_text, is_operator_text, left_out, length, length-append, length-decimal-le, nat_lt, nat_tests, None}
-use Rattle.program_lowering.proofs.Names.{map, Ok, passed_over, Passes, refl, Some, text_refusal, true}
+use Rattle.program_lowering.proofs.Names.{Err, map, Ok, passed_over, Passes, refl, Some, steps_from, text_refusal, true, Unsupported}
 use Rattle.fixed_um.specs.Scan.{exponent_of, numeral_of}
 use Rattle.std.specs.Option.{option_map}
 use Rattle.dmis_program.specs.Keywords.{keyword_of}
-use Rattle.program_lowering.specs.Examples.{all_choices, bare, first_by_hand, make_b, manual_front, measured, mode_man, mode_prog}
+use Rattle.program_lowering.specs.Examples.{a_touch, all_choices, bare, first_by_hand, make_a, make_a_on_7, make_b, manual_front, measured, mode_man, mode_prog}
 use Rattle.program_lowering.specs.Examples.{naming_a, naming_none, of_setup, plain_choices, recall_a, saving, start, to_operator, two_frames}
-use Rattle.program_lowering.specs.Lowering.{kept}
-use Rattle.program_lowering.specs.StoredFrames.{by_frame, frame_note, frame_notes}
+use Rattle.program_lowering.specs.Lowering.{counted_at, kept}
+use Rattle.program_lowering.specs.StoredFrames.{by_frame, frame_note, frame_notes, is_used}
+use Rattle.dmis_program.specs.Judging.{judged}
 use Rattle.dmis_program.specs.LookBack.{frame_said, nearest}
 use Rattle.dmis_program.specs.Parameters.{name_within}
 use Rattle.dmis_program.specs.Positions.{length_of, position_of}
@@ -152,15 +153,15 @@ pub manual_open : is_skipped true (bare (codes "GOTO") (codes "'A" ∷ [])) ≡ 
 unfolding keyword_of
 manual_open = refl
 
-pub frames_selecting : map (by_frame all_choices) naming_a ≡ recall_a ∷ recall_a ∷ recall_a ∷ recall_a ∷ []
+pub frames_selecting : map (by_frame all_choices (is_used [])) naming_a ≡ recall_a ∷ recall_a ∷ recall_a ∷ recall_a ∷ []
 unfolding keyword_of name_within
 frames_selecting = refl
 
-pub frames_unasked : map (by_frame plain_choices) naming_a ≡ naming_a
+pub frames_unasked : map (by_frame plain_choices (is_used [])) naming_a ≡ naming_a
 unfolding keyword_of name_within
 frames_unasked = refl
 
-pub frames_others : map (by_frame all_choices) naming_none ≡ naming_none
+pub frames_others : map (by_frame all_choices (is_used [])) naming_none ≡ naming_none
 unfolding keyword_of name_within
 frames_others = refl
 
@@ -188,3 +189,35 @@ pub frames_listed : frame_notes two_frames
     ≡ frame_note 1 (Ok (Recalls (codes "A"))) 2 ++ (frame_note 1 (Ok (Recalls (codes "B"))) 1 ++ [])
 unfolding keyword_of name_within said_of said_by position_of length_of numeral_of exponent_of
 frames_listed = refl
+
+pub again_in_a_row : kept all_choices (start ∷ make_a ∷ make_a ∷ a_touch ∷ []) ≡ start ∷ recall_a ∷ recall_a ∷ a_touch ∷ []
+unfolding keyword_of name_within said_of said_by
+again_in_a_row = refl
+
+pub again_touched : kept all_choices (start ∷ make_a ∷ a_touch ∷ make_a ∷ []) ≡ start ∷ recall_a ∷ a_touch ∷ make_a ∷ []
+unfolding keyword_of name_within said_of said_by
+again_touched = refl
+
+pub again_recalled_before : counted_at all_choices (a_touch ∷ recall_a ∷ start ∷ []) make_a ≡ make_a
+unfolding keyword_of name_within said_of said_by
+again_recalled_before = refl
+
+pub again_long_before : counted_at all_choices (recall_a ∷ make_b ∷ a_touch ∷ recall_a ∷ start ∷ []) make_a ≡ make_a
+unfolding keyword_of name_within said_of said_by
+again_long_before = refl
+
+pub again_another : counted_at all_choices (a_touch ∷ make_b ∷ recall_a ∷ start ∷ []) make_a ≡ recall_a
+unfolding keyword_of name_within said_of said_by
+again_another = refl
+
+pub again_recalled : counted_at all_choices (a_touch ∷ recall_a ∷ start ∷ []) (bare (codes "RECALL") (codes "DA(A)" ∷ [])) ≡ recall_a
+unfolding keyword_of name_within said_of said_by
+again_recalled = refl
+
+pub again_manual : counted_at all_choices (a_touch ∷ mode_man ∷ recall_a ∷ start ∷ []) make_a ≡ recall_a
+unfolding keyword_of name_within said_of said_by
+again_manual = refl
+
+pub again_refused : steps_from [] None 9 (a_touch ∷ recall_a ∷ start ∷ []) (make_a_on_7 ∷ []) ≡ Err (Unsupported, 7)
+unfolding keyword_of judged
+again_refused = refl

@@ -10,7 +10,8 @@ use Rattle.program_lowering.proofs.RunLemmas.{accepted_known}
 use Rattle.program_lowering.proofs.ReadBackLemmas.{by_tests, meant_steps}
 use Rattle.program_lowering.proofs.FrameLemmas.{no_text}
 use Rattle.program_lowering.proofs.Names.{◌==◌, bound_count, bound_said, is_unsupported, length, nearest, not}
-use Rattle.program_lowering.specs.StoredFrames.{by_frame, named_frame, selecting, stored_frame}
+use Rattle.program_lowering.specs.Lowering.{counted_at, kept_above}
+use Rattle.program_lowering.specs.StoredFrames.{by_frame, is_used, named_frame, selecting, stored_frame}
 use Rattle.program_lowering.proofs.Runs.{steps_up_to}
 use Rattle.std.proofs.Common.{codes, ◌∙◌}
 use Rattle.std.specs.Str.{bytes_eq}
@@ -72,28 +73,28 @@ by_mode s word.Unknown m h = refl
 record IsCounted (choices : Choices) (aboves : List Statement) (s : Statement) : Type 0 where
   mode : in_manual (s ∷ aboves) ≡ false
   stays : left_out_at choices aboves s ≡ None
-  same : by_frame choices s ≡ s
+  same : counted_at choices aboves s ≡ s
 
 -- and no frame is selected but by `RECALL/D`
-none_named : (k : Keyword) (s : Statement) (first : Bool) → is_unknown k ≡ false → is_unsupported first k s.params ≡ false → named_frame k s ≡ None
-none_named word.Recall s first h g = rw g refl
-none_named word.Unknown s first h g = absurd cc
-none_named word.Dmismn s first h g = refl
-none_named word.Goto s first h g = refl
-none_named word.Meas s first h g = refl
-none_named word.Ptmeas s first h g = refl
-none_named word.Endmes s first h g = refl
-none_named word.Snslct s first h g = refl
-none_named word.Endfil s first h g = refl
-none_named word.Units s first h g = refl
-none_named word.Mode s first h g = refl
-none_named word.Definition s first h g = refl
-none_named word.Passed s first h g = refl
+none_named : (used : List ℕ → Bool) (k : Keyword) (s : Statement) (first : Bool) → is_unknown k ≡ false → is_unsupported first k s.params ≡ false → named_frame used k s ≡ None
+none_named used word.Recall s first h g = rw g refl
+none_named used word.Unknown s first h g = absurd cc
+none_named used word.Dmismn s first h g = refl
+none_named used word.Goto s first h g = refl
+none_named used word.Meas s first h g = refl
+none_named used word.Ptmeas s first h g = refl
+none_named used word.Endmes s first h g = refl
+none_named used word.Snslct s first h g = refl
+none_named used word.Endfil s first h g = refl
+none_named used word.Units s first h g = refl
+none_named used word.Mode s first h g = refl
+none_named used word.Definition s first h g = refl
+none_named used word.Passed s first h g = refl
 
-same_statement : (choices : Choices) (s : Statement) → named_frame (keyword_of s.word) s ≡ None → by_frame choices s ≡ s
-same_statement choices s h = go (choices.stored_frames && not (has_open_text s))
+same_statement : (choices : Choices) (used : List ℕ → Bool) (s : Statement) → named_frame used (keyword_of s.word) s ≡ None → by_frame choices used s ≡ s
+same_statement choices used s h = go (choices.stored_frames && not (has_open_text s))
   where
-    go : (b : Bool) → selecting (cond b (named_frame (keyword_of s.word) s) None) s ≡ s
+    go : (b : Bool) → selecting (cond b (named_frame used (keyword_of s.word) s) None) s ≡ s
     go true = rw h refl
     go false = refl
 
@@ -111,7 +112,8 @@ counted frames choices aboves s m above e =
     record {
       mode = here;
       stays = go aboves here known;
-      same = same_statement choices s (none_named (keyword_of s.word) s (length aboves == 0) known tests.second);
+      same = same_statement choices (is_used (kept_above choices aboves)) s
+          (none_named (is_used (kept_above choices aboves)) (keyword_of s.word) s (length aboves == 0) known tests.second);
     }
   where
     go : (aboves : List Statement) → in_manual (s ∷ aboves) ≡ false → is_unknown (keyword_of s.word) ≡ false → left_out_at choices aboves s ≡ None
@@ -157,8 +159,8 @@ kept_fits choices above (s ∷ statements) h = go (left_out_at choices above s) 
     fits (Some name) = no_text name s
 
     go : (o : Option Reason) → Fit (kept_below choices (s ∷ above) statements)
-        → Fit (unless_left_out o (by_frame choices s) ++ kept_below choices (s ∷ above) statements)
-    go None rest = (fits (stored_frame choices s), rest)
+        → Fit (unless_left_out o (counted_at choices above s) ++ kept_below choices (s ∷ above) statements)
+    go None rest = (fits (stored_frame choices (is_used (kept_above choices above)) s), rest)
     go (Some reason) rest = rest
 
 -- a unit that is accepted is the millimetre

@@ -21,7 +21,7 @@ use Rattle.program_lowering.proofs.SaidLemmas.{name_within_is}
 use Rattle.program_lowering.proofs.Names.{IfOk, IfSome, name_within, or_else, subst}
 use Rattle.dmis_program.specs.Keywords.{is_among}
 use Rattle.dmis_program.specs.Parameters.{is_other_recall}
-use Rattle.program_lowering.specs.StoredFrames.{alignments, frame_name, labelled_frame, only_frame}
+use Rattle.program_lowering.specs.StoredFrames.{alignments, frame_name, labelled_frame, only_frame, unless_used}
 use Rattle.std.proofs.Common.{◌⊎◌, inl, inr}
 
 -- ---- the lines on frames
@@ -80,8 +80,8 @@ last_is frames since line said.Passes k rest h = absurd cc
 -- ---- the statement that counts
 
 -- it has the line of the source, is no `MODE`, and ends the program only if the source does
-pub same_line : (choices : Choices) (s : Statement) → (by_frame choices s).line ≡ s.line
-same_line choices s = go (stored_frame choices s)
+pub same_line : (choices : Choices) (used : List ℕ → Bool) (s : Statement) → (by_frame choices used s).line ≡ s.line
+same_line choices used s = go (stored_frame choices used s)
   where
     go : (o : Option (List ℕ)) → (selecting o s).line ≡ s.line
     go None = refl
@@ -91,26 +91,26 @@ same_line choices s = go (stored_frame choices s)
 abbrev IsOther : Keyword → Type 0
 IsOther k = (k ≡ word.Recall) ⊎ (k ≡ word.Unknown)
 
-named_other : (k : Keyword) (s : Statement) (name : List ℕ) → named_frame k s ≡ Some name → IsOther k
-named_other word.Recall s name h = inl refl
-named_other word.Unknown s name h = inr refl
-named_other word.Dmismn s name h = absurd cc
-named_other word.Goto s name h = absurd cc
-named_other word.Meas s name h = absurd cc
-named_other word.Ptmeas s name h = absurd cc
-named_other word.Endmes s name h = absurd cc
-named_other word.Snslct s name h = absurd cc
-named_other word.Endfil s name h = absurd cc
-named_other word.Units s name h = absurd cc
-named_other word.Mode s name h = absurd cc
-named_other word.Definition s name h = absurd cc
-named_other word.Passed s name h = absurd cc
+named_other : (used : List ℕ → Bool) (k : Keyword) (s : Statement) (name : List ℕ) → named_frame used k s ≡ Some name → IsOther k
+named_other used word.Recall s name h = inl refl
+named_other used word.Unknown s name h = inr refl
+named_other used word.Dmismn s name h = absurd cc
+named_other used word.Goto s name h = absurd cc
+named_other used word.Meas s name h = absurd cc
+named_other used word.Ptmeas s name h = absurd cc
+named_other used word.Endmes s name h = absurd cc
+named_other used word.Snslct s name h = absurd cc
+named_other used word.Endfil s name h = absurd cc
+named_other used word.Units s name h = absurd cc
+named_other used word.Mode s name h = absurd cc
+named_other used word.Definition s name h = absurd cc
+named_other used word.Passed s name h = absurd cc
 
-pub stored_other : (choices : Choices) (s : Statement) (name : List ℕ) → stored_frame choices s ≡ Some name → IsOther (keyword_of s.word)
-stored_other choices s name h = go choices.stored_frames (has_open_text s) h
+pub stored_other : (choices : Choices) (used : List ℕ → Bool) (s : Statement) (name : List ℕ) → stored_frame choices used s ≡ Some name → IsOther (keyword_of s.word)
+stored_other choices used s name h = go choices.stored_frames (has_open_text s) h
   where
-    go : (a b : Bool) → cond (a && not b) (named_frame (keyword_of s.word) s) None ≡ Some name → IsOther (keyword_of s.word)
-    go true false h = named_other (keyword_of s.word) s name h
+    go : (a b : Bool) → cond (a && not b) (named_frame used (keyword_of s.word) s) None ≡ Some name → IsOther (keyword_of s.word)
+    go true false h = named_other used (keyword_of s.word) s name h
     go true true h = absurd cc
     go false b h = absurd cc
 
@@ -118,15 +118,15 @@ mode_other : (b : Bool) (s : Statement) → IsOther (keyword_of s.word) → manu
 mode_other b s (inl e) = rw e refl
 mode_other b s (inr e) = rw e refl
 
-pub same_mode : (choices : Choices) (b : Bool) (s : Statement) → manual_after b (by_frame choices s) ≡ manual_after b s
-same_mode choices b s = go (stored_frame choices s) refl
+pub same_mode : (choices : Choices) (used : List ℕ → Bool) (b : Bool) (s : Statement) → manual_after b (by_frame choices used s) ≡ manual_after b s
+same_mode choices used b s = go (stored_frame choices used s) refl
   where
-    go : (o : Option (List ℕ)) → stored_frame choices s ≡ o → manual_after b (selecting o s) ≡ manual_after b s
+    go : (o : Option (List ℕ)) → stored_frame choices used s ≡ o → manual_after b (selecting o s) ≡ manual_after b s
     go None e = refl
-    go (Some name) e = mode_other b (selecting (Some name) s) (inl recall_word) ∙ sym (mode_other b s (stored_other choices s name e))
+    go (Some name) e = mode_other b (selecting (Some name) s) (inl recall_word) ∙ sym (mode_other b s (stored_other choices used s name e))
 
-pub same_end : (choices : Choices) (s : Statement) → (keyword_of s.word ≡ word.Endfil → ⊥) → keyword_of (by_frame choices s).word ≡ word.Endfil → ⊥
-same_end choices s other = go (stored_frame choices s)
+pub same_end : (choices : Choices) (used : List ℕ → Bool) (s : Statement) → (keyword_of s.word ≡ word.Endfil → ⊥) → keyword_of (by_frame choices used s).word ≡ word.Endfil → ⊥
+same_end choices used s other = go (stored_frame choices used s)
   where
     go : (o : Option (List ℕ)) → keyword_of (selecting o s).word ≡ word.Endfil → ⊥
     go None h = other h
@@ -167,9 +167,9 @@ no_text name s = rw (no_operator name s) refl
         go true = refl
         go false = refl
 
-pub next_selected : (frames : List (List ℕ × Point)) (c : Carried) (choices : Choices) (s : Statement) (name : List ℕ)
-    → stored_frame choices s ≡ Some name → IsName name → judged_next frames c (by_frame choices s) ≡ frame_due frames c.above name
-next_selected frames c choices s name e h =
+pub next_selected : (frames : List (List ℕ × Point)) (c : Carried) (choices : Choices) (used : List ℕ → Bool) (s : Statement) (name : List ℕ)
+    → stored_frame choices used s ≡ Some name → IsName name → judged_next frames c (by_frame choices used s) ≡ frame_due frames c.above name
+next_selected frames c choices used s name e h =
     rw (e, no_text name s) (judged_stated frames (context_of c.above) c.inches (selecting (Some name) s)
     ∙ ap (judged frames (context_of c.above)) (stated_same c.inches name s) ∙ judged_frame frames c.above name s h)
 
@@ -186,10 +186,10 @@ other_text s other = go (is_operator_text s) refl other
     go true e (inl k) = let same : word.Recall ≡ word.Passed = sym k ∙ (ap keyword_of (is_text s e).word_is ∙ text_word) in absurd cc
     go true e (inr k) = let same : word.Unknown ≡ word.Passed = sym k ∙ (ap keyword_of (is_text s e).word_is ∙ text_word) in absurd cc
 
-pub same_followed : (c : Carried) (choices : Choices) (s : Statement) (name : List ℕ) → stored_frame choices s ≡ Some name
-    → followed c s (said.Recalls name) ≡ followed c (by_frame choices s) (said.Recalls name)
-same_followed c choices s name e =
-    let other = stored_other choices s name e in
+pub same_followed : (c : Carried) (choices : Choices) (used : List ℕ → Bool) (s : Statement) (name : List ℕ) → stored_frame choices used s ≡ Some name
+    → followed c s (said.Recalls name) ≡ followed c (by_frame choices used s) (said.Recalls name)
+same_followed c choices used s name e =
+    let other = stored_other choices used s name e in
     rw (
       e,
       inches_other c.inches s other,
@@ -222,46 +222,55 @@ when : (b : Bool) (o : Option (List ℕ)) → IfSome o IsName → IfSome (cond b
 when true o h = h
 when false o h = tt
 
-named_is : (k : Keyword) (s : Statement) → IfSome (named_frame k s) IsName
-named_is word.Recall s = when (is_other_recall s.params) (only_frame s.params) (only_is s.params)
-named_is word.Unknown s = when (is_among s.word alignments) (labelled_frame s.label) (labelled_is s.label)
-named_is word.Dmismn s = tt
-named_is word.Goto s = tt
-named_is word.Meas s = tt
-named_is word.Ptmeas s = tt
-named_is word.Endmes s = tt
-named_is word.Snslct s = tt
-named_is word.Endfil s = tt
-named_is word.Units s = tt
-named_is word.Mode s = tt
-named_is word.Definition s = tt
-named_is word.Passed s = tt
+unless_is : (used : List ℕ → Bool) (o : Option (List ℕ)) → IfSome o IsName → IfSome (unless_used used o) IsName
+unless_is used None h = tt
+unless_is used (Some name) h = go (used name)
+  where
+    go : (b : Bool) → IfSome (cond b None (Some name)) IsName
+    go true = tt
+    go false = h
 
-stored_is : (choices : Choices) (s : Statement) → IfSome (stored_frame choices s) IsName
-stored_is choices s = when (choices.stored_frames && not (has_open_text s)) (named_frame (keyword_of s.word) s) (named_is (keyword_of s.word) s)
+named_is : (used : List ℕ → Bool) (k : Keyword) (s : Statement) → IfSome (named_frame used k s) IsName
+named_is used word.Recall s = when (is_other_recall s.params) (only_frame s.params) (only_is s.params)
+named_is used word.Unknown s = when (is_among s.word alignments) (unless_used used (labelled_frame s.label)) (unless_is used (labelled_frame s.label) (labelled_is s.label))
+named_is used word.Dmismn s = tt
+named_is used word.Goto s = tt
+named_is used word.Meas s = tt
+named_is used word.Ptmeas s = tt
+named_is used word.Endmes s = tt
+named_is used word.Snslct s = tt
+named_is used word.Endfil s = tt
+named_is used word.Units s = tt
+named_is used word.Mode s = tt
+named_is used word.Definition s = tt
+named_is used word.Passed s = tt
 
-pub selects : (choices : Choices) (s : Statement) (name : List ℕ) → stored_frame choices s ≡ Some name
-    → saying (by_frame choices s) ≡ Ok (said.Recalls name)
-selects choices s name e =
-    let h : IsName name = rw e at (stored_is choices s) in
+stored_is : (choices : Choices) (used : List ℕ → Bool) (s : Statement) → IfSome (stored_frame choices used s) IsName
+stored_is choices used s = when (choices.stored_frames && not (has_open_text s)) (named_frame used (keyword_of s.word) s)
+    (named_is used (keyword_of s.word) s)
+
+pub selects : (choices : Choices) (used : List ℕ → Bool) (s : Statement) (name : List ℕ) → stored_frame choices used s ≡ Some name
+    → saying (by_frame choices used s) ≡ Ok (said.Recalls name)
+selects choices used s name e =
+    let h : IsName name = rw e at (stored_is choices used s) in
     rw e ((recalls_flat [] name h).says s.line)
 
-pub others_same : (choices : Choices) (s : Statement) → stored_frame choices s ≡ None → by_frame choices s ≡ s
-others_same choices s e = rw e refl
+pub others_same : (choices : Choices) (used : List ℕ → Bool) (s : Statement) → stored_frame choices used s ≡ None → by_frame choices used s ≡ s
+others_same choices used s e = rw e refl
 
 -- what the code gives there
-pub gives_frame : (frames : List (List ℕ × Point)) (c : Carried) (choices : Choices) (s : Statement) (name : List ℕ)
-    (given : Option (List ℕ)) (r : Result StatementMeaning StatementFault) → given ≡ Some name → given ≡ stored_frame choices s
-    → Gives r (frame_due frames c.above name) → Gives r (judged_next frames c (by_frame choices s))
-gives_frame frames c choices s name given r is e due =
-    let h : stored_frame choices s ≡ Some name = sym e ∙ is in
-    subst (λ (d : Result StatementMeaning Refusal). Gives r d) (sym (next_selected frames c choices s name h (rw h at (stored_is choices s)))) due
+pub gives_frame : (frames : List (List ℕ × Point)) (c : Carried) (choices : Choices) (used : List ℕ → Bool) (s : Statement) (name : List ℕ)
+    (given : Option (List ℕ)) (r : Result StatementMeaning StatementFault) → given ≡ Some name → given ≡ stored_frame choices used s
+    → Gives r (frame_due frames c.above name) → Gives r (judged_next frames c (by_frame choices used s))
+gives_frame frames c choices used s name given r is e due =
+    let h : stored_frame choices used s ≡ Some name = sym e ∙ is in
+    subst (λ (d : Result StatementMeaning Refusal). Gives r d) (sym (next_selected frames c choices used s name h (rw h at (stored_is choices used s)))) due
 
-pub follows_same : (c : Carried) (choices : Choices) (s : Statement) (name : List ℕ) (given : Option (List ℕ))
-    (r : Result StatementMeaning StatementFault) → given ≡ Some name → given ≡ stored_frame choices s
+pub follows_same : (c : Carried) (choices : Choices) (used : List ℕ → Bool) (s : Statement) (name : List ℕ) (given : Option (List ℕ))
+    (r : Result StatementMeaning StatementFault) → given ≡ Some name → given ≡ stored_frame choices used s
     → IfOk r (λ (m : StatementMeaning). m ≡ said.Recalls name)
-    → IfOk r (λ (m : StatementMeaning). followed c s m ≡ followed c (by_frame choices s) m)
-follows_same c choices s name given (Ok m) is e says = rw says (same_followed c choices s name (sym e ∙ is))
-follows_same c choices s name given (Err fault) is e says = tt
+    → IfOk r (λ (m : StatementMeaning). followed c s m ≡ followed c (by_frame choices used s) m)
+follows_same c choices used s name given (Ok m) is e says = rw says (same_followed c choices used s name (sym e ∙ is))
+follows_same c choices used s name given (Err fault) is e says = tt
 
 pub ruleset frames = (gives_frame, follows_same)

@@ -12,6 +12,7 @@ pub mod FlatLemmas
 pub mod TextLemmas
 pub mod StatedLemmas
 pub mod FrameLemmas
+pub mod UseLemmas
 pub mod ReadBackLemmas
 pub mod FlatSourceLemmas
 pub mod LawLemmas

@@ -17,9 +17,10 @@ use Rattle.program_lowering.proofs.Names.{in_manual, is_skipped, kept_below, lef
 use Rattle.program_lowering.specs.declared.words.Reason.TheVariants.{Manual}
 use Rattle.std.proofs.Common.{◌⊎◌, inl, inr}
 use Rattle.program_lowering.specs.Carried.{judged_next}
-use Rattle.program_lowering.specs.Lowering.{note_at, unless_left_out}
-use Rattle.program_lowering.specs.StoredFrames.{by_frame, frame_notes, touches_until}
+use Rattle.program_lowering.specs.Lowering.{counted_at, kept_above, note_at, unless_left_out}
+use Rattle.program_lowering.specs.StoredFrames.{by_frame, frame_notes, is_used, touches_until}
 use Rattle.program_lowering.proofs.FrameLemmas.{frames_then, frames_with, last_is, next_is, same_end, same_line, same_mode}
+use Rattle.program_lowering.proofs.UseLemmas.{HasUses, counted_alike, none_used, uses_kept, uses_left}
 
 -- lines with their ends, one list after the other
 pub ended_append : (xs ys : List (List ℕ)) → ended_lines (xs ++ ys) ≡ ended_lines xs ++ ended_lines ys
@@ -68,20 +69,20 @@ skipped_measures true true b h = refl
 skipped_measures true false b h = absurd cc
 skipped_measures false a b h = absurd cc
 
-left_out_closes : (choices : Choices) (manual : Bool) (s : Statement) (reason : Reason) → left_out_in choices manual s ≡ Some reason
-    → is_closing (saying (by_frame choices s)) ≡ false
-left_out_closes choices manual s reason h = go choices.skip_manual (is_skipped manual s) (is_unknown (keyword_of s.word)) refl refl h
+left_out_closes : (choices : Choices) (used : List ℕ → Bool) (manual : Bool) (s : Statement) (reason : Reason) → left_out_in choices manual s ≡ Some reason
+    → is_closing (saying (by_frame choices used s)) ≡ false
+left_out_closes choices used manual s reason h = go choices.skip_manual (is_skipped manual s) (is_unknown (keyword_of s.word)) refl refl h
   where
     other : (k : Keyword) → (measures k s.word ≡ true) ⊎ (is_unknown k ≡ true) → k ≡ word.Endfil → ⊥
     other k (inl h) e = let f = rw e at h in absurd cc
     other k (inr h) e = let f = rw e at h in absurd cc
 
-    nothing : (keyword_of s.word ≡ word.Endfil → ⊥) → is_closing (saying (by_frame choices s)) ≡ false
-    nothing h = closes_nothing (by_frame choices s) (same_end choices s h)
+    nothing : (keyword_of s.word ≡ word.Endfil → ⊥) → is_closing (saying (by_frame choices used s)) ≡ false
+    nothing h = closes_nothing (by_frame choices used s) (same_end choices used s h)
 
     go : (asked b unknown : Bool) → is_skipped manual s ≡ b → is_unknown (keyword_of s.word) ≡ unknown
         → cond (asked && b) (Some Manual) (cond (unknown && not (has_open_text s)) (reason_of choices s.word s.params) None) ≡ Some reason
-        → is_closing (saying (by_frame choices s)) ≡ false
+        → is_closing (saying (by_frame choices used s)) ≡ false
     go true true unknown e f h = nothing (other (keyword_of s.word) (inl (skipped_measures manual _ _ e)))
     go asked b true e f h = nothing (other (keyword_of s.word) (inr f))
     go true false false e f h = absurd cc
@@ -174,7 +175,7 @@ HasMode all c = c.manual ≡ in_manual all
 -- the same if it is not left out
 by_text : (frames : List (List ℕ × Point)) (choices : Choices) (fault : Option TextFault) (lines : ℕ) (aboves sources all : List Statement)
     (s : Statement) (statements below : List Statement) (c : Carried) (o : Option Refusal) → text_refusal s ≡ o → Stands aboves c.above → HasUnit sources c
-    → ((m : StatementMeaning) → Stands (stated (in_inches sources) s ∷ aboves) (after_said c.above m)
+    → ((m : StatementMeaning) → saying (stated (in_inches sources) s) ≡ Ok m → Stands (stated (in_inches sources) s ∷ aboves) (after_said c.above m)
     → RunsAs frames choices fault lines (stated (in_inches sources) s ∷ aboves) (s ∷ sources) all statements below (followed c s m))
     → ran s.line (refused_by o (due frames c.above c.inches s) >>= λ m. Ok (closes m, followed c s m)) (run frames choices fault lines statements)
     ≡ with_texts (steps_from frames (before_refused (stated (in_inches sources) s) o (up_to_refused fault (all_stated (s ∷ sources) below))).fault lines
@@ -188,11 +189,11 @@ by_text frames choices fault lines aboves sources all s statements below c None 
     due_is frames aboves c.above c.inches s stands ∙ ap (λ (b : Bool). judged frames (context_at frames aboves) (stated b s)) unit in
     rw judged_here (by_judgement frames choices fault lines aboves sources all s statements below c (in_inches sources)
     (judged frames (context_at frames aboves) (stated (in_inches sources) s)) (accepted_says frames aboves s (in_inches sources)) (λ m e.
-    behind m (stands_after aboves c.above (stated (in_inches sources) s) m stands (accepted_says frames aboves s (in_inches sources) m e))))
+    behind m (accepted_says frames aboves s (in_inches sources) m e) (stands_after aboves c.above (stated (in_inches sources) s) m stands (accepted_says frames aboves s (in_inches sources) m e))))
 
 counts : (frames : List (List ℕ × Point)) (choices : Choices) (fault : Option TextFault) (lines : ℕ) (aboves sources all : List Statement)
     (s : Statement) (statements below : List Statement) (c : Carried) → Stands aboves c.above → HasUnit sources c
-    → ((m : StatementMeaning) → Stands (stated (in_inches sources) s ∷ aboves) (after_said c.above m)
+    → ((m : StatementMeaning) → saying (stated (in_inches sources) s) ≡ Ok m → Stands (stated (in_inches sources) s ∷ aboves) (after_said c.above m)
     → RunsAs frames choices fault lines (stated (in_inches sources) s ∷ aboves) (s ∷ sources) all statements below (followed c s m))
     → ran s.line (judged_next frames c s >>= λ m. Ok (closes m, followed c s m)) (run frames choices fault lines statements)
     ≡ with_texts (steps_up_to frames fault lines aboves (all_stated sources (s ∷ below)))
@@ -207,9 +208,9 @@ some_above n = ne_eqb (suc n) 0 (λ z. omega arith)
 -- a statement that may be left out, and the one that counts in its place
 by_reason : (frames : List (List ℕ × Point)) (choices : Choices) (fault : Option TextFault) (lines : ℕ) (aboves sources all : List Statement)
     (s t : Statement) (statements : List Statement) (c : Carried) (o : Option Reason) → t.line ≡ s.line → ((reason : Reason) → o ≡ Some reason → is_closing (saying t) ≡ false) → Stands aboves c.above → HasUnit sources c
-    → ((d : Carried) → Stands aboves d.above → HasUnit sources d → d.manual ≡ manual_after c.manual s
-    → RunsAs frames choices fault lines aboves sources (s ∷ all) statements (kept_below choices (s ∷ all) statements) d)
-    → ((m : StatementMeaning) → Stands (stated (in_inches sources) t ∷ aboves) (after_said c.above m)
+    → ((reason : Reason) → o ≡ Some reason
+    → RunsAs frames choices fault lines aboves sources (s ∷ all) statements (kept_below choices (s ∷ all) statements) (noted c s (Some reason)))
+    → (o ≡ None → (m : StatementMeaning) → saying (stated (in_inches sources) t) ≡ Ok m → Stands (stated (in_inches sources) t ∷ aboves) (after_said c.above m)
     → RunsAs frames choices fault lines (stated (in_inches sources) t ∷ aboves) (t ∷ sources) (s ∷ all) statements
     (kept_below choices (s ∷ all) statements) (followed c t m))
     → ran s.line (stepped frames c s t o) (run frames choices fault lines statements)
@@ -219,25 +220,30 @@ by_reason : (frames : List (List ℕ × Point)) (choices : Choices) (fault : Opt
     (frames_then c.frames c.since (all_stated sources (unless_left_out o t ++ kept_below choices (s ∷ all) statements)))
 by_reason frames choices fault lines aboves sources all s t statements c None line ends stands unit without behind =
     ap (λ (n : ℕ). ran n (stepped frames c s t None) (run frames choices fault lines statements)) (sym line)
-    ∙ counts frames choices fault lines aboves sources (s ∷ all) t statements (kept_below choices (s ∷ all) statements) c stands unit behind
+    ∙ counts frames choices fault lines aboves sources (s ∷ all) t statements (kept_below choices (s ∷ all) statements) c stands unit
+    (behind refl)
 by_reason frames choices fault lines aboves sources all s t statements c (Some reason) line ends stands unit without behind =
     rw (ends reason refl, ← append_assoc c.notes (note_for s (Some reason)) (notes_from choices (s ∷ all) statements))
-    (without (noted c s (Some reason)) stands unit refl)
+    (without reason refl)
 
 pub run_is : (frames : List (List ℕ × Point)) (choices : Choices) (fault : Option TextFault) (lines : ℕ) (t u : Statement)
     (aboves sources all statements : List Statement) (c : Carried) → Stands (t ∷ aboves) c.above → HasUnit sources c → HasMode (u ∷ all) c
+    → HasUses (kept_above choices (u ∷ all)) c
     → RunsAs frames choices fault lines (t ∷ aboves) sources (u ∷ all) statements (kept_below choices (u ∷ all) statements) c
-run_is frames choices fault lines t u aboves sources all [] c stands unit mode = rw stands.number refl
-run_is frames choices fault lines t u aboves sources all (next ∷ statements) c stands unit mode =
+run_is frames choices fault lines t u aboves sources all [] c stands unit mode uses = rw stands.number refl
+run_is frames choices fault lines t u aboves sources all (next ∷ statements) c stands unit mode uses =
     let some : (c.above.number == 0) ≡ false = ap (λ (n : ℕ). n == 0) stands.number ∙ some_above (length aboves) in
     let then : manual_after c.manual next ≡ in_manual (next ∷ u ∷ all) = ap (λ (b : Bool). manual_after b next) mode in
-    rw (some, then) (by_reason frames choices fault lines (t ∷ aboves) sources (u ∷ all) next (by_frame choices next) statements c
-    (left_out_in choices (in_manual (next ∷ u ∷ all)) next) (same_line choices next)
-    (left_out_closes choices (in_manual (next ∷ u ∷ all)) next) stands unit
-    (λ d held one is. run_is frames choices fault lines t next aboves sources (u ∷ all) statements d held one (is ∙ then))
-    (λ m held. run_is frames choices fault lines (stated (in_inches sources) (by_frame choices next)) next (t ∷ aboves) (by_frame choices next ∷ sources)
-    (u ∷ all) statements (followed c (by_frame choices next) m) held (ap (λ (b : Bool). inches_after b (by_frame choices next)) unit)
-    (same_mode choices c.manual next ∙ then)))
+    let used = is_used (kept_above choices (u ∷ all)) in
+    let counted = counted_at choices (u ∷ all) next in
+    rw (some, then, counted_alike choices (u ∷ all) next c uses) (by_reason frames choices fault lines (t ∷ aboves) sources (u ∷ all) next counted
+    statements c (left_out_in choices (in_manual (next ∷ u ∷ all)) next) (same_line choices used next)
+    (left_out_closes choices used (in_manual (next ∷ u ∷ all)) next) stands unit
+    (λ reason out. run_is frames choices fault lines t next aboves sources (u ∷ all) statements (noted c next (Some reason)) stands unit then
+    (uses_left choices (u ∷ all) next c reason out uses))
+    (λ stays m says held. run_is frames choices fault lines (stated (in_inches sources) counted) next (t ∷ aboves) (counted ∷ sources)
+    (u ∷ all) statements (followed c counted m) held (ap (λ (b : Bool). inches_after b counted) unit) (same_mode choices used c.manual next ∙ then)
+    (uses_kept (in_inches sources) choices (u ∷ all) next c m stays says uses)))
 
 none_stand : Stands [] none_above
 none_stand = record { number = refl; tool = refl; wanted = refl; touched = refl }
@@ -249,8 +255,10 @@ pub run_from_start : (frames : List (List ℕ × Point)) (choices : Choices) (fa
     (frame_notes (all_stated [] (kept choices statements)))
 run_from_start frames choices fault lines [] = refl
 run_from_start frames choices fault lines (s ∷ statements) =
-    ap (λ (n : ℕ). ran n (stepped frames nothing_carried s (by_frame choices s) None) (run frames choices fault lines statements))
-    (sym (same_line choices s))
-    ∙ counts frames choices fault lines [] [] (s ∷ []) (by_frame choices s) statements (kept_below choices (s ∷ []) statements) nothing_carried none_stand
-    refl (λ m held. run_is frames choices fault lines (stated false (by_frame choices s)) s [] (by_frame choices s ∷ []) [] statements
-    (followed nothing_carried (by_frame choices s) m) held refl (same_mode choices false s))
+    let counted = counted_at choices [] s in
+    rw (counted_alike choices [] s nothing_carried none_used) (
+    ap (λ (n : ℕ). ran n (stepped frames nothing_carried s counted None) (run frames choices fault lines statements)) (sym (same_line choices (is_used []) s))
+    ∙ counts frames choices fault lines [] [] (s ∷ []) counted statements (kept_below choices (s ∷ []) statements) nothing_carried none_stand
+    refl (λ m says held. run_is frames choices fault lines (stated false counted) s [] (counted ∷ []) [] statements
+    (followed nothing_carried counted m) held refl (same_mode choices (is_used []) false s)
+    (uses_kept false choices [] s nothing_carried m refl says none_used)))

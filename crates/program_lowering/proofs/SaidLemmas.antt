@@ -11,13 +11,14 @@ use Rattle.dmis_program.specs.Sayings.{said_by, said_of}
 use Rattle.dmis_program.proofs.SayingLemmas.{bind_if, said_of_if, unless_if}
 use Rattle.dmis_program.proofs.ParenthesisLemmas.{only}
 use Rattle.dmis_program.specs.declared.keywords.Keyword.TheVariants as word
+use Rattle.program_lowering.specs.StoredFrames.{is_touch}
 
 -- the first parameter
 abbrev pub first_of : List (List ℕ) → List ℕ
 first_of [] = []
 first_of (first ∷ rest) = first
 
--- what is said is said by one keyword, but for what commands nothing; names are names, and a count is within its limits
+-- what is said is said by one keyword, but for what commands nothing, which no touch says; names are names, and a count is within its limits
 abbrev pub Tells : Keyword → List (List ℕ) → StatementMeaning → Type 0
 Tells keyword params (Goes target) = keyword ≡ word.Goto
 Tells keyword params (Begins name count) = (count ≤ 10000) × (is_letters (first_of params) ≡ true)
@@ -26,7 +27,7 @@ Tells keyword params Ends = Unit {0}
 Tells keyword params (Selects name) = keyword ≡ word.Snslct
 Tells keyword params (Recalls name) = (keyword ≡ word.Recall) × IsName name
 Tells keyword params Closes = Unit {0}
-Tells keyword params Passes = Unit {0}
+Tells keyword params Passes = is_touch keyword ≡ false
 
 pub name_within_is : (front text : List ℕ) → IfSome (name_within front text) IsName
 name_within_is front text = go (name_within front text) refl
@@ -111,27 +112,27 @@ recalls_frame_tells _ = tt
 
 when_frame : (b : Bool) (params : List (List ℕ)) → IfOk (cond b (recalls_frame params) (Ok Passes)) (Tells word.Recall params)
 when_frame true params = recalls_frame_tells params
-when_frame false params = tt
+when_frame false params = refl
 
 recalls_tells : (params : List (List ℕ)) → IfOk (recalls params) (Tells word.Recall params)
 recalls_tells [] = tt
 recalls_tells (first ∷ rest) = when_frame (begins (codes "D(") first) (first ∷ rest)
 
-passes_tells : (keyword : Keyword) (all : List (List ℕ)) (b : Bool) (e : Refusal) → IfOk (cond b (Ok Passes) (Err e)) (Tells keyword all)
-passes_tells keyword all true e = tt
-passes_tells keyword all false e = tt
+passes_tells : (keyword : Keyword) (all : List (List ℕ)) (b : Bool) (e : Refusal) → is_touch keyword ≡ false → IfOk (cond b (Ok Passes) (Err e)) (Tells keyword all)
+passes_tells keyword all true e h = h
+passes_tells keyword all false e h = tt
 
 units_tells : (params : List (List ℕ)) → IfOk (units params) (Tells word.Units params)
 units_tells [] = tt
-units_tells (first ∷ rest) = passes_tells word.Units (first ∷ rest) (bytes_eq first (codes "MM")) _
+units_tells (first ∷ rest) = passes_tells word.Units (first ∷ rest) (bytes_eq first (codes "MM")) _ refl
 
 mode_tells : (params : List (List ℕ)) → IfOk (mode params) (Tells word.Mode params)
 mode_tells [] = tt
-mode_tells (first ∷ rest) = passes_tells word.Mode (first ∷ rest) (list_any (λ p. bytes_eq p (codes "PROG")) (first ∷ rest)) _
+mode_tells (first ∷ rest) = passes_tells word.Mode (first ∷ rest) (list_any (λ p. bytes_eq p (codes "PROG")) (first ∷ rest)) _ refl
 
 said_by_tells : (keyword : Keyword) (params : List (List ℕ)) → IfOk (said_by keyword params) (Tells keyword params)
 unfolding said_by
-said_by_tells word.Dmismn params = tt
+said_by_tells word.Dmismn params = refl
 said_by_tells word.Goto params = goes_tells (without_cart params) params
 said_by_tells word.Meas params = begins_tells params
 said_by_tells word.Ptmeas params = touches_tells params
@@ -141,9 +142,9 @@ said_by_tells word.Recall params = recalls_tells params
 said_by_tells word.Endfil params = closes_tells params
 said_by_tells word.Units params = units_tells params
 said_by_tells word.Mode params = mode_tells params
-said_by_tells word.Definition params = tt
-said_by_tells word.Passed params = tt
-said_by_tells word.Unknown params = tt
+said_by_tells word.Definition params = refl
+said_by_tells word.Passed params = refl
+said_by_tells word.Unknown params = refl
 
 tells_if : (keyword : Keyword) (s : Statement) → IfOk (said_of keyword s) (Tells keyword s.params)
 unfolding said_of

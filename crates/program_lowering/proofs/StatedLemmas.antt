@@ -21,7 +21,7 @@ use Rattle.program_lowering.proofs.SaidLemmas.{says}
 use Rattle.program_lowering.proofs.TextLemmas.{is_text, text_word}
 
 -- the words whose parameters have a unit, or are one
-abbrev IsMoved : Keyword → Type 0
+abbrev pub IsMoved : Keyword → Type 0
 IsMoved k = (k ≡ word.Goto) ⊎ (k ≡ word.Ptmeas) ⊎ (k ≡ word.Units)
 
 by_keyword : (b : Bool) (k : Keyword) → ((params : List (List ℕ)) → params_in k b params ≡ params) ⊎ IsMoved k
@@ -43,7 +43,7 @@ same_either : (o : Bool) (x y : List (List ℕ)) → y ≡ x → cond o x y ≡ 
 same_either true x y e = refl
 same_either false x y e = e
 
-stated_or : (b : Bool) (s : Statement) → (stated b s ≡ s) ⊎ IsMoved (keyword_of s.word)
+pub stated_or : (b : Bool) (s : Statement) → (stated b s ≡ s) ⊎ IsMoved (keyword_of s.word)
 stated_or b s = go (by_keyword b (keyword_of s.word))
   where
     go : ((params : List (List ℕ)) → params_in (keyword_of s.word) b params ≡ params) ⊎ IsMoved (keyword_of s.word)

@@ -1,5 +1,5 @@
 -- What the code carries from statement to statement: no public clause cites it. specs/Lowering.antt looks back instead.
-use Rattle.std.specs.Prelude.{◌≡◌, ℕ, ◌+◌, ◌==◌, nat_le, Bool, true, false, List, [], ◌++◌, Option, Some, None, Result, Ok, Err, if◌then◌else◌}
+use Rattle.std.specs.Prelude.{◌≡◌, ℕ, ◌+◌, ◌==◌, nat_le, Bool, true, false, List, [], ◌∷◌, ◌++◌, Option, Some, None, Result, Ok, Err, if◌then◌else◌}
 use Rattle.dmis_text.specs.declared.elements.Statement.{Statement}
 use Rattle.fixed_um.specs.declared.frames.Frame.TheVariants.{Machine}
 use Rattle.fixed_um.specs.declared.lengths.Point.{Point}
@@ -22,6 +22,7 @@ use Rattle.program_lowering.specs.Lowering.{ended_lines, flat_program, left_out_
 use Rattle.program_lowering.specs.Lowered.{Refuses}
 use Rattle.program_lowering.specs.StoredFrames.{by_frame, frame_end, frame_start}
 use Rattle.program_lowering.specs.declared.above.Above.{Above}
+use Rattle.tool_rack.specs.Setups.{has_name}
 use Rattle.program_lowering.specs.declared.lowering.Lowered.{Lowered}
 use Rattle.program_lowering.specs.declared.words.Choices.{Choices}
 use Rattle.program_lowering.specs.declared.words.Reason.{Reason}
@@ -75,9 +76,21 @@ pub record Carried : Type 0 where
   pub notes : List ℕ
   pub frames : List ℕ
   pub since : Option ℕ
+  pub selected : Option (List ℕ)
+  pub used : List (List ℕ)
 
 abbrev pub nothing_carried : Carried
-nothing_carried = record { above = none_above; inches = false; manual = false; text = []; notes = []; frames = []; since = None }
+nothing_carried = record {
+  above = none_above;
+  inches = false;
+  manual = false;
+  text = [];
+  notes = [];
+  frames = [];
+  since = None;
+  selected = None;
+  used = [];
+}
 
 -- after a statement that is left out, and after one that says this
 abbrev pub noted : Carried → Statement → Option Reason → Carried
@@ -101,6 +114,20 @@ since_after since (said.Recalls name) = Some 0
 since_after since (said.Touches target direction) = one_touch since
 since_after since _ = since
 
+-- the frames that touches refer to, and the one that is selected if no touch has referred to it since
+abbrev pub with_frame : List (List ℕ) → Option (List ℕ) → List (List ℕ)
+with_frame used None = used
+with_frame used (Some name) = used ++ name ∷ []
+
+abbrev pub used_after : Option (List ℕ) → List (List ℕ) → StatementMeaning → List (List ℕ)
+used_after selected used (said.Touches target direction) = with_frame used selected
+used_after selected used _ = used
+
+abbrev pub selected_after : Option (List ℕ) → StatementMeaning → Option (List ℕ)
+selected_after selected (said.Recalls name) = Some name
+selected_after selected (said.Touches target direction) = None
+selected_after selected _ = selected
+
 abbrev pub followed : Carried → Statement → StatementMeaning → Carried
 followed c s meaning = record {
   above = after_said c.above meaning;
@@ -110,6 +137,8 @@ followed c s meaning = record {
   notes = c.notes ++ note_for s (passed_over s (Ok meaning));
   frames = frames_after c.frames c.since s.line meaning;
   since = since_after c.since meaning;
+  selected = selected_after c.selected meaning;
+  used = used_after c.selected c.used meaning;
 }
 
 -- the first statement is never left out
@@ -130,7 +159,7 @@ frame_due frames above name = if nat_le 10000 above.number then Err TooLarge els
 
 -- after a statement: whether the program ends there, and what is carried on; or the refusal that is due
 abbrev pub step : List (List ℕ × Point) → Choices → Carried → Statement → Result (Bool × Carried) Refusal
-step frames choices c s = stepped frames c s (by_frame choices s) (left_out_after choices c.above.number (manual_after c.manual s) s)
+step frames choices c s = stepped frames c s (by_frame choices (has_name c.used) s) (left_out_after choices c.above.number (manual_after c.manual s) s)
 
 -- what a call gives and leaves is what is due, unless memory ran out
 abbrev pub GivesStep : Result Bool StatementFault → Carried → Result (Bool × Carried) Refusal → Type 0

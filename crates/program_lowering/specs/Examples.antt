@@ -1,7 +1,7 @@
 -- What the examples of this crate speak of.
 use Rattle.std.specs.Prelude.{ℕ, List, [], ◌∷◌, ◌++◌, codes, true, false, None, Some}
 use Rattle.dmis_text.specs.declared.elements.Statement.{Statement}
-use Rattle.program_lowering.specs.StoredFrames.{by_frame}
+use Rattle.program_lowering.specs.StoredFrames.{by_frame, is_used}
 use Rattle.program_lowering.specs.declared.words.Choices.{Choices}
 
 -- nothing is left out besides what measures and moves nothing; and all that may be
@@ -46,7 +46,13 @@ abbrev pub recall_a : Statement
 recall_a = bare (codes "RECALL") (codes "D(A)" ∷ [])
 
 abbrev pub make_b : Statement
-make_b = by_frame all_choices (labelled (codes "D(B)") (codes "TRANS"))
+make_b = by_frame all_choices (is_used []) (labelled (codes "D(B)") (codes "TRANS"))
+
+abbrev pub make_a : Statement
+make_a = labelled (codes "D(A)") (codes "TRANS")
+
+abbrev pub make_a_on_7 : Statement
+make_a_on_7 = record make_a { line = 7 }
 
 abbrev pub a_touch : Statement
 a_touch = bare (codes "PTMEAS") (codes "CART" ∷ codes "1" ∷ codes "2" ∷ codes "3" ∷ [])

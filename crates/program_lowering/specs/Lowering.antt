@@ -14,7 +14,7 @@ use Rattle.dmis_program.specs.declared.sayings.StatementMeaning.TheVariants as s
 use Rattle.program_lowering.specs.Words.{left_out, passed_reason}
 use Rattle.program_lowering.specs.Manual.{in_manual, is_skipped}
 use Rattle.program_lowering.specs.Flats.{Flat, flat_line, note_line}
-use Rattle.program_lowering.specs.StoredFrames.{by_frame, frame_notes, if_stored}
+use Rattle.program_lowering.specs.StoredFrames.{by_frame, frame_notes, if_stored, is_used}
 use Rattle.program_review.specs.Texts.{is_operator_text}
 use Rattle.program_lowering.specs.Inches.{all_stated}
 use Rattle.program_lowering.specs.OperatorTexts.{flat_meant, up_to_refused}
@@ -37,9 +37,17 @@ abbrev pub unless_left_out : Option Reason → Statement → List Statement
 unless_left_out None s = s ∷ []
 unless_left_out (Some reason) s = []
 
+-- likewise of those above, the nearest first
+abbrev pub kept_above : Choices → List Statement → List Statement
+kept_above choices [] = []
+kept_above choices (s ∷ above) = unless_left_out (left_out_at choices above s) (by_frame choices (is_used (kept_above choices above)) s) ++ kept_above choices above
+
+abbrev pub counted_at : Choices → List Statement → Statement → Statement
+counted_at choices above s = by_frame choices (is_used (kept_above choices above)) s
+
 abbrev pub kept_below : Choices → List Statement → List Statement → List Statement
 kept_below choices above [] = []
-kept_below choices above (s ∷ statements) = unless_left_out (left_out_at choices above s) (by_frame choices s) ++ kept_below choices (s ∷ above) statements
+kept_below choices above (s ∷ statements) = unless_left_out (left_out_at choices above s) (counted_at choices above s) ++ kept_below choices (s ∷ above) statements
 
 abbrev pub kept : Choices → List Statement → List Statement
 kept choices statements = kept_below choices [] statements
@@ -103,8 +111,8 @@ note_at None s counted = note_for counted (passed_over counted (saying counted))
 -- one for each such statement, up to the one that closes the program
 abbrev pub notes_from : Choices → List Statement → List Statement → List ℕ
 notes_from choices above [] = []
-notes_from choices above (s ∷ statements) = note_at (left_out_at choices above s) s (by_frame choices s)
-    ++ (if is_closing (saying (by_frame choices s)) then [] else notes_from choices (s ∷ above) statements)
+notes_from choices above (s ∷ statements) = note_at (left_out_at choices above s) s (counted_at choices above s)
+    ++ (if is_closing (saying (counted_at choices above s)) then [] else notes_from choices (s ∷ above) statements)
 
 abbrev pub notes_of : Choices → List ℕ → List ℕ
 notes_of choices text = notes_from choices [] (text_reading text).statements

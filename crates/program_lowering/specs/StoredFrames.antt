@@ -1,11 +1,13 @@
 -- Alignments by name (ISO 22093, DATSET, TRANS, ROTATE, RECALL): what makes or recalls a coordinate system selects the frame of its name in
--- the setup, as `RECALL/D` does (this profile). The frame of a touch is then that of the nearest such statement above it.
-use Rattle.std.specs.Prelude.{ℕ, ◌+◌, not, ◌&&◌, List, [], ◌∷◌, ◌++◌, codes, decimal, Option, Some, None, Result, Ok}
+-- the setup, as `RECALL/D` does (this profile). The frame of a touch is then that of the nearest such statement above it. What makes a system
+-- again after a touch in it selects nothing, and is refused: its name has another meaning from there on, and the setup has one frame for both.
+use Rattle.std.specs.Prelude.{ℕ, ◌+◌, Bool, true, false, not, ◌&&◌, ◌||◌, List, [], ◌∷◌, ◌++◌, codes, decimal, Option, Some, None, Result, Ok}
 use Rattle.std.specs.Prelude.{if◌then◌else◌}
+use Rattle.std.specs.Str.{bytes_eq}
 use Rattle.dmis_text.specs.Statements.{has_open_text}
 use Rattle.dmis_text.specs.declared.elements.Statement.{Statement}
 use Rattle.dmis_program.specs.Keywords.{keyword_of, is_among}
-use Rattle.dmis_program.specs.LookBack.{or_else, saying}
+use Rattle.dmis_program.specs.LookBack.{frame_said, nearest, or_else, saying}
 use Rattle.dmis_program.specs.Parameters.{is_other_recall, name_within}
 use Rattle.dmis_program.specs.declared.faults.Refusal.{Refusal}
 use Rattle.dmis_program.specs.declared.keywords.Keyword.{Keyword}
@@ -31,22 +33,39 @@ abbrev pub only_frame : List (List ℕ) → Option (List ℕ)
 only_frame (only ∷ []) = frame_name only
 only_frame _ = None
 
--- the coordinate system that a statement makes, or recalls as no flat program does
-abbrev pub named_frame : Keyword → Statement → Option (List ℕ)
-named_frame word.Recall s = if is_other_recall s.params then only_frame s.params else None
-named_frame word.Unknown s = if is_among s.word alignments then labelled_frame s.label else None
-named_frame _ s = None
+-- whether a touch of these statements, the nearest first, refers to the frame of this name: the nearest selection above it selects that
+abbrev pub is_touch : Keyword → Bool
+is_touch word.Ptmeas = true
+is_touch _ = false
 
-abbrev pub stored_frame : Choices → Statement → Option (List ℕ)
-stored_frame choices s = if choices.stored_frames && not (has_open_text s) then named_frame (keyword_of s.word) s else None
+abbrev pub is_frame : Option (List ℕ) → List ℕ → Bool
+is_frame None name = false
+is_frame (Some selected) name = bytes_eq selected name
+
+abbrev pub is_used : List Statement → List ℕ → Bool
+is_used [] name = false
+is_used (s ∷ above) name = (is_touch (keyword_of s.word) && is_frame (nearest frame_said above) name) || is_used above name
+
+abbrev pub unless_used : (List ℕ → Bool) → Option (List ℕ) → Option (List ℕ)
+unless_used used None = None
+unless_used used (Some name) = if used name then None else Some name
+
+-- the coordinate system that a statement makes, if no touch refers to that, or recalls as no flat program does
+abbrev pub named_frame : (List ℕ → Bool) → Keyword → Statement → Option (List ℕ)
+named_frame used word.Recall s = if is_other_recall s.params then only_frame s.params else None
+named_frame used word.Unknown s = if is_among s.word alignments then unless_used used (labelled_frame s.label) else None
+named_frame used _ s = None
+
+abbrev pub stored_frame : Choices → (List ℕ → Bool) → Statement → Option (List ℕ)
+stored_frame choices used s = if choices.stored_frames && not (has_open_text s) then named_frame used (keyword_of s.word) s else None
 
 -- the statement that counts in its place
 abbrev pub selecting : Option (List ℕ) → Statement → Statement
 selecting None s = s
 selecting (Some name) s = record { line = s.line; label = None; word = codes "RECALL"; params = within (codes "D(") name ∷ [] }
 
-abbrev pub by_frame : Choices → Statement → Statement
-by_frame choices s = selecting (stored_frame choices s) s
+abbrev pub by_frame : Choices → (List ℕ → Bool) → Statement → Statement
+by_frame choices used s = selecting (stored_frame choices used s) s
 
 -- how many touches there are up to the next selection of a frame, or up to the end of the program
 abbrev pub touches_with : Result StatementMeaning Refusal → ℕ → ℕ

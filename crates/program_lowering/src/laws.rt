@@ -1,12 +1,12 @@
 // What follows from the definitions alone. Each function has laws for its contract and does nothing.
-ghost use Rattle.std.specs.Prelude.{◌≡◌, ◌<◌, ◌^◌, ◌++◌, ◌∷◌, ◌*◌, [], ℕ, ℤ, pos, neg_ℤ, int_lt, unsigned_abs, List, length, map, codes, false, true, Some, None, Ok};
+ghost use Rattle.std.specs.Prelude.{◌≡◌, ◌<◌, ◌^◌, ◌++◌, ◌∷◌, ◌*◌, [], ℕ, ℤ, pos, neg_ℤ, int_lt, unsigned_abs, Bool, Err, List, length, map, codes, false, true, Some, None, Ok};
 ghost use Rattle.std.specs.List.{AllByRecursion};
 ghost use Rattle.std.specs.Option.{option_map};
 ghost use Rattle.dmis_program.specs.Keywords.{keyword_of};
 ghost use Rattle.dmis_program.specs.LookBack.{frame_said, nearest, saying};
-ghost use Rattle.dmis_program.specs.Meaning.{Meaning, program_of};
+ghost use Rattle.dmis_program.specs.Meaning.{Meaning, program_of, steps_from};
 ghost use Rattle.dmis_program.specs.Positions.{length_of};
-ghost use Rattle.dmis_program.specs.declared.faults.Refusal.TheVariants.{BadByte};
+ghost use Rattle.dmis_program.specs.declared.faults.Refusal.TheVariants.{BadByte, Unsupported};
 ghost use Rattle.dmis_program.specs.declared.keywords.Keyword.TheVariants.{Ptmeas};
 ghost use Rattle.dmis_program.specs.declared.sayings.StatementMeaning.TheVariants.{Passes, Recalls};
 ghost use Rattle.dmis_text.specs.Reading.{text_reading};
@@ -17,14 +17,14 @@ ghost use Rattle.fixed_um.specs.Numerals.{IsRounded, signed};
 ghost use Rattle.fixed_um.specs.declared.lengths.Point.{Point};
 ghost use Rattle.program_review.specs.Texts.{is_operator_text};
 ghost use Rattle.program_lowering.specs.Acts.{acts_of};
-ghost use Rattle.program_lowering.specs.Examples.{all_choices, bare, first_by_hand, manual_front, measured, mode_man, mode_prog, plain_choices, start, to_operator, make_b, recall_a, naming_a, naming_none, of_setup, saving, two_frames};
+ghost use Rattle.program_lowering.specs.Examples.{all_choices, bare, first_by_hand, manual_front, measured, mode_man, mode_prog, plain_choices, start, to_operator, a_touch, make_a, make_a_on_7, make_b, recall_a, naming_a, naming_none, of_setup, saving, two_frames};
 ghost use Rattle.program_lowering.specs.Flats.{flat, flat_text};
 ghost use Rattle.program_lowering.specs.Heads.{IsComment, Names, head_lines};
 ghost use Rattle.program_lowering.specs.Inches.{all_stated, in_inches, in_millimetres, inch_length, stated};
-ghost use Rattle.program_lowering.specs.Lowering.{ended_lines, flat_program, kept, left_out_at, lowered_meaning, passed_over};
+ghost use Rattle.program_lowering.specs.Lowering.{counted_at, ended_lines, flat_program, kept, left_out_at, lowered_meaning, passed_over};
 ghost use Rattle.program_lowering.specs.Manual.{in_manual, is_skipped};
 ghost use Rattle.program_lowering.specs.OperatorTexts.{TextsFit, flat_meant, text_refusal};
-ghost use Rattle.program_lowering.specs.StoredFrames.{by_frame, frame_note, frame_notes, stored_frame};
+ghost use Rattle.program_lowering.specs.StoredFrames.{by_frame, frame_note, frame_notes, is_used, stored_frame};
 ghost use Rattle.program_lowering.specs.Words.{left_out};
 ghost use Rattle.program_lowering.specs.declared.words.Choices.{Choices};
 ghost use Rattle.fixed_um.specs.Numerals.{Reads};
@@ -99,18 +99,39 @@ pub fn examples_of_manual_blocks()
 
 /// What makes or recalls a coordinate system by name selects the stored frame of this name, and no other statement changes.
 pub fn frames_are_selected_by_name()
-    ensures selects { (choices : Choices) (s : Statement) (name : List ℕ)
-        → stored_frame choices s ≡ Some name → saying (by_frame choices s) ≡ Ok (Recalls name) }
-    ensures others { (choices : Choices) (s : Statement) → stored_frame choices s ≡ None
-        → by_frame choices s ≡ s }
+    ensures selects { (choices : Choices) (used : List ℕ → Bool) (s : Statement) (name : List ℕ)
+        → stored_frame choices used s ≡ Some name
+        → saying (by_frame choices used s) ≡ Ok (Recalls name) }
+    ensures others { (choices : Choices) (used : List ℕ → Bool) (s : Statement)
+        → stored_frame choices used s ≡ None → by_frame choices used s ≡ s }
+{}
+
+/// Examples: a system that touches refer to is not made again; others are, and each may be recalled.
+pub fn examples_of_systems_made_again()
+    ensures in_a_row { kept all_choices (start ∷ (make_a ∷ (make_a ∷ (a_touch ∷ []))))
+        ≡ start ∷ (recall_a ∷ (recall_a ∷ (a_touch ∷ []))) }
+    ensures touched { kept all_choices (start ∷ (make_a ∷ (a_touch ∷ (make_a ∷ []))))
+        ≡ start ∷ (recall_a ∷ (a_touch ∷ (make_a ∷ []))) }
+    ensures recalled_before { counted_at all_choices (a_touch ∷ (recall_a ∷ (start ∷ []))) make_a
+        ≡ make_a }
+    ensures long_before { counted_at all_choices
+        (recall_a ∷ (make_b ∷ (a_touch ∷ (recall_a ∷ (start ∷ []))))) make_a ≡ make_a }
+    ensures another { counted_at all_choices
+        (a_touch ∷ (make_b ∷ (recall_a ∷ (start ∷ [])))) make_a ≡ recall_a }
+    ensures recalled { counted_at all_choices (a_touch ∷ (recall_a ∷ (start ∷ [])))
+        (bare (codes "RECALL") (codes "DA(A)" ∷ [])) ≡ recall_a }
+    ensures manual { counted_at all_choices (a_touch ∷ (mode_man ∷ (recall_a ∷ (start ∷ []))))
+        make_a ≡ recall_a }
+    ensures refused { steps_from [] None 9 (a_touch ∷ (recall_a ∷ (start ∷ [])))
+        (make_a_on_7 ∷ []) ≡ Err (Unsupported, 7) }
 {}
 
 /// Examples: alignments by name, what the setup's frames take the place of, the frame of a touch, and the notes.
 pub fn examples_of_frames()
-    ensures selecting { map (by_frame all_choices) naming_a
+    ensures selecting { map (by_frame all_choices (is_used [])) naming_a
         ≡ recall_a ∷ (recall_a ∷ (recall_a ∷ (recall_a ∷ []))) }
-    ensures unasked { map (by_frame plain_choices) naming_a ≡ naming_a }
-    ensures others { map (by_frame all_choices) naming_none ≡ naming_none }
+    ensures unasked { map (by_frame plain_choices (is_used [])) naming_a ≡ naming_a }
+    ensures others { map (by_frame all_choices (is_used [])) naming_none ≡ naming_none }
     ensures setup { map (left_out all_choices) of_setup
         ≡ Some reason.Stored ∷ (Some reason.Stored ∷ (Some reason.Stored ∷ [])) }
     ensures setup_unasked { map (left_out plain_choices) of_setup ≡ None ∷ (None ∷ (None ∷ [])) }

@@ -12,6 +12,7 @@ ghost use Rattle.program_lowering.specs.Lowered.{GivesLowered};
 ghost use Rattle.program_lowering.specs.Lowering.{lowered_meaning, flat_program, note_for, note_start, notes_of, passed_over};
 ghost use Rattle.program_lowering.specs.StoredFrames.{by_frame, if_stored};
 ghost use Rattle.program_lowering.specs.Carried.{Carried};
+ghost use Rattle.tool_rack.specs.Setups.{has_name};
 
 use crate::above::Above;
 use crate::flats::{push_named, push_note_line};
@@ -19,7 +20,7 @@ use crate::heads::{SourceNames, with_head};
 use crate::inches::inches_after;
 use crate::lines::{push_line, text_refusal};
 use crate::manual::{is_skipped, manual_after};
-use crate::stored::{FrameNotes, stored_frame};
+use crate::stored::{FrameNotes, FrameUses, stored_frame};
 use crate::words::{Choices, Reason, left_out, passed_reason, reason_text};
 use dmis_program::{
     Frames, Keyword, ProgramFault, Refusal, StatementFault, StatementMeaning, keyword_of_word,
@@ -48,6 +49,7 @@ struct Lowering {
     text: Vec<u8>,
     notes: Vec<u8>,
     frames: FrameNotes,
+    uses: FrameUses,
 }
 
 impl Model for Lowering {
@@ -56,7 +58,7 @@ impl Model for Lowering {
 
     ghost Value = { Carried };
 
-    ghost view = { λ l. record { above = l.above; inches = l.inches; manual = l.manual; text = l.text.items; notes = l.notes.items; frames = l.frames.text.items; since = l.frames.since } };
+    ghost view = { λ l. record { above = l.above; inches = l.inches; manual = l.manual; text = l.text.items; notes = l.notes.items; frames = l.frames.text.items; since = l.frames.since; selected = l.uses.selected; used = l.uses.used.items } };
 
     ghost invariant = { λ l. (l.above.number ≤ 10000) × (l.above.touched ≤ l.above.number) × (IfSome l.frames.since (λ n. n ≤ l.above.number)) };
 }
@@ -153,6 +155,10 @@ impl Lowering {
                 text: Vec::new(alloc),
                 since: None,
             },
+            uses: FrameUses {
+                selected: None,
+                used: Vec::new(alloc),
+            },
         }
     }
 
@@ -193,6 +199,7 @@ impl Lowering {
             statement,
             passed_over(keyword, statement, meaning),
         )?;
+        self.uses.follow(meaning)?;
         self.frames.follow(statement.line, meaning)?;
         self.above = self.above.after(meaning);
         self.inches = inches_after(self.inches, keyword, statement);
@@ -210,12 +217,13 @@ impl Lowering {
         statement: &Statement,
     ) -> Result<StatementMeaning, StatementFault>
         requires { keyword ≡ keyword_of statement.now.word }
-        ensures due { Gives result (judged_next frames.now self.now (by_frame choices statement.now)) }
+        ensures due { Gives result (judged_next frames.now self.now
+            (by_frame choices (has_name self.now.used) statement.now)) }
         ensures few { IfOk result (λ _. self.now.above.number < 10000) }
         ensures same { IfOk result (λ m. followed self.now statement.now m
-            ≡ followed self.now (by_frame choices statement.now) m) }
+            ≡ followed self.now (by_frame choices (has_name self.now.used) statement.now) m) }
     {
-        if let Some(name) = stored_frame(self.alloc, choices, keyword, statement)? {
+        if let Some(name) = stored_frame(self.alloc, choices, &self.uses, keyword, statement)? {
             return self.above.judge_frame(frames, name);
         }
         if let Some(refusal) = text_refusal(self.alloc, statement)? {
@@ -272,6 +280,7 @@ impl Lowering {
             text,
             mut notes,
             mut frames,
+            uses: _,
         } = self;
         if choices.stored_frames && frames.push_to(&mut notes).is_err() {
             return Err(ProgramFault::Memory);

@@ -4,8 +4,9 @@ ghost use Rattle.std.specs.Prelude.{◌≡◌, ◌<◌, ◌++◌, IfOk, IfSome, 
 ghost use Rattle.std.specs.Option.{option_map};
 ghost use Rattle.dmis_program.specs.Keywords.{keyword_of};
 ghost use Rattle.dmis_program.specs.Parameters.{before_close, is_other_recall, name_within};
-ghost use Rattle.program_lowering.specs.Carried.{frames_after, frames_closed, since_after};
+ghost use Rattle.program_lowering.specs.Carried.{frames_after, frames_closed, selected_after, since_after, used_after};
 ghost use Rattle.program_lowering.specs.StoredFrames as spec;
+ghost use Rattle.tool_rack.specs.Setups.{has_name};
 
 use crate::flats::{push_between, push_note_line, push_number};
 use crate::words::Choices;
@@ -76,15 +77,68 @@ fn is_other_recall(params: &[Text]) -> bool
     word_refusal(1, None, Keyword::Recall, params).is_some()
 }
 
+/// The frames that touches refer to.
+#[derive(Drop)]
+pub(crate) struct FrameUses {
+    /// The frame that is selected, if no touch has referred to it since.
+    pub(crate) selected: Option<Name>,
+    /// Those that touches refer to.
+    pub(crate) used: Vec<Name>,
+}
+
+impl FrameUses {
+    /// Whether a touch refers to the frame of this name.
+    fn has(&self, name: &Name) -> bool
+        ensures { result ≡ has_name self.now.used.items name.now }
+    {
+        self.used
+            .iter()
+            .any(|used| used.as_bytes() == name.as_bytes())
+    }
+
+    /// A frame, if no touch refers to it.
+    fn unless_used(&self, name: Option<Name>) -> Option<Name>
+        ensures { result ≡ spec.unless_used (has_name self.now.used.items) name }
+    {
+        match name {
+            Some(name) => { if self.has(&name) { None } else { Some(name) } }
+            None => None,
+        }
+    }
+
+    /// After a statement that says this.
+    pub(crate) fn follow(&mut self, meaning: &StatementMeaning) -> Result<(), AllocError>
+        ensures used { OnOk result (self.new.used.items
+            ≡ used_after self.old.selected self.old.used.items meaning.now) }
+        ensures selected { OnOk result (self.new.selected
+            ≡ selected_after self.old.selected meaning.now) }
+    {
+        match meaning {
+            StatementMeaning::Recalls(name) => {
+                self.selected = Some(name.copy(*self.used.allocator())?);
+            }
+            StatementMeaning::Touches(_, _) => {
+                if let Some(name) = self.selected.take() {
+                    self.used.push(name)?;
+                }
+            }
+            _ => {}
+        }
+        Ok(())
+    }
+}
+
 /// The stored frame that a statement with this keyword selects by name, if frames are selected so.
 pub(crate) fn stored_frame(
     alloc: Global,
     choices: Choices,
+    uses: &FrameUses,
     keyword: Keyword,
     statement: &Statement,
 ) -> Result<Option<Name>, AllocError>
     requires { keyword ≡ keyword_of statement.now.word }
-    ensures { IfOk result (λ name. name ≡ spec.stored_frame choices statement.now) }
+    ensures { IfOk result (λ name. name
+        ≡ spec.stored_frame choices (has_name uses.now.used.items) statement.now) }
 {
     if !choices.stored_frames || statement.is_open() {
         return Ok(None);
@@ -94,7 +148,7 @@ pub(crate) fn stored_frame(
             only_frame(alloc, &statement.params)
         }
         Keyword::Unknown if is_among(&statement.word, &["DATSET", "TRANS", "ROTATE"]) => {
-            labelled_frame(alloc, &statement.label)
+            Ok(uses.unless_used(labelled_frame(alloc, &statement.label)?))
         }
         _ => Ok(None),
     }
