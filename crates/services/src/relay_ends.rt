@@ -1,5 +1,9 @@
 // The end of a relayed connection.
 
+ghost use Rattle.std.specs.Prelude.{◌≡◌, ◌⊎◌, ◌-◌, true, OnOk, OnErr};
+ghost use Rattle.effects.specs.Effects.{the_reply};
+ghost use Rattle.services.specs.Relays as spec;
+
 use crate::recordings::slot_after;
 use crate::relay_stages::RelayStage as Stage;
 use crate::relaying::{Ended, RelaySession};
@@ -9,9 +13,14 @@ use session_telling::why_unconnected;
 use std::alloc::AllocError;
 
 impl RelaySession {
-    /// The connection is no longer relayed: what is kept of it is forced to the device, and it is left.
-    pub(crate) fn finish(&mut self, ended: Ended) {
-        self.ended = ended;
+    /// The connection is over: what is kept of it is forced to the device, and it is left.
+    pub(crate) fn finish(&mut self)
+        ensures on { spec.is_begun (spec.due self.new) ≡ true }
+        ensures off { spec.is_off (spec.due self.new) ≡ true }
+        ensures stands { spec.Stands self.new }
+        ensures talk { self.new.talk ≡ self.old.talk }
+        ensures end { self.new.end ≡ self.old.end }
+    {
         self.stage = if self.is_told {
             Stage::Forcing
         } else {
@@ -19,8 +28,36 @@ impl RelaySession {
         };
     }
 
+    /// Both ends have left it.
+    pub(crate) fn part(&mut self)
+        ensures on { spec.is_begun (spec.due self.new) ≡ true }
+        ensures off { spec.is_off (spec.due self.new) ≡ true }
+        ensures stands { spec.Stands self.new }
+        ensures talk { self.new.talk ≡ self.old.talk }
+        ensures end { self.new.end ≡ self.old.end }
+    {
+        self.ended = Ended::Left;
+        self.finish();
+    }
+
+    /// It could not be relayed to its end.
+    pub(crate) fn fail(&mut self, ended: Ended)
+        ensures on { spec.is_begun (spec.due self.new) ≡ true }
+        ensures off { spec.is_off (spec.due self.new) ≡ true }
+        ensures stands { spec.Stands self.new }
+        ensures talk { self.new.talk ≡ self.old.talk }
+        ensures end { self.new.end ≡ spec.failed self.old.end }
+    {
+        self.ended = ended;
+        self.has_failed = true;
+        self.finish();
+    }
+
     /// What comes after the told file was forced.
-    fn after_forcing(&mut self) -> Stage {
+    fn after_forcing(&mut self) -> Stage
+        ensures next { (result ≡ Stage.Settling) ⊎ (result ≡ Stage.Leaving) }
+        ensures same { self.new ≡ self.old }
+    {
         match &mut self.recording {
             Some(recording) => {
                 recording.made = 0;
@@ -30,22 +67,50 @@ impl RelaySession {
         }
     }
 
-    pub(crate) fn end_on(&mut self, answer: Answer<'_>) -> Result<(), AllocError> {
-        match (self.stage, answer) {
-            (Stage::Forcing, Answer::Done) => self.stage = self.after_forcing(),
-            (Stage::Forcing, _) => {
-                let next = self.after_forcing();
-                return self.lose_told(answer, next);
-            }
-            (Stage::Settling, Answer::Done) => self.settled(),
-            (Stage::Settling, _) => return self.lose_settling(),
-            _ => return self.left(),
+    /// The told file was forced to the device, or could not be.
+    pub(crate) fn forced(&mut self, answer: Answer<'_>) -> Result<(), AllocError>
+        requires { self.old.stage ≡ Stage.Forcing }
+        ensures on { OnOk result (spec.is_begun (spec.due self.new) ≡ true) }
+        ensures off { OnOk result (spec.is_off (spec.due self.new) ≡ true) }
+        ensures number { self.new.talk.number ≡ self.old.talk.number }
+        ensures keeps { spec.Keeps self.old (the_reply answer.entry) self.new }
+        ensures fails { OnOk result (spec.Fails self.old (the_reply answer.entry) self.new) }
+        ensures left { self.new.end.left ≡ self.old.end.left }
+        ensures stage { OnErr result (self.new.stage ≡ self.old.stage) }
+    {
+        let next = self.after_forcing();
+        if let Answer::Done = answer {
+            self.stage = next;
+            return Ok(());
         }
-        Ok(())
+        self.lose_told(answer, next)
     }
 
-    /// A file of the recording is on the device.
-    fn settled(&mut self) {
+    /// A file of the recording is on the device, or could not be forced to it.
+    pub(crate) fn settled(&mut self, answer: Answer<'_>) -> Result<(), AllocError>
+        requires { self.old.stage ≡ Stage.Settling }
+        ensures on { OnOk result (spec.is_begun (spec.due self.new) ≡ true) }
+        ensures off { OnOk result (spec.is_off (spec.due self.new) ≡ true) }
+        ensures talk { self.new.talk ≡ self.old.talk }
+        ensures fails { OnOk result (spec.Fails self.old (the_reply answer.entry) self.new) }
+        ensures left { self.new.end.left ≡ self.old.end.left }
+        ensures stage { OnErr result (self.new.stage ≡ self.old.stage) }
+    {
+        if let Answer::Done = answer {
+            self.settle();
+            return Ok(());
+        }
+        self.lose_settling()
+    }
+
+    fn settle(&mut self)
+        requires { self.old.stage ≡ Stage.Settling }
+        ensures on { spec.is_begun (spec.due self.new) ≡ true }
+        ensures off { spec.is_off (spec.due self.new) ≡ true }
+        ensures stands { spec.Stands self.new }
+        ensures talk { self.new.talk ≡ self.old.talk }
+        ensures end { self.new.end ≡ self.old.end }
+    {
         if let Some(recording) = &mut self.recording {
             recording.made = recording.made.saturating_add(1);
             if recording.made < 3 {
@@ -56,7 +121,10 @@ impl RelaySession {
     }
 
     /// A file of the recording could not be forced to the device.
-    fn lose_settling(&mut self) -> Result<(), AllocError> {
+    fn lose_settling(&mut self) -> Result<(), AllocError>
+        ensures ok { OnOk result (self.new ≡ spec.saying Stage.Leaving (spec.failing self.old)) }
+        ensures err { OnErr result (self.new ≡ spec.failing self.old) }
+    {
         self.has_failed = true;
         let made = match &self.recording {
             Some(recording) => recording.made,
@@ -93,23 +161,52 @@ impl RelaySession {
         format!(in self.alloc; "dme: connection failed\n{line}")
     }
 
-    /// The connection was left: what broke it off is said, and whether it counts.
-    fn left(&mut self) -> Result<(), AllocError> {
+    /// What is said of a connection that was left.
+    fn last_of_connection(&self) -> Result<String, AllocError> {
         let fault = self.fault()?;
+        if !self.is_bare {
+            return Ok(fault);
+        }
         let number = self.number;
-        self.has_failed = self.has_failed || !fault.is_empty();
-        let message = if self.is_bare {
-            format!(in self.alloc; "{fault}dme: connection {number} sent no whole line\n")?
-        } else {
+        format!(in self.alloc; "{fault}dme: connection {number} sent no whole line\n")
+    }
+
+    /// What comes after a connection was left: the exit, if there is none to come.
+    fn after_leaving(&mut self) -> Stage
+        ensures stage { (result ≡ Stage.Accepting) ⊎ (result ≡ Stage.Exiting) }
+        ensures end { self.new ≡ record self.old {
+          end = record (self.old.end) {
+            left = self.new.end.left;
+            status = self.new.end.status;
+          };
+        } }
+        ensures left { (self.new.end.left ≡ self.old.end.left)
+            ⊎ (self.new.end.left ≡ self.old.end.left - 1) }
+        ensures verdict { result ≡ Stage.Exiting → spec.IsVerdict self.new.end }
+    {
+        if !self.is_bare {
             self.left = self.left.saturating_sub(1);
-            fault
-        };
-        let next = if self.left == 0 {
-            self.status = if self.has_failed { 1 } else { 0 };
-            Stage::Exiting
-        } else {
-            Stage::Accepting
-        };
+        }
+        if self.left > 0 {
+            return Stage::Accepting;
+        }
+        self.status = if self.has_failed { 1 } else { 0 };
+        Stage::Exiting
+    }
+
+    /// The connection was left: what broke it off is said, and whether it counts.
+    pub(crate) fn left(&mut self) -> Result<(), AllocError>
+        requires { self.old.stage ≡ Stage.Leaving }
+        ensures on { OnOk result ((spec.due self.new ≡ Stage.Accepting)
+            ⊎ (spec.due self.new ≡ Stage.Exiting)) }
+        ensures talk { self.new.talk ≡ self.old.talk }
+        ensures failed { self.new.end.has_failed ≡ self.old.end.has_failed }
+        ensures counts { spec.Counts Stage.Leaving self.old.end self.new.end }
+        ensures closes { OnOk result (spec.Closes self.new) }
+        ensures stage { OnErr result (self.new.stage ≡ self.old.stage) }
+    {
+        let message = self.last_of_connection()?;
+        let next = self.after_leaving();
         if message.is_empty() {
             self.stage = next;
         } else {

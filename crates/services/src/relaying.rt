@@ -1,7 +1,7 @@
 // The relay: what it asks, and what it does with an answer.
 
-ghost use Rattle.std.specs.Prelude.{◌≡◌, ◌⊎◌, []};
-ghost use Rattle.effects.specs.Effects.{the_ask};
+ghost use Rattle.std.specs.Prelude.{◌≡◌, ◌⊎◌, ℕ, [], true, false, OnOk, OnErr, IfOk};
+ghost use Rattle.effects.specs.Effects.{the_ask, the_reply, Reply};
 ghost use Rattle.watched_ends.specs.Limits.{IsTold, down_of};
 ghost use Rattle.services.specs.Relays as spec;
 
@@ -44,6 +44,7 @@ pub struct ToldNames {
 }
 
 impl ToldNames {
+    #[tactic(auto, using(crate::proofs::Relayed::fresh_told))]
     fn new(alloc: Global, name: &str) -> Result<ToldNames, AllocError> {
         Ok(ToldNames {
             name: String::from_str(alloc, name)?,
@@ -86,8 +87,6 @@ pub struct RelaySession {
     pub(crate) stage: Stage,
     /// What comes after what is said.
     pub(crate) next: Stage,
-    /// What comes after what came was shown and kept.
-    pub(crate) then: Stage,
     pub(crate) relay: LimitedRelay,
     pub(crate) ends: Ends,
     pub(crate) wait: Wait,
@@ -99,7 +98,7 @@ pub struct RelaySession {
     /// Whether the told file is kept.
     pub(crate) is_told: bool,
     pub(crate) recording: Option<Recording>,
-    /// The bytes that are kept, which end they came from, and what is added to the order for them.
+    /// The bytes that are kept, and which end has sent bytes last.
     pub(crate) piece: Vec<u8>,
     pub(crate) from: Peer,
     /// What is added to a file.
@@ -125,12 +124,26 @@ impl Model for RelaySession {
 
     ghost Value = { RelayState };
 
-    ghost view = { λ s. record { relay = s.relay; is_told = s.is_told } };
+    ghost view = { λ s. record {
+      stage = s.stage;
+      next = s.next;
+      talk = record { relay = s.relay; number = s.number; is_told = s.is_told };
+      end = record { has_failed = s.has_failed; left = s.left; status = s.status };
+    } };
 }
 
 impl RelaySession {
     /// A session that carries out this relay. Fails only if out of memory.
-    pub fn new(alloc: Global, order: Relay) -> Result<RelaySession, AllocError> {
+    pub fn new(alloc: Global, order: Relay) -> Result<RelaySession, AllocError>
+        ensures ready { IfOk result (λ s. spec.Ready s spec.not_opened) }
+        ensures number { IfOk result (λ s. s.talk.number ≡ 0) }
+        ensures relays { IfOk result (λ s. spec.IsRelaying s spec.nothing_passed) }
+        ensures stands { IfOk result (λ s. spec.Stands s) }
+        ensures told { IfOk result (λ s. s.talk.is_told ≡ true) }
+        ensures whole { IfOk result (λ s. s.end.has_failed ≡ false) }
+        ensures all { IfOk result (λ s. s.end.left ≡ order.entry.connections) }
+        ensures closes { IfOk result (λ s. spec.Closes s) }
+    {
         let names = ToldNames::new(alloc, order.told.as_str())?;
         let recording = match &order.folder {
             Some(folder) => Some(Recording::new(alloc, folder.as_str(), 1)?),
@@ -146,8 +159,7 @@ impl RelaySession {
             names,
             stage: Stage::Making,
             next: Stage::Making,
-            then: Stage::Making,
-            relay: LimitedRelay::new(alloc, 1),
+            relay: LimitedRelay::new(alloc, 0),
             ends: Ends::new(),
             lines: Lines::new(alloc, is_shown),
             shown: String::new(alloc),
@@ -172,7 +184,9 @@ impl RelaySession {
     }
 
     fn asks_of_recording(&self) -> Effect<'_>
-        ensures { spec.Sends self.now.relay (the_ask result) }
+        requires { spec.is_recording self.now.stage ≡ true }
+        ensures asks { spec.Asks self.now (the_ask result) }
+        ensures sends { spec.Sends self.now.talk.relay (the_ask result) }
     {
         let Some(recording) = &self.recording else {
             return Effect::Say("");
@@ -192,7 +206,9 @@ impl RelaySession {
     }
 
     fn asks_before(&self) -> Effect<'_>
-        ensures { spec.Sends self.now.relay (the_ask result) }
+        requires { spec.is_before self.now.stage ≡ true }
+        ensures asks { spec.Asks self.now (the_ask result) }
+        ensures sends { spec.Sends self.now.talk.relay (the_ask result) }
     {
         match self.stage {
             Stage::Making => Effect::Make(
@@ -211,7 +227,9 @@ impl RelaySession {
     }
 
     fn asks_of_ends(&self) -> Effect<'_>
-        ensures { spec.Sends self.now.relay (the_ask result) }
+        requires { spec.is_of_ends self.now.stage ≡ true }
+        ensures asks { spec.Asks self.now (the_ask result) }
+        ensures sends { spec.Sends self.now.talk.relay (the_ask result) }
     {
         match self.stage {
             Stage::Accepting => Effect::Accept(None, None),
@@ -234,8 +252,9 @@ impl RelaySession {
 
     /// What came from the server and may be sent on: nothing until all that it told was written.
     pub(crate) fn to_client(&self) -> &[u8]
-        ensures { (result.now ≡ []) ⊎ (IsTold self.now.relay
-            × (result.now ≡ down_of self.now.relay)) }
+        ensures held { (result.now ≡ []) ⊎ (IsTold self.now.talk.relay
+            × (result.now ≡ down_of self.now.talk.relay)) }
+        ensures told { IsTold self.now.talk.relay → result.now ≡ down_of self.now.talk.relay }
     {
         if self.relay.is_all_told() {
             self.relay.to_client()
@@ -246,7 +265,8 @@ impl RelaySession {
 
     /// What is to be done next.
     pub fn asks(&self) -> Effect<'_>
-        ensures { spec.Sends self.now.relay (the_ask result) }
+        ensures asks { spec.Asks self.now (the_ask result) }
+        ensures sends { spec.Sends self.now.talk.relay (the_ask result) }
     {
         match self.stage {
             Stage::Making | Stage::Listening | Stage::Listing | Stage::Discarding => {
@@ -269,58 +289,119 @@ impl RelaySession {
         }
     }
 
-    /// What came of it. If memory runs out meanwhile, the connection is left.
-    pub fn take(&mut self, answer: Answer<'_>) {
+    /// What came of it. If memory runs out meanwhile, the connection is left; outside one, the relay ends. After the exit nothing changes.
+    #[tactic(auto, using(crate::proofs::Relayed::short_goes, crate::proofs::Relayed::off_relays))]
+    pub fn take(&mut self, answer: Answer<'_>)
+        ensures goes { spec.GoesOn self.old (the_reply answer.entry) self.new }
+        ensures relays { spec.Relays self.old (the_reply answer.entry) self.new }
+        ensures stands { spec.Stands self.old → spec.Stands self.new }
+        ensures numbers { spec.Numbers self.old.stage (the_reply answer.entry)
+            self.old.talk self.new.talk }
+        ensures keeps { spec.Keeps self.old (the_reply answer.entry) self.new }
+        ensures fails { spec.Fails self.old (the_reply answer.entry) self.new }
+        ensures counts { spec.Counts self.old.stage self.old.end self.new.end }
+        ensures closes { spec.Closes self.old → spec.Closes self.new }
+        ensures last { self.old.stage ≡ Stage.Exiting → self.new ≡ self.old }
+    {
+        if let Stage::Exiting = self.stage {
+            return;
+        }
         if self.step(answer).is_err() {
             self.run_short();
         }
     }
 
-    /// The session after an answer.
-    fn step(&mut self, answer: Answer<'_>) -> Result<(), AllocError> {
+    /// The session after an answer. If memory runs out, it is at the same stage.
+    #[tactic(auto, using(crate::proofs::Relayed::begun_goes, crate::proofs::Relayed::begun_closes_ok, crate::proofs::Relayed::off_relays_ok, crate::proofs::Relayed::off_stands_ok))]
+    fn step(&mut self, answer: Answer<'_>) -> Result<(), AllocError>
+        ensures goes { OnOk result (spec.GoesOn self.old (the_reply answer.entry) self.new) }
+        ensures relays { OnOk result (spec.Relays self.old (the_reply answer.entry) self.new) }
+        ensures stands { OnOk result (spec.Stands self.old → spec.Stands self.new) }
+        ensures numbers { spec.Numbers self.old.stage (the_reply answer.entry)
+            self.old.talk self.new.talk }
+        ensures keeps { spec.Keeps self.old (the_reply answer.entry) self.new }
+        ensures fails { OnOk result (spec.Fails self.old (the_reply answer.entry) self.new) }
+        ensures counts { spec.Counts self.old.stage self.old.end self.new.end }
+        ensures closes { OnOk result (spec.Closes self.old → spec.Closes self.new) }
+        ensures stage { OnErr result (self.new.stage ≡ self.old.stage) }
+    {
         match self.stage {
-            Stage::Making | Stage::Listening | Stage::Listing | Stage::Discarding => {
-                self.prepare(answer)
-            }
-            Stage::SettingAside | Stage::Beginning | Stage::Logged => self.begin(answer),
-            Stage::Creating | Stage::Heading | Stage::Removing => self.record(answer),
-            Stage::Accepting | Stage::Pausing | Stage::Connecting | Stage::Joining => {
-                self.join(answer)
-            }
-            Stage::HearingClient | Stage::HearingServer => self.hear(answer),
-            Stage::Tracing | Stage::Stamping | Stage::Logging => self.show_on(answer),
-            Stage::Saving | Stage::Noting => self.save_on(answer),
-            Stage::Telling | Stage::PassingUp | Stage::PassingDown => self.pass(answer),
-            Stage::ClosingUp | Stage::ClosingDown => {
-                self.close_on();
-                Ok(())
-            }
-            Stage::Timing | Stage::Waiting => {
-                self.wait_on(answer);
-                Ok(())
-            }
-            Stage::Forcing | Stage::Settling | Stage::Leaving => self.end_on(answer),
-            Stage::Saying => {
-                self.stage = self.next;
-                Ok(())
-            }
-            Stage::Parting | Stage::Exiting => {
-                self.stage = Stage::Exiting;
+            Stage::Making => self.made(answer),
+            Stage::Listening => self.listened(answer),
+            Stage::Listing => self.listed(answer),
+            Stage::SettingAside => self.aside(answer),
+            Stage::Beginning => self.begun(answer),
+            Stage::Logged => self.opened(answer),
+            Stage::Creating => self.created(answer),
+            Stage::Heading => self.headed(answer),
+            Stage::Accepting => self.accepted(answer),
+            Stage::HearingClient => self.heard(Peer::Client, answer),
+            Stage::HearingServer => self.heard(Peer::Server, answer),
+            Stage::Stamping => self.timed_lines(answer),
+            Stage::Logging => self.logged(answer),
+            Stage::Saving => self.saved(answer),
+            Stage::Noting => self.noted(answer),
+            Stage::Telling => self.told(answer),
+            Stage::Forcing => self.forced(answer),
+            Stage::Settling => self.settled(answer),
+            Stage::Leaving => self.left(),
+            _ => {
+                self.step_free(answer);
                 Ok(())
             }
         }
     }
 
+    /// Likewise at the stages that need no memory.
+    #[tactic(auto, using(crate::proofs::Relayed::turn_goes, crate::proofs::Relayed::closing_goes, crate::proofs::Relayed::same_goes, crate::proofs::Relayed::begun_closes, crate::proofs::Relayed::same_relays))]
+    fn step_free(&mut self, answer: Answer<'_>)
+        requires { spec.is_free self.old.stage ≡ true }
+        ensures goes { spec.GoesOn self.old (the_reply answer.entry) self.new }
+        ensures relays { spec.Relays self.old (the_reply answer.entry) self.new }
+        ensures stands { spec.Stands self.old → spec.Stands self.new }
+        ensures number { self.new.talk.number ≡ self.old.talk.number }
+        ensures told { self.new.talk.is_told ≡ self.old.talk.is_told }
+        ensures fails { spec.Fails self.old (the_reply answer.entry) self.new }
+        ensures left { self.new.end.left ≡ self.old.end.left }
+        ensures closes { spec.Closes self.old → spec.Closes self.new }
+    {
+        match self.stage {
+            Stage::Discarding => self.discarded(),
+            Stage::Removing => self.removed(),
+            Stage::Pausing => self.stage = Stage::Accepting,
+            Stage::Connecting => self.connected(answer),
+            Stage::Joining => self.joined(answer),
+            Stage::Tracing => self.traced(),
+            Stage::PassingUp => self.went_up(answer),
+            Stage::ClosingUp => self.down(),
+            Stage::PassingDown => self.went_down(answer),
+            Stage::ClosingDown => self.end_turn(),
+            Stage::Timing => self.timed(answer),
+            Stage::Waiting => self.waited(answer),
+            Stage::Saying => self.stage = self.next,
+            _ => self.stage = Stage::Exiting,
+        }
+    }
+
     /// A message is to be said, and then this is next.
-    pub(crate) fn say(&mut self, message: String, next: Stage) {
+    pub(crate) fn say(&mut self, message: String, next: Stage)
+        ensures { self.new ≡ spec.saying next self.old }
+    {
         self.said = message;
         self.stage = Stage::Saying;
         self.next = next;
     }
 
     /// Memory has run out outside a connection: the relay ends, and before its first connection all files are as they were.
-    fn give_up(&mut self) {
+    fn give_up(&mut self)
+        ensures closing { spec.is_closing (spec.due self.new) ≡ true }
+        ensures off { spec.is_off (spec.due self.new) ≡ true }
+        ensures stands { spec.Stands self.new }
+        ensures talk { self.new.talk ≡ self.old.talk }
+        ensures end { self.new.end ≡ spec.refused 4 self.old.end }
+    {
         self.last = OUT_OF_MEMORY;
+        self.has_failed = true;
         self.status = 4;
         self.stage = if self.number == 0 {
             Stage::Discarding
@@ -330,7 +411,18 @@ impl RelaySession {
     }
 
     /// Memory has run out: a connection is left; outside one, the relay ends.
-    fn run_short(&mut self) {
+    fn run_short(&mut self)
+        ensures on { spec.is_joined self.old.stage ≡ true
+            → spec.is_begun (spec.due self.new) ≡ true }
+        ensures closing { spec.is_joined self.old.stage ≡ false
+            → spec.is_closing (spec.due self.new) ≡ true }
+        ensures off { spec.is_off (spec.due self.new) ≡ true }
+        ensures stands { spec.Stands self.new }
+        ensures talk { self.new.talk ≡ self.old.talk }
+        ensures failed { self.new.end.has_failed ≡ true }
+        ensures left { self.new.end.left ≡ self.old.end.left }
+        ensures closes { spec.Closes self.new }
+    {
         match self.stage {
             Stage::Connecting
             | Stage::Joining
@@ -345,7 +437,7 @@ impl RelaySession {
             | Stage::PassingUp
             | Stage::PassingDown
             | Stage::Timing
-            | Stage::Waiting => self.finish(Ended::Memory),
+            | Stage::Waiting => self.fail(Ended::Memory),
             _ => self.give_up(),
         }
     }
