@@ -505,7 +505,8 @@ impl RelaySession {
         };
         let message = self.unwritten(slot)?;
         self.recording = None;
-        self.say(message, self.after(self.from));
+        let next = self.after(self.from);
+        self.say(message, next);
         Ok(())
     }
 

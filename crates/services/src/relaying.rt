@@ -141,7 +141,7 @@ impl RelaySession {
         ensures stands { IfOk result (λ s. spec.Stands s) }
         ensures told { IfOk result (λ s. s.talk.is_told ≡ true) }
         ensures whole { IfOk result (λ s. s.end.has_failed ≡ false) }
-        ensures all { IfOk result (λ s. s.end.left ≡ order.entry.connections) }
+        ensures all { IfOk result (λ s. s.end.left ≡ order.connections) }
         ensures closes { IfOk result (λ s. spec.Closes s) }
     {
         let names = ToldNames::new(alloc, order.told.as_str())?;
