@@ -23,19 +23,29 @@ pub fn gives(hands: &mut RealHands, effect: Effect<'_>, expected: Answer<'_>) ->
     }
 }
 
+/// An effect is done.
+pub fn does(hands: &mut RealHands, effect: Effect<'_>) -> bool {
+    gives(hands, effect, Answer::Done)
+}
+
+/// An effect fails for this cause.
+pub fn fails(hands: &mut RealHands, effect: Effect<'_>, cause: Cause) -> bool {
+    gives(hands, effect, Answer::Failed(cause))
+}
+
+/// What comes from a peer is as expected.
+fn hears(hands: &mut RealHands, peer: Peer, expected: Answer<'_>) -> bool {
+    gives(hands, Effect::Receive(peer), expected)
+}
+
 #[test]
 fn a_file_is_read_to_its_end(rt: HostRuntime) {
     assert!(rt; fs::write(&rt, NAME, b"told".as_slice()).is_ok());
     let mut hands = RealHands::new(rt);
     let open = Effect::Open(Slot::Down, Place::Named(NAME));
-    assert!(rt; gives(&mut hands, open, Answer::Done));
-    assert!(rt;
-        gives(
-            &mut hands,
-            Effect::Read(Slot::Down),
-            Answer::Bytes(b"told".as_slice())
-        )
-    );
+    assert!(rt; does(&mut hands, open));
+    let told = Answer::Bytes(b"told".as_slice());
+    assert!(rt; gives(&mut hands, Effect::Read(Slot::Down), told));
     assert!(rt; gives(&mut hands, Effect::Read(Slot::Down), Answer::End));
     assert!(rt; fs::remove_file(&rt, NAME).is_ok());
     assert!(rt; gives(&mut hands, open, Answer::Missing));
@@ -45,50 +55,26 @@ fn a_file_is_read_to_its_end(rt: HostRuntime) {
 fn what_is_not_open_has_no_bytes(rt: HostRuntime) {
     let mut hands = RealHands::new(rt);
     assert!(rt; gives(&mut hands, Effect::Read(Slot::Up), Answer::End));
-    assert!(rt;
-        gives(
-            &mut hands,
-            Effect::Open(Slot::Up, Place::Nothing),
-            Answer::Done
-        )
-    );
+    assert!(rt; does(&mut hands, Effect::Open(Slot::Up, Place::Nothing)));
     assert!(rt; gives(&mut hands, Effect::Read(Slot::Up), Answer::End));
 }
 
 #[test]
 fn a_folder_cannot_be_read(rt: HostRuntime) {
     let mut hands = RealHands::new(rt);
-    assert!(rt;
-        gives(
-            &mut hands,
-            Effect::Open(Slot::Order, Place::Named("/")),
-            Answer::Done
-        )
-    );
-    assert!(rt;
-        gives(
-            &mut hands,
-            Effect::Read(Slot::Order),
-            Answer::Failed(Cause::Folder)
-        )
-    );
+    assert!(rt; does(&mut hands, Effect::Open(Slot::Order, Place::Named("/"))));
+    assert!(rt; fails(&mut hands, Effect::Read(Slot::Order), Cause::Folder));
 }
 
 #[test]
 fn the_standard_streams_are_read_and_written(rt: HostRuntime) {
     let mut hands = RealHands::new(rt);
-    assert!(rt;
-        gives(
-            &mut hands,
-            Effect::Open(Slot::Up, Place::Input),
-            Answer::Done
-        )
-    );
+    assert!(rt; does(&mut hands, Effect::Open(Slot::Up, Place::Input)));
     assert!(rt; gives(&mut hands, Effect::Read(Slot::Up), Answer::End));
     assert!(rt; gives(&mut hands, Effect::Byte, Answer::End));
-    assert!(rt; gives(&mut hands, Effect::Print(b"".as_slice()), Answer::Done));
-    assert!(rt; gives(&mut hands, Effect::Say(""), Answer::Done));
-    assert!(rt; gives(&mut hands, Effect::Exit(0), Answer::Done));
+    assert!(rt; does(&mut hands, Effect::Print(b"".as_slice())));
+    assert!(rt; does(&mut hands, Effect::Say("")));
+    assert!(rt; does(&mut hands, Effect::Exit(0)));
 }
 
 const FOLDER: &str = "/tmp/dme_hands.folder";
@@ -100,20 +86,19 @@ fn a_file_in_a_folder_is_made_written_named_and_removed(rt: HostRuntime) {
     assert!(rt; fs::create_dir(&rt, FOLDER).is_ok());
     let mut hands = RealHands::new(rt);
     let create = Effect::Create(Slot::Up, UP);
-    assert!(rt; gives(&mut hands, create, Answer::Done));
-    assert!(rt; gives(&mut hands, create, Answer::Failed(Cause::Taken)));
-    let save = Effect::Save(Slot::Up, b"line".as_slice());
-    assert!(rt; gives(&mut hands, save, Answer::Done));
-    assert!(rt; gives(&mut hands, Effect::Settle(Slot::Up), Answer::Done));
+    assert!(rt; does(&mut hands, create));
+    assert!(rt; fails(&mut hands, create, Cause::Taken));
+    assert!(rt; does(&mut hands, Effect::Save(Slot::Up, b"line".as_slice())));
+    assert!(rt; does(&mut hands, Effect::Settle(Slot::Up)));
     assert!(rt; has(&rt, UP, b"line".as_slice()));
     let names = Answer::Bytes(b"1.up/".as_slice());
     assert!(rt; gives(&mut hands, Effect::Names(FOLDER), names));
     hands.carry_out(Effect::Node(UP));
     assert!(rt; matches!(hands.answer(), Answer::Bytes(node) if node.len() == 16));
-    assert!(rt; gives(&mut hands, Effect::Remove(UP), Answer::Done));
+    assert!(rt; does(&mut hands, Effect::Remove(UP)));
     assert!(rt; gives(&mut hands, Effect::Remove(UP), Answer::Missing));
     assert!(rt; gives(&mut hands, Effect::Node(UP), Answer::Missing));
-    assert!(rt; gives(&mut hands, Effect::Sleep(1), Answer::Done));
+    assert!(rt; does(&mut hands, Effect::Sleep(1)));
     assert!(rt; fs::remove_dir(&rt, FOLDER).is_ok());
 }
 
@@ -167,25 +152,19 @@ const MAKE: Effect<'static> = Effect::Make(Growth::Contacts, GROWS, BESIDE, HEAD
 fn a_file_begins_anew_and_grows(rt: HostRuntime) {
     assert!(rt; fs::write(&rt, GROWS, b"HEAD\nmore\n".as_slice()).is_ok());
     let mut hands = RealHands::new(rt);
-    assert!(rt; gives(&mut hands, Effect::Look(GROWS), Answer::Done));
+    assert!(rt; does(&mut hands, Effect::Look(GROWS)));
     assert!(rt; gives(&mut hands, MAKE, Answer::Found));
-    assert!(rt;
-        gives(
-            &mut hands,
-            Effect::SetAside(Growth::Contacts, OLD),
-            Answer::Done
-        )
-    );
-    assert!(rt; gives(&mut hands, Effect::Begin(Growth::Contacts), Answer::Done));
+    assert!(rt; does(&mut hands, Effect::SetAside(Growth::Contacts, OLD)));
+    assert!(rt; does(&mut hands, Effect::Begin(Growth::Contacts)));
     let keep = Effect::Keep(Growth::Contacts, b"act\n".as_slice());
-    assert!(rt; gives(&mut hands, keep, Answer::Done));
+    assert!(rt; does(&mut hands, keep));
     assert!(rt; has(&rt, GROWS, b"HEAD\nact\n".as_slice()));
     assert!(rt; has(&rt, OLD, b"HEAD\nmore\n".as_slice()));
     assert!(rt; fs::remove_file(&rt, GROWS).is_ok());
-    assert!(rt; gives(&mut hands, keep, Answer::Failed(Cause::Renamed)));
+    assert!(rt; fails(&mut hands, keep, Cause::Renamed));
     let whole = Effect::Replace(GROWS, BESIDE, b"whole".as_slice());
-    assert!(rt; gives(&mut hands, whole, Answer::Done));
-    assert!(rt; gives(&mut hands, keep, Answer::Failed(Cause::Renamed)));
+    assert!(rt; does(&mut hands, whole));
+    assert!(rt; fails(&mut hands, keep, Cause::Renamed));
     assert!(rt; has(&rt, GROWS, b"whole".as_slice()));
     assert!(rt; fs::remove_file(&rt, GROWS).is_ok());
     assert!(rt; fs::remove_file(&rt, OLD).is_ok());
@@ -195,19 +174,13 @@ fn a_file_begins_anew_and_grows(rt: HostRuntime) {
 fn a_file_that_is_let_go_is_as_it_was(rt: HostRuntime) {
     let mut hands = RealHands::new(rt);
     let make = Effect::Make(Growth::Contacts, LET_GO, LET_GO_BESIDE, HEAD);
-    assert!(rt; gives(&mut hands, Effect::Exists(LET_GO), Answer::Done));
-    assert!(rt; gives(&mut hands, make, Answer::Done));
+    assert!(rt; does(&mut hands, Effect::Exists(LET_GO)));
+    assert!(rt; does(&mut hands, make));
     assert!(rt; gives(&mut hands, Effect::Exists(LET_GO_BESIDE), Answer::Found));
-    assert!(rt; gives(&mut hands, Effect::Discard(Growth::Contacts), Answer::Done));
-    assert!(rt; gives(&mut hands, Effect::Exists(LET_GO_BESIDE), Answer::Done));
-    assert!(rt; gives(&mut hands, Effect::Exists(LET_GO), Answer::Done));
-    assert!(rt;
-        gives(
-            &mut hands,
-            Effect::Look("/tmp"),
-            Answer::Failed(Cause::Folder)
-        )
-    );
+    assert!(rt; does(&mut hands, Effect::Discard(Growth::Contacts)));
+    assert!(rt; does(&mut hands, Effect::Exists(LET_GO_BESIDE)));
+    assert!(rt; does(&mut hands, Effect::Exists(LET_GO)));
+    assert!(rt; fails(&mut hands, Effect::Look("/tmp"), Cause::Folder));
 }
 
 const LET_GO: &str = "/tmp/dme_hands.let_go";
@@ -217,8 +190,8 @@ const LET_GO_BESIDE: &str = "/tmp/dme_hands.let_go.new";
 #[test]
 fn a_log_is_added_to(rt: HostRuntime) {
     let mut hands = RealHands::new(rt);
-    assert!(rt; gives(&mut hands, Effect::Extend(LOG), Answer::Done));
-    assert!(rt; gives(&mut hands, Effect::Add(b"line\n".as_slice()), Answer::Done));
+    assert!(rt; does(&mut hands, Effect::Extend(LOG)));
+    assert!(rt; does(&mut hands, Effect::Add(b"line\n".as_slice())));
     assert!(rt; has(&rt, LOG, b"line\n".as_slice()));
     assert!(rt; fs::remove_file(&rt, LOG).is_ok());
     hands.carry_out(Effect::Stamp);
@@ -232,55 +205,25 @@ const LOG: &str = "/tmp/dme_hands.log";
 #[test]
 fn a_connection_is_taken_and_left(rt: HostRuntime) {
     let mut hands = RealHands::new(rt);
-    assert!(rt;
-        gives(
-            &mut hands,
-            Effect::Listen("127.0.0.1", PORT, true),
-            Answer::Done
-        )
-    );
+    assert!(rt; does(&mut hands, Effect::Listen("127.0.0.1", PORT, true)));
     let accept = Effect::Accept(Some(10), Some(1));
     assert!(rt; gives(&mut hands, accept, Answer::Nothing));
     let Ok(mut peer) = TcpStream::connect(&rt, ("127.0.0.1", PORT)) else {
         assert!(rt; false);
         return;
     };
-    assert!(rt; gives(&mut hands, accept, Answer::Done));
-    assert!(rt; gives(&mut hands, Effect::Receive(Peer::Client), Answer::Nothing));
+    assert!(rt; does(&mut hands, accept));
+    assert!(rt; hears(&mut hands, Peer::Client, Answer::Nothing));
     assert!(rt; peer.write_all(b"line".as_slice()).is_ok());
-    assert!(rt;
-        gives(
-            &mut hands,
-            Effect::Receive(Peer::Client),
-            Answer::Bytes(b"line".as_slice())
-        )
-    );
-    assert!(rt;
-        gives(
-            &mut hands,
-            Effect::Send(Peer::Client, b"back".as_slice()),
-            Answer::Done
-        )
-    );
+    assert!(rt; hears(&mut hands, Peer::Client, Answer::Bytes(b"line".as_slice())));
+    assert!(rt; does(&mut hands, Effect::Send(Peer::Client, b"back".as_slice())));
     let mut room = [0u8; 8];
     assert!(rt; matches!(peer.read(&mut room), Ok(4)));
     drop(peer);
-    assert!(rt; gives(&mut hands, Effect::Receive(Peer::Client), Answer::End));
-    assert!(rt; gives(&mut hands, Effect::Leave, Answer::Done));
-    assert!(rt;
-        gives(
-            &mut hands,
-            Effect::Limit(Peer::Client, Some(10), None),
-            Answer::Done
-        )
-    );
-    assert!(rt;
-        gives(
-            &mut hands,
-            Effect::Receive(Peer::Client),
-            Answer::Failed(Cause::Unknown)
-        )
-    );
+    assert!(rt; hears(&mut hands, Peer::Client, Answer::End));
+    assert!(rt; does(&mut hands, Effect::Leave));
+    assert!(rt; does(&mut hands, Effect::Limit(Peer::Client, Some(10), None)));
+    assert!(rt; hears(&mut hands, Peer::Client, Answer::Failed(Cause::Unknown)));
 }
 
 const PORT: u16 = 47_113;
@@ -297,46 +240,41 @@ fn a_connection_is_limited_later(rt: HostRuntime) {
     };
     let mut hands = RealHands::new(rt);
     let connect = Effect::Connect("127.0.0.1", address.port(), Some(1_000));
-    assert!(rt; gives(&mut hands, connect, Answer::Done));
+    assert!(rt; does(&mut hands, connect));
     let Ok((mut peer, _)) = listener.accept() else {
         assert!(rt; false);
         return;
     };
-    let limit = Effect::Limit(Peer::Server, Some(10), Some(1));
-    assert!(rt; gives(&mut hands, limit, Answer::Done));
-    assert!(rt; gives(&mut hands, Effect::Receive(Peer::Server), Answer::Nothing));
-    let unlimited = Effect::Limit(Peer::Server, None, None);
-    assert!(rt; gives(&mut hands, unlimited, Answer::Done));
+    assert!(rt; does(&mut hands, Effect::Limit(Peer::Server, Some(10), Some(1))));
+    assert!(rt; hears(&mut hands, Peer::Server, Answer::Nothing));
+    assert!(rt; does(&mut hands, Effect::Limit(Peer::Server, None, None)));
     assert!(rt; peer.write_all(b"line".as_slice()).is_ok());
     let line = Answer::Bytes(b"line".as_slice());
-    assert!(rt; gives(&mut hands, Effect::Receive(Peer::Server), line));
+    assert!(rt; hears(&mut hands, Peer::Server, line));
 }
 
 #[test]
 fn connections_that_are_joined_do_not_wait_alone(rt: HostRuntime) {
     let mut hands = RealHands::new(rt);
-    let listen = Effect::Listen("127.0.0.1", JOINED, true);
-    assert!(rt; gives(&mut hands, listen, Answer::Done));
-    let connect = Effect::Connect("127.0.0.1", JOINED, None);
-    assert!(rt; gives(&mut hands, connect, Answer::Done));
-    assert!(rt; gives(&mut hands, Effect::Accept(None, None), Answer::Done));
-    assert!(rt; gives(&mut hands, Effect::Join, Answer::Done));
+    assert!(rt; does(&mut hands, Effect::Listen("127.0.0.1", JOINED, true)));
+    assert!(rt; does(&mut hands, Effect::Connect("127.0.0.1", JOINED, None)));
+    assert!(rt; does(&mut hands, Effect::Accept(None, None)));
+    assert!(rt; does(&mut hands, Effect::Join));
     for peer in [Peer::Client, Peer::Server] {
-        let limit = Effect::Limit(peer, Some(60_000), None);
-        assert!(rt; gives(&mut hands, limit, Answer::Done));
-        assert!(rt; gives(&mut hands, Effect::Receive(peer), Answer::Nothing));
+        assert!(rt; does(&mut hands, Effect::Limit(peer, Some(60_000), None)));
+        assert!(rt; hears(&mut hands, peer, Answer::Nothing));
     }
     let pass = Effect::Pass(Peer::Server, b"line".as_slice());
     assert!(rt; gives(&mut hands, pass, Answer::Took(4)));
-    assert!(rt; gives(&mut hands, Effect::Wait(Some(60_000)), Answer::Done));
+    assert!(rt; does(&mut hands, Effect::Wait(Some(60_000))));
     let line = Answer::Bytes(b"line".as_slice());
-    assert!(rt; gives(&mut hands, Effect::Receive(Peer::Client), line));
-    assert!(rt; gives(&mut hands, Effect::Close(Peer::Server), Answer::Done));
+    assert!(rt; hears(&mut hands, Peer::Client, line));
+    assert!(rt; does(&mut hands, Effect::Close(Peer::Server)));
     let nothing = Effect::Pass(Peer::Server, b"".as_slice());
     assert!(rt; gives(&mut hands, nothing, Answer::Took(0)));
-    assert!(rt; gives(&mut hands, Effect::Wait(Some(60_000)), Answer::Done));
-    assert!(rt; gives(&mut hands, Effect::Receive(Peer::Client), Answer::End));
-    assert!(rt; gives(&mut hands, Effect::Leave, Answer::Done));
+    assert!(rt; does(&mut hands, Effect::Wait(Some(60_000))));
+    assert!(rt; hears(&mut hands, Peer::Client, Answer::End));
+    assert!(rt; does(&mut hands, Effect::Leave));
 }
 
 const JOINED: u16 = 29_113;
