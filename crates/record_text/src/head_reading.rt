@@ -3,6 +3,7 @@
 ghost use Rattle.std.specs.Prelude.{◌≡◌, ◌<◌, ◌∷◌, ℕ, length, IfOk, IfSome, IfNone, Err};
 ghost use Rattle.record_text.specs.Names.{Finds, whole_lines, IsPart, part_line, header, Stage, Next, stage_of, IsValid, IsOpen, HasHead, HasTornHead, IsBadHead, Damaged, Between, Within};
 
+use crate::asked::Asked;
 use crate::faults::RecordFault;
 use crate::heads::{Head, Place, Unfinished};
 use crate::parts::{Part, is_part};
@@ -72,11 +73,12 @@ fn touch_line(
     let Some(touch) = read_touch(alloc, forms, line)? else {
         return Err(RecordFault::Damaged(number));
     };
-    unfinished.push(touch)?;
-    if (unfinished.len() as u64) < unfinished.count() {
+    unfinished.touches.push(touch)?;
+    if (unfinished.touches.len() as u64) < unfinished.count {
         return Ok(Place::Within(unfinished));
     }
-    head.asked.push(unfinished.finish())?;
+    let Unfinished { label, touches, .. } = unfinished;
+    head.asked.push(Asked::new(label, touches))?;
     Ok(Place::Between)
 }
 

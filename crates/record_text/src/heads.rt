@@ -1,21 +1,20 @@
 // What a reader holds of the head of a record.
 
-ghost use Rattle.std.specs.Prelude.{◌≡◌, ◌↔◌, IsTrue, ◌≤◌, ◌<◌, ◌+◌, ◌++◌, ◌∷◌, [], length, OnOk, OnErr, None};
-ghost use Rattle.record_text.specs.Stages.{with_touch, wanted_with};
+ghost use Rattle.std.specs.Prelude.{◌≡◌, ◌↔◌, IsTrue, [], None};
 
 use crate::asked::Asked;
 use crate::parts::Part;
 use dmis_program::Touch;
 use fixed_um::Name;
-use std::alloc::{AllocError, Global};
+use std::alloc::Global;
 use std::marker::Model;
 
 /// A wanted feature some of whose touches were read.
 #[derive(Drop)]
 pub(crate) struct Unfinished {
-    label: Name,
-    count: u64,
-    touches: Vec<Touch>,
+    pub(crate) label: Name,
+    pub(crate) count: u64,
+    pub(crate) touches: Vec<Touch>,
 }
 
 impl Model for Unfinished {
@@ -36,33 +35,6 @@ impl Unfinished {
             count,
             touches: Vec::new(alloc),
         }
-    }
-
-    pub(crate) fn len(&self) -> usize
-        ensures { result ≡ length self.now.touches }
-    {
-        self.touches.len()
-    }
-
-    /// How many touches it has.
-    pub(crate) fn count(&self) -> u64
-        ensures { result ≡ self.now.count }
-    {
-        self.count
-    }
-
-    pub(crate) fn push(&mut self, touch: Touch) -> Result<(), AllocError>
-        ensures { OnOk result (self.new ≡ with_touch self.old touch) }
-    {
-        self.touches.push(touch)?;
-        Ok(())
-    }
-
-    /// The feature with the touches that were read.
-    pub(crate) fn finish(self) -> Asked
-        ensures { result ≡ record { label = self.label; touches = self.touches } }
-    {
-        Asked::new(self.label, self.touches)
     }
 }
 

@@ -147,10 +147,7 @@ pub fn begin_record(
             let begun = continued(alloc, bytes, found)?;
             Ok(begun)
         }
-        Ok(None) => {
-            let begun = begin_new(alloc, program, part)?;
-            Ok(begun)
-        }
+        Ok(None) => Ok(begin_new(alloc, program, part)?),
         Err(RecordFault::Damaged(line)) => Err(RecordRefusal::Damaged(line)),
         Err(RecordFault::Memory) => Err(RecordRefusal::Memory),
     }

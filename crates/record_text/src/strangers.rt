@@ -4,29 +4,18 @@ ghost use Rattle.std.specs.Prelude.{◌≡◌, ◌↔◌, IsTrue, IsNone, IfSome
 ghost use Rattle.record_text.specs.Strangers.{IsFirstOther};
 
 use crate::asked::Asked;
-use crate::comparing::{same_dir, same_frame, same_name, same_point};
+use crate::comparing::same_name;
 use crate::records::Record;
 use dmis_program::{Program, Touch, Wanted};
 use fixed_um::Name;
 
-fn same_part(one: Option<&[u8]>, other: Option<&[u8]>) -> bool
-    ensures { IsTrue result ↔ (option_map (λ p. p.now) one.entry
-        ≡ option_map (λ p. p.now) other.entry) }
-{
-    match (one, other) {
-        (None, None) => true,
-        (Some(one), Some(other)) => one == other,
-        _ => false,
-    }
-}
-
 fn same_touch(one: &Touch, other: &Touch) -> bool
     ensures { IsTrue result ↔ (one.now ≡ other.now) }
 {
-    same_point(one.target, other.target)
-        && same_dir(one.dir, other.dir)
+    one.target == other.target
+        && one.dir == other.dir
         && same_name(&one.tool, &other.tool)
-        && same_frame(one.frame, other.frame)
+        && one.frame == other.frame
 }
 
 fn same_touches(one: &[Touch], other: &[Touch]) -> bool
@@ -71,7 +60,11 @@ fn first_other<'a>(asked: &'a [Asked], wanted: &'a [Wanted]) -> Option<&'a Name>
 pub fn is_of_part(recorded: &Record, part: Option<&[u8]>) -> bool
     ensures { IsTrue result ↔ (recorded.now.part ≡ option_map (λ p. p.now) part.entry) }
 {
-    same_part(recorded.part(), part)
+    match (recorded.part(), part) {
+        (None, None) => true,
+        (Some(one), Some(other)) => one == other,
+        _ => false,
+    }
 }
 
 /// The label of the first feature in which what a record asked is not what a program wants; `None` if it was written for that program.
