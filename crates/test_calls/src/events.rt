@@ -26,66 +26,36 @@ fn push_told(out: &mut Vec<u8>, world: &World) -> Result<(), AllocError> {
 
 // ---- the calls
 
-/// All that the readers of a world answer.
-fn push_readers(out: &mut Vec<u8>, world: &World) -> Result<(), AllocError> {
-    push_told(out, world)?;
-    push_debug(out, &(world.running(), world.ledger().acts()))?;
-    out.extend_from_slice(world.written())?;
-    push_debug(out, world.setup())?;
-    push_acts(out, world.counted())?;
-    push_features(out, world.features())
+/// A call for which memory can be short: `run`, `play` and a schedule of one event, or the schedule that a row is.
+#[derive(Drop)]
+struct Call<'a> {
+    word: &'a str,
+    schedule: Schedule,
 }
 
-/// An event happens.
-impl Called<Event, WorldFault> for World {
+impl Called<Call<'_>, WorldFault> for World {
     fn push_all(&self, out: &mut Vec<u8>) -> Result<(), AllocError> {
-        push_readers(out, self)
+        push_told(out, self)?;
+        push_debug(out, &(self.running(), self.ledger().acts()))?;
+        out.extend_from_slice(self.written())?;
+        push_debug(out, self.setup())?;
+        push_acts(out, self.counted())?;
+        push_features(out, self.features())
     }
 
-    fn make(&mut self, event: &Event) -> Result<bool, WorldFault> {
-        self.step(*event)?;
-        Ok(true)
-    }
-}
-
-/// The first two events of a world happen. If memory is short for the first of them, the second cannot.
-impl Called<(), WorldFault> for World {
-    fn push_all(&self, out: &mut Vec<u8>) -> Result<(), AllocError> {
-        push_readers(out, self)
-    }
-
-    fn make(&mut self, _call: &()) -> Result<bool, WorldFault> {
-        match self.run(&[Event::Connect, Event::Accept(1)]) {
-            RunCount { done: 2, .. } => Ok(true),
-            RunCount { memory: 1, .. } => Err(WorldFault::Memory),
-            _ => Err(WorldFault::NotNow),
+    fn make(&mut self, call: &Call<'_>) -> Result<bool, WorldFault> {
+        match (call.word, call.schedule.instructions()) {
+            // If memory is short for the first of these two events, the second cannot happen.
+            ("run", _) => match self.run(&[Event::Connect, Event::Accept(1)]) {
+                RunCount { done: 2, .. } => {}
+                RunCount { memory: 1, .. } => return Err(WorldFault::Memory),
+                _ => return Err(WorldFault::NotNow),
+            },
+            ("play", _) => call.schedule.play(self)?,
+            (_, [Instruction::Once(event)]) => self.step(*event)?,
+            _ => return Err(WorldFault::NotNow),
         }
-    }
-}
-
-/// A schedule of one event is played.
-impl Called<Schedule, AllocError> for World {
-    fn push_all(&self, out: &mut Vec<u8>) -> Result<(), AllocError> {
-        push_readers(out, self)
-    }
-
-    fn make(&mut self, schedule: &Schedule) -> Result<bool, AllocError> {
-        schedule.play(self)?;
         Ok(true)
-    }
-}
-
-fn schedule(alloc: Global, row: &str) -> Result<Schedule, Stop> {
-    let text = lined(alloc, row)?;
-    Ok(Schedule::read(alloc, text.as_slice())?)
-}
-
-/// The event of a row happens.
-fn push_step(out: &mut Vec<u8>, world: &mut World, row: &str) -> Pushed {
-    let schedule = schedule(*out.allocator(), row)?;
-    match schedule.instructions() {
-        [Instruction::Once(event)] => push_tried(out, world, WorldFault::Memory, event),
-        _ => Err(Stop::Row),
     }
 }
 
@@ -93,12 +63,15 @@ fn push_step(out: &mut Vec<u8>, world: &mut World, row: &str) -> Pushed {
 fn push_called(out: &mut Vec<u8>, world: &mut World, row: &str) -> Pushed {
     let alloc = *out.allocator();
     let (word, rest) = row.split_once(" ").unwrap_or((row, ""));
-    match word {
-        "run" => push_tried(out, world, WorldFault::Memory, &()),
-        "play" => push_tried(out, world, AllocError, &schedule(alloc, rest)?),
-        "then" => Ok(schedule(alloc, rest)?.play(world)?),
-        _ => push_step(out, world, row),
+    let text = match word {
+        "run" | "play" | "then" => rest,
+        _ => row,
+    };
+    let schedule = Schedule::read(alloc, lined(alloc, text)?.as_slice())?;
+    if word == "then" {
+        return Ok(schedule.play(world)?);
     }
+    push_tried(out, world, WorldFault::Memory, &Call { word, schedule })
 }
 
 // ---- what is made of a world

@@ -378,15 +378,11 @@ fn given_to<'a>(word: &str, given: &'a str, script: Script<'a>) -> Script<'a> {
         ("loops" | "turns" | "runs", "all") => script,
         ("loops" | "turns" | "runs", _) => Script {
             replies: given,
-            commands: script.commands,
-            last_replies: script.last_replies,
-            last_commands: script.last_commands,
+            ..script
         },
         _ => Script {
-            replies: script.replies,
             commands: given,
-            last_replies: script.last_replies,
-            last_commands: script.last_commands,
+            ..script
         },
     }
 }

@@ -21,11 +21,6 @@ fn take_out(server: &mut Server) {
     server.sent(count);
 }
 
-/// Whether a server takes bytes: it is on a connection.
-pub(crate) fn is_on(server: &mut Server) -> bool {
-    server.feed(b"").is_ok()
-}
-
 fn length(numeral: &str) -> Um {
     read_um(numeral.as_bytes(), Um::wire_limit()).unwrap_or(Um::zero())
 }
