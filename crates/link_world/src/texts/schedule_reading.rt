@@ -1,28 +1,9 @@
 // Schedules, read from a text.
 
 ghost use Rattle.std.specs.Prelude.{◌≡◌, ◌<◌, ◌^◌, IfSome, OnOk, IfErr, Ok, Some, true};
-ghost use Rattle.std.specs.List.{list_all};
-ghost use Rattle.std.specs.Char.{is_ascii_digit};
 ghost use Rattle.std.specs.Str.Parse.{digits_value};
 ghost use Rattle.tool_rack.specs.Fields.{fields_of};
-ghost use Rattle.link_world.specs.ScheduleTexts.{
-  is_number,
-  number_of,
-  beside,
-  alone,
-  numbered,
-  before_all,
-  of_machine,
-  rounds,
-  with_number,
-  of_two,
-  touch,
-  instruction_of,
-  instruction_on,
-  schedule_of,
-  IsRefusal,
-  GivesSchedule,
-};
+ghost use Rattle.link_world.specs.ScheduleTexts.{is_number, number_of, beside, alone, numbered, before_all, of_machine, rounds, with_number, of_two, touch, instruction_on, schedule_of, IsRefusal, GivesSchedule};
 ghost use Rattle.link_world.specs.ScheduleCarrying.{read_line};
 
 use crate::texts::schedule_faults::ScheduleFault;
@@ -34,17 +15,11 @@ use std::alloc::Global;
 use tool_rack::fields::{cut_field, has_outer_space, is_dropped, is_word, three_fields};
 use tool_rack::positions::point_in_volume;
 
-fn all_digits(text: &[u8]) -> bool
-    ensures { result ≡ list_all is_ascii_digit text.now }
-{
-    text.iter().all(|byte| byte.is_ascii_digit())
-}
-
 /// Whether a text is one to ten digits.
 fn is_number(text: &[u8]) -> bool
     ensures { result ≡ is_number text.now }
 {
-    all_digits(text) && text.len() >= 1 && text.len() <= 10
+    text.iter().all(|byte| byte.is_ascii_digit()) && text.len() >= 1 && text.len() <= 10
 }
 
 #[tactic(auto, using(crate::proofs::ScheduleNumbers::numbers))]
@@ -181,10 +156,13 @@ fn touch(values: &[u8]) -> Option<Instruction>
     Some(Instruction::Once(Event::Machine(Outcome::Touched(point))))
 }
 
-#[tactic(auto, unfolding(crate::specs::ScheduleTexts::instruction_of))]
-fn fields_instruction(line: &[u8]) -> Option<Instruction>
-    ensures { result ≡ instruction_of (fields_of line.now) }
+#[tactic(auto, unfolding(crate::specs::ScheduleTexts::instruction_on, crate::specs::ScheduleTexts::instruction_of))]
+fn instruction_on(line: &[u8]) -> Option<Instruction>
+    ensures { result ≡ instruction_on line.now }
 {
+    if has_outer_space(line) {
+        return None;
+    }
     let (word, rest) = cut_field(line)?;
     let Some((value, rest)) = cut_field(rest) else {
         return alone(word);
@@ -197,16 +175,6 @@ fn fields_instruction(line: &[u8]) -> Option<Instruction>
     } else {
         None
     }
-}
-
-#[tactic(auto, unfolding(crate::specs::ScheduleTexts::instruction_on))]
-fn instruction_on(line: &[u8]) -> Option<Instruction>
-    ensures { result ≡ instruction_on line.now }
-{
-    if has_outer_space(line) {
-        return None;
-    }
-    fields_instruction(line)
 }
 
 impl Schedule {

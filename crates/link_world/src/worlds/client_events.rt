@@ -42,12 +42,6 @@ fn send(
     Ok(())
 }
 
-fn may_abort(state: State) -> bool
-    ensures { result ≡ may_abort state }
-{
-    matches!(state, State::Running | State::Failing)
-}
-
 fn abort(
     client: &mut Client,
     connection: &mut Connection,
@@ -64,7 +58,7 @@ fn abort(
         (with_up connection.old (end_aborted client.old).out) }
     ensures written { Writes result written.old written.new (end_aborted client.old).out }
 {
-    if !may_abort(client.state()) {
+    if !matches!(client.state(), State::Running | State::Failing) {
         return Err(WorldFault::NotNow);
     }
     connection.reserve_up(written)?;

@@ -32,11 +32,7 @@ impl World {
         if let Some(event) = self.ending(machine) {
             return Some(event);
         }
-        if self.server.may_turn() {
-            Some(Event::ServerTurn)
-        } else {
-            None
-        }
+        self.server.may_turn().then_some(Event::ServerTurn)
     }
 
     /// The server does all that it has to do: it processes commands and ends jobs while there are any.

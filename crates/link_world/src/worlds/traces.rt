@@ -8,7 +8,7 @@ ghost use Rattle.protocol_model.specs.World.{happens};
 ghost use Rattle.link_world.specs.Claims.{Headline, IsAnswer};
 ghost use Rattle.link_world.specs.Finishing.{IsSameKind};
 ghost use Rattle.link_world.specs.Links.{with_world};
-ghost use Rattle.link_world.specs.Traces.{without_cr, row, rows, client_mark, server_mark, up_on, down_on, standing, is_there, comes_up, place, client_wrote, server_wrote, lost_up, lost_down, passed_over, shown, taken_after, Traces, Ends, Grows};
+ghost use Rattle.link_world.specs.Traces.{without_cr, row, rows, client_mark, server_mark, up_on, down_on, standing, is_there, place, client_wrote, server_wrote, lost_up, lost_down, passed_over, shown, taken_after, Traces, Ends, Grows};
 
 use crate::worlds::faults::WorldFault;
 use crate::worlds::standing::Standing;
@@ -132,19 +132,7 @@ fn place(on: bool, last: u64) -> Option<u64>
 fn is_there(place: Option<u64>, number: u64) -> bool
     ensures { result ≡ is_there place number }
 {
-    match place {
-        Some(at) => at == number,
-        None => false,
-    }
-}
-
-impl Standing {
-    /// Whether the server can take what the client writes on the connection of this number.
-    fn comes_up(&self, number: u64) -> bool
-        ensures { result ≡ comes_up self.now number }
-    {
-        is_there(self.server, number) || self.taken < number
-    }
+    place.is_some_and(|at| at == number)
 }
 
 impl World {
@@ -254,12 +242,9 @@ impl Trace {
         ensures { Grows self.old self.new
             (client_wrote before.now world.now.world before.now.client) }
     {
-        match before.client {
-            Some(number) => {
-                let mark = client_mark(before.comes_up(number));
-                self.keep(number, mark, rest_of(world.up_on(number), before.up));
-            }
-            None => {}
+        if let Some(number) = before.client {
+            let mark = client_mark(is_there(before.server, number) || before.taken < number);
+            self.keep(number, mark, rest_of(world.up_on(number), before.up));
         }
     }
 
@@ -269,12 +254,9 @@ impl Trace {
         ensures { Grows self.old self.new
             (server_wrote before.now world.now.world before.now.server) }
     {
-        match before.server {
-            Some(number) => {
-                let mark = server_mark(is_there(before.client, number));
-                self.keep(number, mark, rest_of(world.down_on(number), before.down));
-            }
-            None => {}
+        if let Some(number) = before.server {
+            let mark = server_mark(is_there(before.client, number));
+            self.keep(number, mark, rest_of(world.down_on(number), before.down));
         }
     }
 
@@ -283,9 +265,8 @@ impl Trace {
     fn keep_lost_up(&mut self, world: &World, place: Option<u64>)
         ensures { Grows self.old self.new (lost_up world.now.world place) }
     {
-        match place {
-            Some(number) => self.keep(number, client_mark(false), world.up_on(number)),
-            None => {}
+        if let Some(number) = place {
+            self.keep(number, client_mark(false), world.up_on(number));
         }
     }
 
@@ -294,9 +275,8 @@ impl Trace {
     fn keep_lost_down(&mut self, world: &World, place: Option<u64>)
         ensures { Grows self.old self.new (lost_down world.now.world place) }
     {
-        match place {
-            Some(number) => self.keep(number, server_mark(false), world.down_on(number)),
-            None => {}
+        if let Some(number) = place {
+            self.keep(number, server_mark(false), world.down_on(number));
         }
     }
 
