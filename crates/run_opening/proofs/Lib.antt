@@ -1,3 +1,4 @@
 pub mod Names
 pub mod Beginnings
 pub mod Begun
+pub mod Comparing

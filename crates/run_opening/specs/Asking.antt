@@ -15,6 +15,7 @@ use Rattle.run_opening.specs.declared.stages.Text.{Text}
 use Rattle.run_opening.specs.declared.stages.Text.TheVariants as text
 use Rattle.run_opening.specs.declared.stages.Stage.{Stage}
 use Rattle.run_opening.specs.declared.stages.Stage.TheVariants as stage
+use Rattle.run_opening.specs.Naming.{name_at, or_nothing}
 use Rattle.run_opening.specs.Openings.{State}
 
 -- the name of a file, or nothing
@@ -46,21 +47,13 @@ abbrev pub IsFillOf : Option Beginning → Ask → Type 0
 IsFillOf b (Fill growth.Record text held length) = IsTextOf b text held
 IsFillOf b ask = ⊥
 
-abbrev pub IsPlace : Ask → Type 0
-IsPlace (Place name) = ⊤
-IsPlace ask = ⊥
-
-abbrev pub IsNode : Ask → Type 0
-IsNode (Node name) = ⊤
-IsNode ask = ⊥
-
 abbrev pub IsSay : Ask → Type 0
 IsSay (Say text) = ⊤
 IsSay ask = ⊥
 
 abbrev pub AsksAt : Stage → State → Ask → Type 0
-AsksAt stage.Placing s ask = IsPlace ask
-AsksAt stage.Numbering s ask = IsNode ask
+AsksAt (stage.Placing at) s ask = ask ≡ Place (or_nothing (name_at at s.core.order))
+AsksAt (stage.Numbering at) s ask = ask ≡ Node (or_nothing (name_at at s.core.order))
 AsksAt stage.HoldingRecord s ask = ask ≡ Hold growth.Record (named s.core.order.record)
 AsksAt stage.LookingFeatures s ask = ask ≡ Look (named s.core.order.features)
 AsksAt stage.HoldingFeatures s ask = ask ≡ Hold growth.Features (named s.core.order.features)

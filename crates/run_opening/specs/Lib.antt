@@ -1,4 +1,5 @@
 pub mod Asking
 pub mod Begun
 pub mod Names
+pub mod Naming
 pub mod Openings

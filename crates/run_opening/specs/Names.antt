@@ -1,10 +1,12 @@
--- When two files that one call names meet (this profile).
-use Rattle.std.specs.Prelude.{◌≡◌, ◌⊎◌, ◌++◌, ℕ, List, codes}
-
--- the second is made next to the first, as its next text
-abbrev pub IsNext : List ℕ → List ℕ → Type 0
-IsNext name next = next ≡ name ++ codes ".new"
-
--- they are one, or one is made next to the other
-abbrev pub Meet : List ℕ → List ℕ → Type 0
-Meet first second = (first ≡ second) ⊎ IsNext first second ⊎ IsNext second first
+-- The names of other files that contracts of this crate cite.
+pub use Rattle.client_core.specs.Clients.{may_connect}
+pub use Rattle.contact_ledger.specs.Ledgers.{connection_most}
+pub use Rattle.dme_words.specs.declared.orders.Run.{Run}
+pub use Rattle.effects.specs.Effects.{Bytes, Done, End, Found, Missing, Reply, the_ask, the_place, the_reply}
+pub use Rattle.protocol_model.specs.Ends.{end_connected}
+pub use Rattle.record_laws.specs.Recordings.{Pair}
+pub use Rattle.record_text.specs.Growths.{begun}
+pub use Rattle.run_opening.specs.Asking.{IsSessionOf}
+pub use Rattle.run_opening.specs.Begun.{IsRunBegun}
+pub use Rattle.run_opening.specs.Naming.{AreApart, AreNone, AreOne, Covers, Disturbs, IsClear, IsNext, Meet, given, is_written, name_at, or_nothing, seen_of}
+pub use Rattle.run_opening.specs.Openings.{Known, Outside, State, is_there, outcome, read, untouched}

@@ -13,6 +13,7 @@ use Rattle.record_text.specs.Growths.{begun}
 use Rattle.record_text.specs.declared.opening.Beginning.{Beginning}
 use Rattle.run_session.specs.Records.{Start}
 use Rattle.tool_rack.specs.Setups.{SetupValue, setup_of}
+use Rattle.run_opening.specs.Naming.{Seen, AreApart, AreCompared, Covers}
 use Rattle.run_opening.specs.declared.stages.Text.{Text}
 use Rattle.run_opening.specs.declared.stages.Text.TheVariants as text
 use Rattle.run_opening.specs.declared.stages.Stage.{Stage}
@@ -33,11 +34,17 @@ pub record State : Type 0 where
   pub stage : Stage
   pub text : List ℕ  -- what came of the text that is read
   pub status : ℕ
+  pub called : List Seen  -- the files that were compared
   pub core : Core
 
--- what the outside has answered: which files are locked, or are written at the end alone; the texts that were read to their end; whether the
--- stop file was there, when it was looked for; and whether the record has the text that the run continues from
+-- what the outside has answered: which of the files that are named lack a place, and where the others are; which files are locked, or are
+-- written at the end alone; the texts that were read to their end; whether the stop file was there, when it was looked for; and whether the
+-- record has the text that the run continues from
 pub record Answered : Type 0 where
+  pub placeless : List ℕ
+  pub place : List ℕ  -- the last place, and the number of its file
+  pub last : ℕ
+  pub seen : List Seen
   pub has_record : Bool
   pub has_features : Bool
   pub is_other_features : Bool
@@ -61,6 +68,10 @@ pub record Outside : Type 0 where
 abbrev pub untouched : Outside
 untouched = record {
   answered = record {
+    placeless = [];
+    place = [];
+    last = 0;
+    seen = [];
     has_record = false;
     has_features = false;
     is_other_features = false;
@@ -122,7 +133,21 @@ abbrev pub typed : List ℕ → Reply → Outside → Outside
 typed before (Bytes bytes) o = record o { typed = before ++ bytes }
 typed before reply o = o
 
+-- the place of a file, or none; and its number on its device, if it exists
+abbrev pub bytes_of : Reply → Option (List ℕ)
+bytes_of (Bytes bytes) = Some bytes
+bytes_of reply = None
+
+abbrev pub placed : ℕ → Option (List ℕ) → Answered → Answered
+placed at (Some place) a = record a { place = place; last = at }
+placed at None a = record a { placeless = at ∷ a.placeless }
+
+abbrev pub numbered : ℕ → Option (List ℕ) → Answered → Answered
+numbered at node a = record a { seen = a.seen ++ record { at = at; place = a.place; node = node } ∷ [] }
+
 abbrev pub outcome : Stage → Reply → Outside → Outside
+outcome (stage.Placing at) reply o = record o { answered = placed at (bytes_of reply) o.answered }
+outcome (stage.Numbering at) reply o = record o { answered = numbered at (bytes_of reply) o.answered }
 outcome stage.HoldingRecord reply o = if_done reply (record o { answered = record (o.answered) { has_record = true } }) o
 outcome stage.LookingFeatures reply o = record o { answered = record (o.answered) { is_other_features = is_unlocked_features reply } }
 outcome stage.HoldingFeatures reply o = if_done reply (record o { answered = record (o.answered) { has_features = true } }) o
@@ -150,6 +175,7 @@ abbrev pub AreContactsHeld : Run → Answered → Type 0
 AreContactsHeld run a = is_some run.contacts ≡ true → (a.has_contacts ≡ true) ⊎ (a.is_other_contacts ≡ true)
 
 pub record AreHeld (run : Run) (a : Answered) : Type 0 where
+  pub compared : AreCompared run a.placeless a.seen
   pub recorded : IsRecordHeld run a
   pub features : AreFeaturesHeld run a
   pub contacts : AreContactsHeld run a
@@ -269,13 +295,20 @@ IsEmptyLine line = (line ≡ 10 ∷ []) ⊎ (line ≡ 13 ∷ 10 ∷ [])
 
 -- what was asked for is known, and what is locked so far
 abbrev pub HasNone : Run → Core → Answered → Type 0
-HasNone run c a = IsFresh run c
+HasNone run c a = IsFresh run c × AreCompared run a.placeless a.seen
 
 abbrev pub HasRecord : Run → Core → Answered → Type 0
-HasRecord run c a = IsFresh run c × IsRecordHeld run a
+HasRecord run c a = HasNone run c a × IsRecordHeld run a
 
 abbrev pub HasFeatures : Run → Core → Answered → Type 0
-HasFeatures run c a = IsFresh run c × (IsRecordHeld run a × AreFeaturesHeld run a)
+HasFeatures run c a = HasNone run c a × (IsRecordHeld run a × AreFeaturesHeld run a)
+
+-- the files before this number were compared
+pub record IsComparing (run : Run) (at : ℕ) (called : List Seen) (c : Core) (a : Answered) : Type 0 where
+  pub fresh : IsFresh run c
+  pub seen : a.seen ≡ called
+  pub apart : AreApart a.seen
+  pub covers : Covers run at a.placeless a.seen
 
 -- the program is read, and it is known whether the stop file was there
 abbrev pub IsLookedAt : Run → Core → Answered → Type 0
@@ -291,8 +324,9 @@ IsNearlyOpened run c a = (c.order ≡ run) × (AreHeld run a × IsFree run a)
 
 -- what is known at a stage
 abbrev pub Known : Stage → Run → State → Outside → Type 0
-Known stage.Placing run s o = HasNone run s.core o.answered
-Known stage.Numbering run s o = HasNone run s.core o.answered
+Known (stage.Placing at) run s o = IsComparing run at s.called s.core o.answered
+Known (stage.Numbering at) run s o = IsComparing run at s.called s.core o.answered
+    × ((s.text ≡ o.answered.place) × (o.answered.last ≡ at))
 Known stage.HoldingRecord run s o = HasNone run s.core o.answered
 Known stage.LookingFeatures run s o = HasRecord run s.core o.answered
 Known stage.HoldingFeatures run s o = HasRecord run s.core o.answered
@@ -327,6 +361,14 @@ Ends t = (run : Run) (o : Outside) → Holds run t o
 -- where this is known of what was read, that is known which is at the stage
 abbrev pub Leads : (Run → Core → Answered → Type 0) → State → State → Type 0
 Leads Is s t = (run : Run) (o : Outside) → Is run s.core o.answered → Holds run t o
+
+-- likewise once the files before this number were compared, or this one is to join them
+abbrev pub Compares : ℕ → State → State → Type 0
+Compares from s t = (run : Run) (o : Outside) → IsComparing run from s.called s.core o.answered → Holds run t o
+
+abbrev pub Joins : Seen → State → State → Type 0
+Joins x s t = (run : Run) (o : Outside) → IsComparing run x.at s.called s.core o.answered
+    → Holds run t (record o { answered = record (o.answered) { seen = o.answered.seen ++ x ∷ [] } })
 
 -- likewise once a whole text was read
 abbrev pub Takes : Text → List ℕ → State → State → Type 0

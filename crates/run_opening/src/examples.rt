@@ -1,11 +1,35 @@
 // Examples: what comes of an answer, and what is known. Each function has laws for its contract and does nothing.
 
-ghost use Rattle.std.specs.Prelude.{◌≡◌, [], ◌∷◌, true, false, Some, is_some};
-ghost use Rattle.dme_words.specs.declared.orders.Run.{Run};
-ghost use Rattle.effects.specs.Effects.{Bytes, End, Missing, Done, Found};
-ghost use Rattle.run_opening.specs.Openings.{State, Outside, Known, outcome, read, is_there, untouched};
+ghost use Rattle.std.specs.Prelude.{◌≡◌, [], ◌∷◌, true, false, Some, None, is_some, codes};
+ghost use Rattle.run_opening.specs.Names.{Run, Bytes, End, Missing, Done, Found, State, Outside, Known, outcome, read, is_there, untouched, Disturbs, AreApart, Covers, given, is_written, name_at};
 ghost use Rattle.run_opening.specs.declared.stages.Stage.TheVariants as stage;
 ghost use Rattle.run_opening.specs.declared.stages.Text.TheVariants as text;
+
+/// Features, record, contacts and log are written, the program and the stop file are not; standard input is no file. Two files disturb one
+/// another, if either is written, that have one place or one number on their device, or of which one is made next to the other.
+pub fn meeting_rows()
+    ensures program { is_written 1 ≡ false }
+    ensures features { is_written 2 ≡ true }
+    ensures log { is_written 5 ≡ true }
+    ensures stop { is_written 6 ≡ false }
+    ensures input { given (codes "-") ≡ None }
+    ensures file { given (codes "a") ≡ Some (codes "a") }
+    ensures place { Disturbs (record { at = 3; place = codes "r"; node = None })
+        (record { at = 5; place = codes "r"; node = None }) }
+    ensures number { Disturbs (record { at = 0; place = codes "s"; node = Some (1 ∷ []) })
+        (record { at = 2; place = codes "f"; node = Some (1 ∷ []) }) }
+    ensures next { Disturbs (record { at = 2; place = codes "f"; node = None })
+        (record { at = 6; place = codes "f.new"; node = None }) }
+    ensures before { Disturbs (record { at = 1; place = codes "f.new"; node = None })
+        (record { at = 2; place = codes "f"; node = None }) }
+    ensures unwritten { Disturbs (record { at = 0; place = codes "s"; node = None })
+        (record { at = 1; place = codes "s"; node = None }) → ⊥ }
+    ensures other { Disturbs (record { at = 3; place = codes "r"; node = None })
+        (record { at = 5; place = codes "l"; node = None }) → ⊥ }
+    ensures met { AreApart (record { at = 3; place = codes "r"; node = None }
+        ∷ record { at = 5; place = codes "r"; node = None } ∷ []) → ⊥ }
+    ensures unseen { (run : Run) → is_some (name_at 3 run) ≡ true → Covers run 7 [] [] → ⊥ }
+{}
 
 /// Bytes of a text are added to those before; the text is read once its end was answered, and not before; a record that is not there is one
 /// without bytes; and the stop file is there only if it was found.
@@ -18,15 +42,28 @@ pub fn answer_rows()
     ensures lacking { (outcome (stage.Opening text.Record) Missing untouched).answered.recorded
         ≡ Some [] }
     ensures locked { (outcome stage.HoldingRecord Done untouched).answered.has_record ≡ true }
+    ensures placeless { (outcome (stage.Placing 3) Missing untouched).answered.placeless ≡ 3 ∷ [] }
+    ensures placed { (o : Outside) → (outcome (stage.Placing 3) (Bytes (7 ∷ [])) o).answered.place
+        ≡ 7 ∷ [] }
+    ensures numbered { (outcome (stage.Numbering 3) (Bytes (1 ∷ [])) untouched).answered.seen
+        ≡ record { at = 3; place = []; node = Some (1 ∷ []) } ∷ [] }
+    ensures new { (outcome (stage.Numbering 3) Missing untouched).answered.seen
+        ≡ record { at = 3; place = []; node = None } ∷ [] }
     ensures there { is_there Found ≡ true }
     ensures absent { is_there Done ≡ false }
 {}
 
-/// No run is ready whose record is not locked, or lacks its text; whose stop file was there, or was not looked for; or whose question was
+/// No run is ready whose files meet, or were not looked for; whose record is not locked, or lacks its text; whose stop file was there, or was not looked for; or whose question was
 /// answered by another line.
+#[tactic(auto, using(crate::proofs::Comparing::uncompared))]
 pub fn ready_rows()
     ensures unlocked { (run : Run) (s : State) (o : Outside) → Known stage.Ready run s o
         → is_some run.record ≡ true → o.answered.has_record ≡ false → ⊥ }
+    ensures uncompared { (run : Run) (s : State) (o : Outside) → Known stage.Ready run s o
+        → is_some run.record ≡ true → o.answered.placeless ≡ [] → o.answered.seen ≡ [] → ⊥ }
+    ensures meeting { (run : Run) (s : State) (o : Outside) → Known stage.Ready run s o
+        → o.answered.seen ≡ record { at = 3; place = codes "r"; node = None }
+        ∷ record { at = 5; place = codes "r"; node = None } ∷ [] → ⊥ }
     ensures unfilled { (run : Run) (s : State) (o : Outside) → Known stage.Ready run s o
         → is_some run.record ≡ true → o.answered.is_filled ≡ false → ⊥ }
     ensures stopped { (run : Run) (s : State) (o : Outside) → Known stage.Ready run s o

@@ -29,9 +29,8 @@ pub struct Opening {
     pub(crate) alloc: Global,
     pub(crate) order: Run,
     pub(crate) stage: Stage,
-    /// The files that were compared, and the number of the next one.
+    /// The files that were compared.
     pub(crate) called: Vec<Called>,
-    pub(crate) at: usize,
     /// Whether standard input was read, and how many pieces of a text have come.
     pub(crate) input_is_taken: bool,
     pub(crate) pieces: u32,
@@ -62,7 +61,8 @@ pub struct Opening {
 impl Model for Opening {
     ghost use Rattle.run_opening.specs.Openings.{State as OneState};
     ghost use Rattle.client_core.specs.Clients.{is_window};
-    ghost use Rattle.std.specs.Prelude.{◌≡◌, true};
+    ghost use Rattle.run_opening.specs.Naming.{seen_of};
+    ghost use Rattle.std.specs.Prelude.{◌≡◌, true, map};
 
     ghost Value = { OneState };
 
@@ -70,6 +70,7 @@ impl Model for Opening {
       stage = s.stage;
       text = s.text.items;
       status = s.status;
+      called = map seen_of s.called.items;
       core = record {
         order = s.order;
         setup = s.setup;
@@ -87,6 +88,7 @@ impl Model for Opening {
 
 impl Opening {
     /// A run of these values.
+    #[tactic(auto, using(crate::proofs::Comparing::begins_comparing))]
     pub fn new(alloc: Global, order: Run) -> Opening
         requires { is_window order.window ≡ true }
         ensures { spec.Holds order result spec.untouched }
@@ -94,9 +96,8 @@ impl Opening {
         let mut opening = Opening {
             alloc,
             order,
-            stage: Stage::Placing,
+            stage: Stage::Placing(0),
             called: Vec::new(alloc),
-            at: 0,
             input_is_taken: false,
             pieces: 0,
             text: Vec::new(alloc),
@@ -118,7 +119,7 @@ impl Opening {
             status: 0,
             message: "",
         };
-        opening.compare_next();
+        opening.compare_next(0);
         opening
     }
 
@@ -189,8 +190,8 @@ impl Opening {
         ensures { asking.Asks self.now (the_ask result) }
     {
         match self.stage {
-            Stage::Placing => Effect::Place(self.called_name()),
-            Stage::Numbering => Effect::Node(self.called_name()),
+            Stage::Placing(at) => Effect::Place(self.called_name(at)),
+            Stage::Numbering(at) => Effect::Node(self.called_name(at)),
             Stage::Opening(text) => Effect::Open(Slot::Up, self.place_of(text)),
             Stage::Reading(_) => Effect::Read(Slot::Up),
             Stage::Warning | Stage::Telling => Effect::Say(self.said.as_str()),
@@ -218,8 +219,8 @@ impl Opening {
         ensures { OnOk result (spec.GoesOn self.old (the_reply answer.entry) self.new) }
     {
         match self.stage {
-            Stage::Placing => self.placed(answer),
-            Stage::Numbering => self.numbered(answer),
+            Stage::Placing(at) => self.placed(at, answer),
+            Stage::Numbering(at) => self.numbered(at, answer),
             Stage::HoldingRecord | Stage::LookingFeatures | Stage::HoldingFeatures => {
                 self.held(answer)
             }

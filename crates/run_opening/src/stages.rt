@@ -12,9 +12,9 @@ pub enum Text {
 /// What an opening asks for next.
 #[derive(Clone, Copy, Debug, PartialEq, Eq)]
 pub enum Stage {
-    /// The place of a file that is named, and its number on its device.
-    Placing,
-    Numbering,
+    /// The place of a file that is named, by the number of its option, and its number on its device.
+    Placing(usize),
+    Numbering(usize),
     /// The record is locked.
     HoldingRecord,
     /// Whether the features file may be locked, and then it is.

@@ -124,3 +124,6 @@ said_ready s t reply e f = λ o k. subst (λ (x : State). Ready (due x) x.core (
     (subst (λ (st : Stage). Ready (due_at s.next s.next) s.core (outcome st s.core reply o)) (sym e)
     (subst (λ (d : Stage). Ready d s.core o) (sym (due_same s.next))
     (subst (λ (st : Stage). Ready (due_at st s.next) s.core o) e k)))
+
+pub said_due : (s t : State) → s.stage ≡ Stage.Saying → t ≡ record s { stage = s.next } → due t ≡ due s
+said_due s t e f = ap due f ∙ (due_same s.next ∙ ap (λ (st : Stage). due_at st s.next) (sym e))

@@ -1,3 +1,4 @@
 pub mod Files
+pub mod Serving
 pub mod Sessions
 pub mod Relays

@@ -3,11 +3,15 @@ use Rattle.std.specs.Prelude.{◌≡◌, ◌⊎◌, ⊤, ℕ, Bool, true, false,
 use Rattle.contact_ledger.specs.Lines.{text_of}
 use Rattle.contact_ledger.specs.ContactTexts.{act_line, contacts_text}
 use Rattle.contact_ledger.specs.declared.acts.Act.{Act}
+use Rattle.protocol_model.specs.Ends.{serving_left}
 use Rattle.link_world.specs.Reports.{reported, contact_rows}
 use Rattle.effects.specs.declared.vocabulary.Growth.TheVariants.{Contacts}
-use Rattle.effects.specs.Effects.{Ask, Look, Make, Begin, Keep, Listen, Send, Replace, Print, Reply, Done, Found}
+use Rattle.effects.specs.declared.vocabulary.Peer.TheVariants.{Client}
+use Rattle.effects.specs.Effects.{Ask, Look, Make, Begin, Keep, Listen, Accept, Receive, Send, Leave, Replace, Print, Reply, Done, Found}
 use Rattle.services.specs.declared.stages.Stage.{Stage}
 use Rattle.services.specs.declared.stages.Stage.TheVariants as stage
+use Rattle.services.specs.Serving.{Talk, Traffic, passed, heard_more, is_over, may_leave, HasBroken, IsServing, IsAt, IsFree}
+use Rattle.tool_rack.specs.Setups.{SetupValue}
 
 -- the contacts file, and what the server has done
 pub record Core : Type 0 where
@@ -23,6 +27,7 @@ pub record State : Type 0 where
   pub stage : Stage
   pub next : Stage  -- what comes after what is said, shown or logged
   pub core : Core
+  pub talk : Talk
 
 -- the stage whose effect is due, after what is to be said or shown
 abbrev pub due_at : Stage → Stage → Stage
@@ -34,6 +39,36 @@ due_at s next = s
 
 abbrev pub due : State → Stage
 due s = due_at s.stage s.next
+
+-- the session is where its stage is said to be
+abbrev pub Stands : State → Type 0
+Stands s = IsAt (due s) s.talk
+
+-- likewise if its server is on no connection
+abbrev pub Rests : Talk → State → Type 0
+Rests t s = IsFree t → Stands s
+
+-- its server stays one that was given just what was received, which is that at once, if it then is over or not
+abbrev pub Brings : (over : Bool) → State → Reply → State → Type 0
+Brings over s reply t = Stands s → (setup : SetupValue) (f : Traffic) → IsServing setup (is_over (due s)) s.talk f
+    → IsServing setup over t.talk (passed s.stage s.talk.out reply f)
+
+abbrev pub Serves : State → Reply → State → Type 0
+Serves s reply t = Brings (is_over (due t)) s reply t
+
+-- a piece that is received on a connection is given to the server at once
+abbrev pub Hears : (over : Bool) → Talk → List ℕ → Talk → Type 0
+Hears over t piece u = t.end.server.on ≡ true → (setup : SetupValue) (f : Traffic) → IsServing setup false t f
+    → IsServing setup over u (record f { heard = heard_more piece f.heard })
+
+-- its connection is left only at answers that say so, after a turn that has broken off, or if the service is over
+abbrev pub StaysOn : State → Reply → State → Type 0
+StaysOn s reply t = s.talk.end.server.on ≡ true → (t.talk.end.server.on ≡ true) ⊎ ((may_leave s.stage reply ≡ true)
+    ⊎ (HasBroken s.talk reply t.talk ⊎ (is_over (due t) ≡ true)))
+
+-- its server leaves its connection
+abbrev pub left : State → State
+left s = record s { stage = stage.Leaving; talk = record (s.talk) { end = serving_left s.talk.end } }
 
 -- what the outside has answered so far
 pub record Outside : Type 0 where
@@ -179,7 +214,10 @@ IsQuiet (Make growth name beside text) = ⊥
 IsQuiet (Begin growth) = ⊥
 IsQuiet (Keep growth text) = ⊥
 IsQuiet (Listen address port is_polled) = ⊥
+IsQuiet (Accept ms seconds) = ⊥
+IsQuiet (Receive peer) = ⊥
 IsQuiet (Send peer bytes) = ⊥
+IsQuiet Leave = ⊥
 IsQuiet (Replace name beside text) = ⊥
 IsQuiet (Print bytes) = ⊥
 IsQuiet ask = ⊤
@@ -196,24 +234,30 @@ abbrev pub IsListen : Ask → Type 0
 IsListen (Listen address port is_polled) = ⊤
 IsListen ask = ⊥
 
-abbrev pub IsSend : Ask → Type 0
-IsSend (Send peer bytes) = ⊤
-IsSend ask = ⊥
+abbrev pub IsAccept : Ask → Type 0
+IsAccept (Accept ms seconds) = ⊤
+IsAccept ask = ⊥
 
 abbrev pub IsReplace : List ℕ → Ask → Type 0
 IsReplace text (Replace name beside whole) = whole ≡ text
 IsReplace text ask = ⊥
 
-abbrev pub Asks : Stage → Core → Ask → Type 0
-Asks stage.Looking c ask = IsLook ask
-Asks stage.Making c ask = IsMake c.text ask
-Asks stage.Beginning c ask = ask ≡ Begin Contacts
-Asks stage.Keeping c ask = ask ≡ Keep Contacts c.text
-Asks stage.Listening c ask = IsListen ask
-Asks stage.Sending c ask = IsSend ask
-Asks stage.Replacing c ask = IsReplace c.text ask
-Asks stage.Printing c ask = ask ≡ Print c.rows
-Asks s c ask = IsQuiet ask
+abbrev pub AsksAt : Stage → State → Ask → Type 0
+AsksAt stage.Looking s ask = IsLook ask
+AsksAt stage.Making s ask = IsMake s.core.text ask
+AsksAt stage.Beginning s ask = ask ≡ Begin Contacts
+AsksAt stage.Keeping s ask = ask ≡ Keep Contacts s.core.text
+AsksAt stage.Listening s ask = IsListen ask
+AsksAt stage.Accepting s ask = IsAccept ask
+AsksAt stage.Receiving s ask = ask ≡ Receive Client
+AsksAt stage.Sending s ask = ask ≡ Send Client s.talk.out
+AsksAt stage.Leaving s ask = ask ≡ Leave
+AsksAt stage.Replacing s ask = IsReplace s.core.text ask
+AsksAt stage.Printing s ask = ask ≡ Print s.core.rows
+AsksAt st s ask = IsQuiet ask
+
+abbrev pub Asks : State → Ask → Type 0
+Asks s ask = AsksAt s.stage s ask
 
 abbrev pub is_asking_before : Stage → Bool
 is_asking_before stage.Logged = true

@@ -1,7 +1,8 @@
 // The end of a service: the contacts file gets its whole text, the contacts are printed, and what has failed is said.
 
-ghost use Rattle.std.specs.Prelude.{◌≡◌, OnOk};
+ghost use Rattle.std.specs.Prelude.{◌≡◌, true, OnOk};
 ghost use Rattle.services.specs.Sessions as spec;
+ghost use Rattle.services.specs.Serving as serving;
 
 use crate::sessions::Break;
 use crate::{Session, Stage};
@@ -31,6 +32,9 @@ impl Session {
     pub(crate) fn close(&mut self) -> Result<(), AllocError>
         ensures plain { OnOk result (spec.due self.new ≡ self.new.stage) }
         ensures ends { OnOk result (spec.Ends self.new) }
+        ensures talk { self.new.talk ≡ self.old.talk }
+        ensures over { OnOk result (serving.is_over (spec.due self.new) ≡ true) }
+        ensures stands { OnOk result (spec.Stands self.new) }
     {
         if !self.contacts.is_named() {
             return self.print();
@@ -43,6 +47,9 @@ impl Session {
     fn print(&mut self) -> Result<(), AllocError>
         ensures plain { OnOk result (spec.due self.new ≡ self.new.stage) }
         ensures ends { OnOk result (spec.Ends self.new) }
+        ensures talk { self.new.talk ≡ self.old.talk }
+        ensures over { OnOk result (serving.is_over (spec.due self.new) ≡ true) }
+        ensures stands { OnOk result (spec.Stands self.new) }
     {
         self.rows.clear();
         write_contact_rows(&mut self.rows, self.server.ledger())?;
@@ -51,7 +58,10 @@ impl Session {
     }
 
     pub(crate) fn close_on(&mut self, answer: Answer<'_>) -> Result<(), AllocError>
-        ensures { OnOk result (spec.Ends self.new) }
+        ensures ends { OnOk result (spec.Ends self.new) }
+        ensures talk { self.new.talk ≡ self.old.talk }
+        ensures over { OnOk result (serving.is_over (spec.due self.new) ≡ true) }
+        ensures stands { OnOk result (spec.Stands self.new) }
     {
         match (self.stage, answer) {
             (Stage::Replacing, Answer::Done) => self.print(),
@@ -86,7 +96,10 @@ impl Session {
 
     /// All was printed: what has failed is said, and the service ends.
     fn verdict(&mut self) -> Result<(), AllocError>
-        ensures { OnOk result (spec.Ends self.new) }
+        ensures ends { OnOk result (spec.Ends self.new) }
+        ensures talk { self.new.talk ≡ self.old.talk }
+        ensures over { OnOk result (serving.is_over (spec.due self.new) ≡ true) }
+        ensures stands { OnOk result (spec.Stands self.new) }
     {
         let has_failed = self.contacts.has_failed || !self.unwritten.is_empty();
         self.status = match self.broken {

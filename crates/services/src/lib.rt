@@ -6,11 +6,12 @@
 //! - `contacts`: its contacts file
 //! - `relaying`: the session of `watch`; `relay_stages`: where it is; `relays`: what it is to do; `relay_files`: its files; `relay_turns`: its
 //!   turns; `relay_ends`: the end of a connection; `recordings`: the files of its bytes
-//! - `running`: the session with hands that carry its effects out
+//! - `running`: the session with hands that carry its effects out; `laws`: what its server was given
 #![tactic(auto)]
 
 mod closing;
 mod contacts;
+pub mod laws;
 mod preparing;
 mod recordings;
 mod relay_ends;

@@ -3,6 +3,7 @@
 ghost use Rattle.std.specs.Prelude.{◌≡◌, ◌≢◌, if◌then◌else◌, true, false, [], OnOk};
 ghost use Rattle.effects.specs.Effects.{the_reply};
 ghost use Rattle.services.specs.Sessions as spec;
+ghost use Rattle.services.specs.Serving as serving;
 
 use crate::{Session, Stage};
 use effects::Answer;
@@ -22,8 +23,9 @@ impl Session {
 
     /// The log cannot be written, and is left alone.
     pub(crate) fn lose_log(&mut self, next: Stage) -> Result<(), AllocError>
-        ensures { OnOk result (self.new
+        ensures new { OnOk result (self.new
             ≡ record self.old { stage = Stage.Saying; next = next }) }
+        ensures talk { self.new.talk ≡ self.old.talk }
     {
         self.is_logged = false;
         if !self.service.trace {
@@ -37,8 +39,9 @@ impl Session {
 
     /// A file cannot be written, and the service ends before it has begun.
     fn refuse(&mut self, name: &str) -> Result<(), AllocError>
-        ensures { OnOk result (self.new
+        ensures new { OnOk result (self.new
             ≡ record self.old { stage = Stage.Saying; next = Stage.Exiting }) }
+        ensures talk { self.new.talk ≡ self.old.talk }
     {
         let message = format!(in self.alloc; "dme: cannot write {name}\n")?;
         self.status = 1;
@@ -48,8 +51,9 @@ impl Session {
 
     /// The contacts file cannot be written.
     fn refuse_contacts(&mut self) -> Result<(), AllocError>
-        ensures { OnOk result (self.new
+        ensures new { OnOk result (self.new
             ≡ record self.old { stage = Stage.Saying; next = Stage.Exiting }) }
+        ensures talk { self.new.talk ≡ self.old.talk }
     {
         let name = String::from_str(self.alloc, self.contacts.name())?;
         self.refuse(name.as_str())
@@ -70,7 +74,9 @@ impl Session {
     /// What comes before the port is listened on.
     pub(crate) fn prepare(&mut self, answer: Answer<'_>) -> Result<(), AllocError>
         requires { spec.is_preparing self.old.stage ≡ true }
-        ensures { OnOk result (spec.GoesOn self.old (the_reply answer.entry) self.new) }
+        ensures goes { OnOk result (spec.GoesOn self.old (the_reply answer.entry) self.new) }
+        ensures talk { self.new.talk ≡ self.old.talk }
+        ensures rests { OnOk result (spec.Rests self.old.talk self.new) }
     {
         match (self.stage, answer) {
             (Stage::Logged, Answer::Done) => self.stage = self.after_log(),
@@ -92,6 +98,7 @@ impl Session {
             → spec.is_beginning result ≡ true }
         ensures other { self.now.core.grows ≡ false → spec.is_serving result ≡ true }
         ensures kept { result ≢ Stage.Discarding }
+        ensures at { serving.IsFree self.now.talk → serving.IsAt result self.now.talk }
     {
         match (self.contacts.grows, self.contacts.has_more) {
             (true, true) => Stage::SettingAside,
@@ -102,7 +109,9 @@ impl Session {
 
     fn listened(&mut self, answer: Answer<'_>) -> Result<(), AllocError>
         requires { self.old.stage ≡ Stage.Listening }
-        ensures { OnOk result (spec.GoesOn self.old (the_reply answer.entry) self.new) }
+        ensures goes { OnOk result (spec.GoesOn self.old (the_reply answer.entry) self.new) }
+        ensures talk { self.new.talk ≡ self.old.talk }
+        ensures rests { OnOk result (spec.Rests self.old.talk self.new) }
     {
         if let Answer::Done = answer {
             let next = self.after_listening();
@@ -127,7 +136,10 @@ impl Session {
 
     /// The contacts file is as it was, and the service ends.
     fn discarded(&mut self)
-        ensures { spec.Ends self.new }
+        ensures ends { spec.Ends self.new }
+        ensures talk { self.new.talk ≡ self.old.talk }
+        ensures over { serving.is_over (spec.due self.new) ≡ true }
+        ensures stands { spec.Stands self.new }
     {
         self.next = Stage::Exiting;
         self.stage = if self.status == 4 {
@@ -141,6 +153,8 @@ impl Session {
     fn begun(&mut self)
         ensures due { spec.is_serving (spec.due self.new) ≡ true }
         ensures core { self.new.core ≡ record (self.old.core) { text = [] } }
+        ensures talk { self.new.talk ≡ self.old.talk }
+        ensures rests { spec.Rests self.old.talk self.new }
     {
         self.contacts.settle();
         self.stage = self.await_next();
@@ -149,7 +163,11 @@ impl Session {
     /// The contacts file is left as it was, or begins.
     pub(crate) fn begin(&mut self, answer: Answer<'_>) -> Result<(), AllocError>
         requires { spec.is_beginning self.old.stage ≡ true }
-        ensures { OnOk result (spec.GoesOn self.old (the_reply answer.entry) self.new) }
+        ensures goes { OnOk result (spec.GoesOn self.old (the_reply answer.entry) self.new) }
+        ensures talk { self.new.talk ≡ self.old.talk }
+        ensures over { serving.is_over self.old.stage ≡ true
+            → OnOk result (serving.is_over (spec.due self.new) ≡ true) }
+        ensures stands { OnOk result (spec.Stands self.old → spec.Stands self.new) }
     {
         match (self.stage, answer) {
             (Stage::Discarding, _) => self.discarded(),
@@ -173,6 +191,8 @@ impl Session {
     pub(crate) fn lose_contacts(&mut self, answer: Answer<'_>) -> Result<(), AllocError>
         ensures lost { OnOk result (self.new.core.lost ≡ true) }
         ensures due { OnOk result (spec.is_serving (spec.due self.new) ≡ true) }
+        ensures talk { self.new.talk ≡ self.old.talk }
+        ensures stands { OnOk result (spec.Stands self.new) }
     {
         self.contacts.has_failed = true;
         let why = why_unwritten(cause_of(answer));

@@ -1,22 +1,43 @@
 // On a connection: bytes are received, the server works, and its answers are sent.
 
-ghost use Rattle.std.specs.Prelude.{◌≡◌, true, [], OnOk};
+ghost use Rattle.std.specs.Prelude.{◌≡◌, true, false, [], OnOk, OnErr};
 ghost use Rattle.effects.specs.Effects.{the_reply};
 ghost use Rattle.services.specs.Sessions as spec;
+ghost use Rattle.services.specs.Serving as serving;
 
 use crate::sessions::Break;
 use crate::{Session, Stage};
 use byte_ports::{Pieces, Takes};
 use effects::Answer;
 use link_world::{PumpFault, serve_turns};
-use server_core::ServerFault;
+use server_core::{Server, ServerFault};
 use session_telling::{Lapse, Side, stamped};
 use std::alloc::AllocError;
+
+/// Whether a server is on a connection.
+fn is_on(server: &Server) -> bool
+    ensures { result ≡ server.now.end.server.on }
+{
+    let connection = server.view().connection;
+    connection.is_some()
+}
+
+/// A fault of a turn, or else memory has run out, since the ports of a turn meet nothing else.
+fn of_turn(fault: PumpFault<ServerFault>) -> Result<Option<PumpFault<ServerFault>>, AllocError>
+    ensures { OnOk result (serving.IsOfTurn fault) }
+{
+    match fault {
+        PumpFault::Core(_) | PumpFault::TurnsSpent => Ok(Some(fault)),
+        _ => Err(AllocError),
+    }
+}
 
 impl Session {
     /// What comes before bytes are received.
     pub(crate) fn await_bytes(&self) -> Stage
-        ensures { spec.is_serving result ≡ true }
+        ensures serving { spec.is_serving result ≡ true }
+        ensures at { self.now.talk.end.server.on ≡ true → self.now.talk.out ≡ []
+            → serving.IsAt result self.now.talk }
     {
         if self.service.stop.is_some() {
             Stage::Checking
@@ -27,7 +48,9 @@ impl Session {
 
     /// Likewise, once the stop file was looked for.
     fn await_unstopped(&self) -> Stage
-        ensures { spec.is_serving result ≡ true }
+        ensures serving { spec.is_serving result ≡ true }
+        ensures at { self.now.talk.end.server.on ≡ true → self.now.talk.out ≡ []
+            → serving.IsAt result self.now.talk }
     {
         if self.wait.limit.is_some() {
             Stage::Timing
@@ -38,24 +61,30 @@ impl Session {
 
     /// The connection is left.
     fn leave(&mut self)
-        ensures { self.new ≡ record self.old { stage = Stage.Leaving } }
+        ensures { self.new ≡ spec.left self.old }
     {
         self.server.leave();
-        self.is_on = false;
         self.stage = Stage::Leaving;
     }
 
     /// The connection is broken off and left.
     fn fail(&mut self, why: Break)
-        ensures { self.new ≡ record self.old { stage = Stage.Leaving } }
+        ensures { self.new ≡ spec.left self.old }
     {
         self.break_off(why);
         self.leave();
     }
 
+    #[tactic(auto, using(crate::proofs::Served::left_now, crate::proofs::Served::lost_now, crate::proofs::Served::end_stays, crate::proofs::Served::may_stay, crate::proofs::Served::heard_stays))]
     pub(crate) fn receive(&mut self, answer: Answer<'_>) -> Result<(), AllocError>
         requires { spec.is_receiving self.old.stage ≡ true }
-        ensures { OnOk result (spec.GoesOn self.old (the_reply answer.entry) self.new) }
+        ensures goes { OnOk result (spec.GoesOn self.old (the_reply answer.entry) self.new) }
+        ensures served { OnOk result
+            (spec.Brings false self.old (the_reply answer.entry) self.new) }
+        ensures stays { OnOk result (spec.StaysOn self.old (the_reply answer.entry) self.new) }
+        ensures lost { OnErr result
+            (spec.Brings true self.old (the_reply answer.entry) (spec.left self.new)) }
+        ensures stands { OnOk result (spec.Stands self.old → spec.Stands self.new) }
     {
         match (self.stage, answer) {
             (Stage::Checking, Answer::Found) => self.leave(),
@@ -79,6 +108,10 @@ impl Session {
         ensures more { OnOk result (spec.IsMore self.old.core.ledger self.new.core.ledger) }
         ensures core { OnOk result (self.new.core
             ≡ record (self.old.core) { ledger = self.new.core.ledger }) }
+        ensures hears { OnOk result (spec.Hears false self.old.talk piece.now self.new.talk) }
+        ensures goes { OnOk result (serving.GoesOnWith self.old.talk piece.now self.new.talk) }
+        ensures lost { OnErr result (spec.Hears true self.old.talk piece.now
+            (spec.left self.new).talk) }
     {
         let mut source = Pieces::new(self.alloc);
         source.add(piece)?;
@@ -96,31 +129,37 @@ impl Session {
                 self.out.extend_from_slice(sink.taken())?;
                 Ok(None)
             }
-            Err(PumpFault::Memory | PumpFault::WriteFailed) => Err(AllocError),
-            Err(fault) => Ok(Some(fault)),
+            Err(fault) => of_turn(fault),
         }
     }
 
     /// Bytes have come.
+    #[tactic(auto, using(crate::proofs::Served::lost_now, crate::proofs::Served::unheard_now, crate::proofs::Served::on_err, crate::proofs::Served::goes_ok))]
     fn came(&mut self, piece: &[u8]) -> Result<(), AllocError>
-        ensures { OnOk result ((o : spec.Outside) → spec.IsKept self.old.core o
+        ensures kept { OnOk result ((o : spec.Outside) → spec.IsKept self.old.core o
             → spec.Ready (spec.due self.new) self.new.core o) }
+        ensures hears { OnOk result (spec.Hears false self.old.talk piece.now self.new.talk) }
+        ensures goes { OnOk result (serving.GoesOnWith self.old.talk piece.now self.new.talk) }
+        ensures lost { OnErr result (spec.Hears true self.old.talk piece.now
+            (spec.left self.new).talk) }
+        ensures stands { OnOk result (spec.Stands self.new) }
     {
         self.wait.came(piece);
         self.lines.went(Side::Client, piece)?;
         if let Some(fault) = self.work(piece)? {
             self.break_off(Break::Fault(fault));
-            self.is_on = false;
         }
         self.note()
     }
 
     /// What the server has done is to be kept, or its answers are next.
     fn note(&mut self) -> Result<(), AllocError>
-        ensures { OnOk result ((c : spec.Core) (o : spec.Outside)
+        ensures kept { OnOk result ((c : spec.Core) (o : spec.Outside)
             → spec.IsMore c.ledger self.old.core.ledger
             → self.old.core ≡ record c { ledger = self.old.core.ledger } → spec.IsKept c o
             → spec.Ready (spec.due self.new) self.new.core o) }
+        ensures talk { self.new.talk ≡ self.old.talk }
+        ensures stands { OnOk result (spec.Stands self.new) }
     {
         if !self.contacts.is_kept() {
             self.show_worked();
@@ -137,7 +176,8 @@ impl Session {
 
     /// What the server has done since is to be added to the contacts file.
     fn follow(&mut self) -> Result<(), AllocError>
-        ensures { OnOk result (self.new.core ≡ spec.followed self.old.core) }
+        ensures core { OnOk result (self.new.core ≡ spec.followed self.old.core) }
+        ensures talk { self.new.talk ≡ self.old.talk }
     {
         self.contacts.follow(self.server.ledger())
     }
@@ -146,6 +186,8 @@ impl Session {
     fn settle(&mut self)
         ensures due { spec.is_serving (spec.due self.new) ≡ true }
         ensures core { self.new.core ≡ record (self.old.core) { text = [] } }
+        ensures talk { self.new.talk ≡ self.old.talk }
+        ensures stands { spec.Stands self.new }
     {
         self.contacts.settle();
         self.show_worked();
@@ -156,6 +198,8 @@ impl Session {
         requires { spec.is_serving next ≡ true }
         ensures due { spec.is_serving (spec.due self.new) ≡ true }
         ensures core { self.new.core ≡ self.old.core }
+        ensures talk { self.new.talk ≡ self.old.talk }
+        ensures stands { serving.IsAt next self.old.talk → spec.Stands self.new }
     {
         self.shown = self.lines.take();
         self.next = next;
@@ -170,9 +214,10 @@ impl Session {
 
     /// What comes after what the server did is kept.
     pub(crate) fn after_keeping(&self) -> Stage
-        ensures { spec.is_serving result ≡ true }
+        ensures serving { spec.is_serving result ≡ true }
+        ensures at { serving.IsAt result self.now.talk }
     {
-        if !self.is_on {
+        if !is_on(&self.server) {
             Stage::Leaving
         } else if self.out.is_empty() {
             self.await_bytes()
@@ -185,6 +230,8 @@ impl Session {
     fn show_worked(&mut self)
         ensures due { spec.is_serving (spec.due self.new) ≡ true }
         ensures core { self.new.core ≡ self.old.core }
+        ensures talk { self.new.talk ≡ self.old.talk }
+        ensures stands { spec.Stands self.new }
     {
         self.show(self.after_keeping());
     }
@@ -193,6 +240,7 @@ impl Session {
         requires { spec.is_showing self.old.stage ≡ true }
         ensures core { OnOk result (self.new.core ≡ self.old.core) }
         ensures due { OnOk result (spec.due self.new ≡ spec.due self.old) }
+        ensures talk { self.new.talk ≡ self.old.talk }
     {
         match (self.stage, answer) {
             (Stage::Tracing, _) if self.is_logged => self.stage = Stage::Stamping,
@@ -206,18 +254,18 @@ impl Session {
         Ok(())
     }
 
+    #[tactic(auto, using(crate::proofs::Served::left_now, crate::proofs::Served::sent_now, crate::proofs::Served::end_stays, crate::proofs::Served::may_stay))]
     pub(crate) fn answer(&mut self, answer: Answer<'_>) -> Result<(), AllocError>
         requires { spec.is_answering self.old.stage ≡ true }
-        ensures { OnOk result (spec.GoesOn self.old (the_reply answer.entry) self.new) }
+        ensures goes { OnOk result (spec.GoesOn self.old (the_reply answer.entry) self.new) }
+        ensures served { spec.Brings false self.old (the_reply answer.entry) self.new }
+        ensures stays { OnOk result (spec.StaysOn self.old (the_reply answer.entry) self.new) }
+        ensures stands { OnOk result (spec.Stands self.old → spec.Stands self.new) }
     {
         match (self.stage, answer) {
             (Stage::Keeping, Answer::Done) => self.settle(),
             (Stage::Keeping, _) => return self.lose_contacts(answer),
-            (Stage::Sending, Answer::Done) => {
-                self.lines.went(Side::Server, self.out.as_slice())?;
-                self.out.clear();
-                self.show(self.await_bytes());
-            }
+            (Stage::Sending, Answer::Done) => return self.sent(),
             (Stage::Sending, Answer::Nothing) => self.fail(Break::Lapsed(Lapse::Taken)),
             (Stage::Sending, _) => self.fail(Break::Fault(PumpFault::WriteFailed)),
             _ => return self.left(),
@@ -225,10 +273,27 @@ impl Session {
         Ok(())
     }
 
-    fn left(&mut self) -> Result<(), AllocError>
-        ensures { OnOk result (spec.Continues self.old self.new) }
+    /// All that the server had answered was sent.
+    fn sent(&mut self) -> Result<(), AllocError>
+        ensures due { OnOk result (spec.is_serving (spec.due self.new) ≡ true) }
+        ensures core { self.new.core ≡ self.old.core }
+        ensures talk { self.new.talk ≡ record (self.old.talk) { out = [] } }
+        ensures stands { OnOk result (self.old.talk.end.server.on ≡ true
+            → spec.Stands self.new) }
     {
+        let went = self.lines.went(Side::Server, self.out.as_slice());
         self.out.clear();
+        went?;
+        self.show(self.await_bytes());
+        Ok(())
+    }
+
+    fn left(&mut self) -> Result<(), AllocError>
+        ensures goes { OnOk result (spec.Continues self.old self.new) }
+        ensures talk { self.new.talk ≡ self.old.talk }
+        ensures stands { OnOk result (self.old.talk.end.server.on ≡ false
+            → spec.Stands self.new) }
+    {
         let number = self.number;
         if !self.service.progress {
             return self.go_on();

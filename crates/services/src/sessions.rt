@@ -1,8 +1,10 @@
 // A session: what it asks, and what it does with an answer.
 
-ghost use Rattle.std.specs.Prelude.{◌≡◌, true, OnOk, IfOk};
+ghost use Rattle.std.specs.Prelude.{◌≡◌, true, false, OnOk, OnErr, IfOk};
 ghost use Rattle.effects.specs.Effects.{the_ask, the_reply, Reply};
+ghost use Rattle.protocol_model.specs.Ends.{serving_left};
 ghost use Rattle.services.specs.Sessions as spec;
+ghost use Rattle.services.specs.Serving as serving;
 
 use crate::contacts::Contacts;
 use crate::{Service, Stage};
@@ -45,9 +47,8 @@ pub struct Session {
     pub(crate) shown: String,
     pub(crate) is_logged: bool,
     pub(crate) contacts: Contacts,
-    /// The number of the last connection, and whether the server is on it.
+    /// The number of the last connection.
     pub(crate) number: u64,
-    pub(crate) is_on: bool,
     /// Whether it was said that a connection cannot be taken.
     pub(crate) is_told: bool,
     /// What is added to the log, printed at the end, and sent.
@@ -80,13 +81,22 @@ impl Model for Session {
         ledger = s.server.end.server.ledger;
         rows = s.rows.items;
       };
+      talk = record {
+        end = s.server.end;
+        shifts = s.machine;
+        number = s.number;
+        out = s.out.items;
+      };
     } };
 }
 
 impl Session {
     /// A session of this service, whose machine has this setup. Fails only if out of memory.
+    #[tactic(auto, using(crate::proofs::Served::new_served))]
     pub fn new(alloc: Global, service: Service, setup: Setup) -> Result<Session, AllocError>
-        ensures { IfOk result (λ s. spec.Ready (spec.due s) s.core spec.untouched) }
+        ensures ready { IfOk result (λ s. spec.Ready (spec.due s) s.core spec.untouched) }
+        ensures served { IfOk result (λ s. serving.IsServing setup false s.talk serving.no_traffic) }
+        ensures stands { IfOk result (λ s. spec.Stands s) }
     {
         let machine = Simulated::new(alloc, &setup)?;
         let contacts = Contacts::new(alloc, service.contacts.as_deref())?;
@@ -107,7 +117,6 @@ impl Session {
             is_logged,
             contacts,
             number: 0,
-            is_on: false,
             is_told: false,
             text: Vec::new(alloc),
             rows: Vec::new(alloc),
@@ -129,7 +138,7 @@ impl Session {
     /// What is to be done next before a connection.
     fn asks_before(&self) -> Effect<'_>
         requires { spec.is_asking_before self.now.stage ≡ true }
-        ensures { spec.Asks self.now.stage self.now.core (the_ask result) }
+        ensures { spec.Asks self.now (the_ask result) }
     {
         match self.stage {
             Stage::Logged => match &self.service.log {
@@ -156,7 +165,7 @@ impl Session {
 
     fn asks_while(&self) -> Effect<'_>
         requires { spec.is_asking_while self.now.stage ≡ true }
-        ensures { spec.Asks self.now.stage self.now.core (the_ask result) }
+        ensures { spec.Asks self.now (the_ask result) }
     {
         match self.stage {
             Stage::Peeking | Stage::Checking => Effect::Exists(self.service.stop_name()),
@@ -178,7 +187,7 @@ impl Session {
 
     /// What is to be done next.
     pub fn asks(&self) -> Effect<'_>
-        ensures { spec.Asks self.now.stage self.now.core (the_ask result) }
+        ensures { spec.Asks self.now (the_ask result) }
     {
         match self.stage {
             Stage::Logged | Stage::Looking | Stage::Making | Stage::Listening => self.asks_before(),
@@ -197,8 +206,12 @@ impl Session {
     }
 
     /// What came of it. If memory runs out meanwhile, the connection is left, and the service ends.
+    #[tactic(auto, using(crate::proofs::Served::short_serves, crate::proofs::Served::over_stays))]
     pub fn take(&mut self, answer: Answer<'_>)
-        ensures { spec.GoesOn self.old (the_reply answer.entry) self.new }
+        ensures goes { spec.GoesOn self.old (the_reply answer.entry) self.new }
+        ensures served { spec.Serves self.old (the_reply answer.entry) self.new }
+        ensures stays { spec.StaysOn self.old (the_reply answer.entry) self.new }
+        ensures stands { spec.Stands self.old → spec.Stands self.new }
     {
         if self.step(answer).is_err() {
             self.run_short();
@@ -206,7 +219,12 @@ impl Session {
     }
 
     fn step(&mut self, answer: Answer<'_>) -> Result<(), AllocError>
-        ensures { OnOk result (spec.GoesOn self.old (the_reply answer.entry) self.new) }
+        ensures goes { OnOk result (spec.GoesOn self.old (the_reply answer.entry) self.new) }
+        ensures served { OnOk result (spec.Serves self.old (the_reply answer.entry) self.new) }
+        ensures stays { OnOk result (spec.StaysOn self.old (the_reply answer.entry) self.new) }
+        ensures lost { OnErr result
+            (spec.Brings true self.old (the_reply answer.entry) (spec.left self.new)) }
+        ensures stands { OnOk result (spec.Stands self.old → spec.Stands self.new) }
     {
         match self.stage {
             Stage::Logged | Stage::Looking | Stage::Making | Stage::Listening => {
@@ -232,7 +250,10 @@ impl Session {
     /// What was to be said was said.
     fn go_to_next(&mut self)
         requires { self.old.stage ≡ Stage.Saying }
-        ensures { (reply : Reply) → spec.GoesOn self.old reply self.new }
+        ensures goes { (reply : Reply) → spec.GoesOn self.old reply self.new }
+        ensures due { spec.due self.new ≡ spec.due self.old }
+        ensures talk { self.new.talk ≡ self.old.talk }
+        ensures stands { spec.Stands self.old → spec.Stands self.new }
     {
         self.stage = self.next;
     }
@@ -258,7 +279,10 @@ impl Session {
 
     /// Memory has run out before the first connection: the files are left as they were.
     fn give_up(&mut self)
-        ensures { spec.Ends self.new }
+        ensures ends { spec.Ends self.new }
+        ensures talk { self.new.talk ≡ self.old.talk }
+        ensures over { serving.is_over (spec.due self.new) ≡ true }
+        ensures stands { spec.Stands self.new }
     {
         self.tell(OUT_OF_MEMORY, 4);
         if self.contacts.grows {
@@ -266,21 +290,28 @@ impl Session {
         }
     }
 
-    /// Memory has run out while it serves: the connection is left, and the service ends.
+    /// Memory has run out while it serves: the service ends.
     fn give_in(&mut self)
-        ensures { spec.Ends self.new }
+        ensures ends { spec.Ends self.new }
+        ensures talk { self.new.talk ≡ self.old.talk }
+        ensures over { serving.is_over (spec.due self.new) ≡ true }
+        ensures stands { spec.Stands self.new }
     {
-        self.server.leave();
         self.broken = Some(Break::Fault(PumpFault::Memory));
         if self.close().is_err() {
             self.tell(OUT_OF_MEMORY, 4);
         }
     }
 
-    /// Memory has run out. At the end of a service that is said at once.
+    /// Memory has run out: the connection is left. At the end of a service that is said at once.
     fn run_short(&mut self)
-        ensures { spec.Ends self.new }
+        ensures ends { spec.Ends self.new }
+        ensures talk { self.new.talk
+            ≡ record (self.old.talk) { end = serving_left self.old.talk.end } }
+        ensures over { serving.is_over (spec.due self.new) ≡ true }
+        ensures stands { spec.Stands self.new }
     {
+        self.server.leave();
         match self.stage {
             Stage::Logged | Stage::Looking | Stage::Making | Stage::Listening => self.give_up(),
             Stage::Discarding | Stage::SettingAside | Stage::Beginning => self.give_up(),

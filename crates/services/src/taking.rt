@@ -1,7 +1,9 @@
 // Between connections: the next one is taken.
 
-ghost use Rattle.std.specs.Prelude.{◌≡◌, true, OnOk};
+ghost use Rattle.std.specs.Prelude.{◌≡◌, true, false, OnOk};
+ghost use Rattle.effects.specs.Effects.{the_reply, Done};
 ghost use Rattle.services.specs.Sessions as spec;
+ghost use Rattle.services.specs.Serving as serving;
 
 use crate::sessions::Break;
 use crate::{Session, Stage};
@@ -15,7 +17,8 @@ const UNTAKEN: &str = "dme: a connection cannot be taken\n";
 impl Session {
     /// What comes before a connection is taken.
     pub(crate) fn await_next(&self) -> Stage
-        ensures { spec.is_serving result ≡ true }
+        ensures serving { spec.is_serving result ≡ true }
+        ensures at { serving.IsFree self.now.talk → serving.IsAt result self.now.talk }
     {
         if self.service.stop.is_some() {
             Stage::Peeking
@@ -28,6 +31,9 @@ impl Session {
     pub(crate) fn go_on(&mut self) -> Result<(), AllocError>
         ensures plain { OnOk result (spec.due self.new ≡ self.new.stage) }
         ensures goes { OnOk result (spec.Continues self.old self.new) }
+        ensures talk { self.new.talk ≡ self.old.talk }
+        ensures stands { OnOk result (self.old.talk.end.server.on ≡ false
+            → spec.Stands self.new) }
     {
         self.is_told = false;
         if self.number >= u64::from(self.service.connections) {
@@ -37,9 +43,13 @@ impl Session {
         Ok(())
     }
 
+    #[tactic(auto, using(crate::proofs::Served::end_stays, crate::proofs::Served::on_stays))]
     pub(crate) fn take_next(&mut self, answer: Answer<'_>) -> Result<(), AllocError>
         requires { spec.is_taking self.old.stage ≡ true }
-        ensures { OnOk result (spec.Continues self.old self.new) }
+        ensures goes { OnOk result (spec.Continues self.old self.new) }
+        ensures served { spec.Brings false self.old (the_reply answer.entry) self.new }
+        ensures stays { OnOk result (spec.StaysOn self.old (the_reply answer.entry) self.new) }
+        ensures stands { OnOk result (spec.Stands self.old → spec.Stands self.new) }
     {
         match (self.stage, answer) {
             (Stage::Peeking, Answer::Found) => return self.close(),
@@ -60,19 +70,25 @@ impl Session {
     }
 
     /// A connection is taken: the server comes to it.
+    #[tactic(auto, using(crate::proofs::Served::accepted_now, crate::proofs::Served::refused_now))]
     fn taken(&mut self) -> Result<(), AllocError>
-        ensures { OnOk result (spec.Continues self.old self.new) }
+        requires { self.old.stage ≡ Stage.Accepting }
+        ensures goes { OnOk result (spec.Continues self.old self.new) }
+        ensures served { spec.Brings false self.old Done self.new }
+        ensures stays { OnOk result (self.old.talk.end.server.on ≡ true
+            → self.new.talk.end.server.on ≡ true) }
+        ensures stands { OnOk result (spec.Stands self.old → spec.Stands self.new) }
     {
         self.number = self.number.saturating_add(1);
         let number = self.number;
         self.wait = Wait::new(self.wait.limit);
         self.lines.begin(number);
+        self.out.clear();
         if let Err(fault) = self.server.accept(number) {
             self.break_off(Break::Fault(PumpFault::Core(fault)));
             self.stage = Stage::Leaving;
             return Ok(());
         }
-        self.is_on = true;
         let next = self.await_bytes();
         if self.service.progress {
             let message = format!(in self.alloc; "connection {number} taken\n")?;

@@ -1,4 +1,6 @@
 use Rattle.run_opening.proofs.Names.{[], ◌≡◌, false, is_some, IsLookedAt, Leads, None, rules, Some, State, subst}
+use Rattle.std.proofs.Common.{map}
+use Rattle.run_opening.specs.Naming.{seen_of}
 use Rattle.run_opening.proofs.Beginnings.{none_leads, on_ok, some_leads}
 use Rattle.run_opening.proofs.openings.Opening.continue_record.Goals as goal
 
@@ -12,6 +14,7 @@ returns-in-Some c =
       stage = c.self.inside.stage;
       text = c.self.inside.text.items;
       status = c.self.inside.status;
+      called = map seen_of c.self.inside.called.items;
       core = record {
         order = c.self.inside.order;
         setup = c.self.inside.setup;
@@ -34,6 +37,7 @@ returns-in-None c =
       stage = c.self.inside.stage;
       text = c.self.inside.text.items;
       status = c.self.inside.status;
+      called = map seen_of c.self.inside.called.items;
       core = record {
         order = c.self.inside.order;
         setup = c.self.inside.setup;

@@ -1,4 +1,6 @@
 use Rattle.run_opening.proofs.Names.{◌≡◌, ap, rules, Some, State}
+use Rattle.std.proofs.Common.{map}
+use Rattle.run_opening.specs.Naming.{seen_of}
 use Rattle.run_opening.proofs.Beginnings.{filled_leads, on_ok}
 use Rattle.run_opening.proofs.openings.Opening.take_beginning.Goals as goal
 
@@ -10,6 +12,7 @@ returns c =
       stage = c.self.inside.stage;
       text = c.self.inside.text.items;
       status = c.self.inside.status;
+      called = map seen_of c.self.inside.called.items;
       core = record {
         order = c.self.inside.order;
         setup = c.self.inside.setup;
