@@ -31,7 +31,7 @@ _dme()
         run) options="--setup --host --port --window --features --record --part --contacts --progress --trace --log --timeout --wait --stop --confirm --pause --explain" ;;
         export) options="--as --setup --features --record --limits --explain" ;;
         review) options="--as --setup" ;;
-        lower) options="--setup --no-clearing --compensated --skip-manual --explain" ;;
+        lower) options="--setup --no-clearing --compensated --skip-manual --stored-frames --explain" ;;
         ledger) options="--up --down --connection" ;;
         judge) options="--up --down" ;;
         watch) options="--listen --host --port --told --record-bytes --connections --endless --trace --log --timeout" ;;

@@ -122,6 +122,7 @@ fn lower(rt: HostRuntime, order: Lower) -> Result<u8, AllocError> {
         no_clearing: order.no_clearing,
         compensated: order.compensated,
         skip_manual: order.skip_manual,
+        stored_frames: order.stored_frames,
     };
     let (name, setup_name) = (order.program.clone()?, order.setup.clone()?);
     let names = SourceNames {

@@ -96,7 +96,7 @@ relayed words none = level_has (leaf watch_line) words refl
 
 lowered : (words : List Text) → level_fault (leaf lower_line) [] nothing_held words false [] ≡ [] → Has lower_line (rows_after (leaf lower_line).rules [] words)
 lowered words none = level_has (leaf lower_line) words refl
-    ((refl, inl (refl, refl)), ((refl, inr (inl (refl, omega arith))), ((refl, inr (inl (refl, omega arith))), ((refl, inr (inl (refl, omega arith))), ((refl, inr (inl (refl, omega arith))), ((refl, inl (refl, refl)), ((refl, inr (inr refl)), tt)))))))
+    ((refl, inl (refl, refl)), ((refl, inr (inl (refl, omega arith))), ((refl, inr (inl (refl, omega arith))), ((refl, inr (inl (refl, omega arith))), ((refl, inr (inl (refl, omega arith))), ((refl, inr (inl (refl, omega arith))), ((refl, inl (refl, refl)), ((refl, inr (inr refl)), tt))))))))
     none
 
 -- each subcommand of `dme` may be asked for, and `help` was not met

@@ -115,10 +115,10 @@ watch_line = line_of (codes "watch") (listened_rule ∷ needed_rule (codes "host
     ∷ text_rule (codes "record-bytes") ∷ connections_rule (codes "4000000000") ∷ flag_rule (codes "endless") ∷ flag_rule (codes "trace") ∷ text_rule (codes "log")
     ∷ text_rule (codes "timeout") ∷ [])
 
--- `lower [--setup FILE] [--no-clearing] [--compensated] [--skip-manual] [--explain] [PROGRAM]`
+-- `lower [--setup FILE] [--no-clearing] [--compensated] [--skip-manual] [--stored-frames] [--explain] [PROGRAM]`
 abbrev pub lower_line : App
 lower_line = line_of (codes "lower") (text_rule (codes "setup") ∷ flag_rule (codes "no-clearing") ∷ flag_rule (codes "compensated")
-    ∷ flag_rule (codes "skip-manual") ∷ flag_rule (codes "explain") ∷ program_rule ∷ [])
+    ∷ flag_rule (codes "skip-manual") ∷ flag_rule (codes "stored-frames") ∷ flag_rule (codes "explain") ∷ program_rule ∷ [])
 
 -- the command without its subcommands, of which one is required
 abbrev pub bare_line : App

@@ -242,7 +242,8 @@ IsWatchOf rows o =
 abbrev pub IsLowerOf : List Row → Lower → Type 0
 IsLowerOf rows o =
     IsMaybeOf (codes "setup") rows (option_map string_bytes o.setup) × IsFlagOf (codes "no-clearing") rows o.no_clearing
-    × IsFlagOf (codes "compensated") rows o.compensated × IsFlagOf (codes "skip-manual") rows o.skip_manual × IsExplainedOf rows o.explain
+    × IsFlagOf (codes "compensated") rows o.compensated × IsFlagOf (codes "skip-manual") rows o.skip_manual
+    × IsFlagOf (codes "stored-frames") rows o.stored_frames × IsExplainedOf rows o.explain
     × IsProgramOf rows (string_bytes o.program)
 
 -- the order of a subcommand with its values, by its name

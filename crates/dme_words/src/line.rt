@@ -161,6 +161,8 @@ const COMPENSATED_HELP: &str = "Says that the machine corrects for temperature";
 
 const SKIP_MANUAL_HELP: &str = "Leaves out what the operator would measure, from MODE/MAN on";
 
+const STORED_FRAMES_HELP: &str = "Takes the frames of the setup for the alignments of their names";
+
 const PROGRAM_HELP: &str = "The DMIS program; - is standard input";
 
 const SETUP: Argument = Text("setup", "FILE", SETUP_HELP);
@@ -338,6 +340,7 @@ const LATER_LINES: [Line; 7] = [
             Flag("no-clearing", NO_CLEARING_HELP),
             Flag("compensated", COMPENSATED_HELP),
             Flag("skip-manual", SKIP_MANUAL_HELP),
+            Flag("stored-frames", STORED_FRAMES_HELP),
             EXPLAIN,
             PROGRAM,
         ],

@@ -289,6 +289,8 @@ pub struct Lower {
     pub compensated: bool,
     /// Whether what the operator would measure is left out.
     pub skip_manual: bool,
+    /// Whether alignments select the stored frames of their names.
+    pub stored_frames: bool,
     /// Whether a line that is refused is shown, with what is wrong with it.
     pub explain: bool,
     /// The file of the program; `-` is standard input.

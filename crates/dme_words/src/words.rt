@@ -635,6 +635,7 @@ fn lower_order(alloc: Global, values: &ArgMatches) -> Result<Lower, AllocError>
         no_clearing: flag_of(values, "no-clearing"),
         compensated: flag_of(values, "compensated"),
         skip_manual: flag_of(values, "skip-manual"),
+        stored_frames: flag_of(values, "stored-frames"),
         explain: flag_of(values, "explain"),
         program: copied_program(alloc, values)?,
     })

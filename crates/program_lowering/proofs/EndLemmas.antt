@@ -6,42 +6,63 @@ use Rattle.program_lowering.proofs.Names.{Step, step, subst, sym, text_reading, 
 use Rattle.dmis_text.specs.declared.reading.TextFault.TheVariants as text_fault
 use Rattle.dmis_program.specs.Meaning.{ended, meaning_of}
 use Rattle.dmis_program.specs.declared.faults.ProgramFault.{ProgramFault}
+use Rattle.dmis_program.specs.declared.faults.ProgramFault.TheVariants as program
+use Rattle.std.specs.Prelude.{IfErr}
+use Rattle.program_lowering.proofs.Names.{IfOk}
 use Rattle.dmis_program.specs.declared.faults.StatementFault.{StatementFault}
 use Rattle.dmis_program.specs.declared.faults.StatementFault.TheVariants as faults
 use Rattle.program_lowering.proofs.RunLemmas.{run_from_start, with_texts}
 use Rattle.program_lowering.proofs.Runs.{Written, run, steps_up_to}
 use Rattle.program_lowering.specs.declared.lowering.Lowered.{Lowered}
 use Rattle.program_lowering.specs.Inches.{all_stated}
+use Rattle.program_lowering.proofs.Names.{◌++◌}
+use Rattle.program_lowering.specs.Carried.{frames_closed}
+use Rattle.program_lowering.specs.StoredFrames.{frame_notes, if_stored}
 
 -- all of a text
 abbrev pub run_of : List (List ℕ × Point) → Choices → List ℕ → Result Written (Refusal × ℕ)
 run_of frames choices text = run frames choices (text_reading text).fault (length (lines text)) (text_reading text).statements nothing_carried
 
-record HasTexts (r : Result (List Step) (Refusal × ℕ)) (text notes : List ℕ) (w : Written) : Type 0 where
+record HasTexts (r : Result (List Step) (Refusal × ℕ)) (text notes about : List ℕ) (w : Written) : Type 0 where
   steps : List Step
   is : r ≡ Ok steps
   text_is : w.text ≡ text
   notes_are : w.notes ≡ notes
+  frames_are : w.frames ≡ about
 
-has_texts : (r : Result (List Step) (Refusal × ℕ)) (text notes : List ℕ) (w : Written) → with_texts r text notes ≡ Ok w → HasTexts r text notes w
-has_texts (Ok steps) text notes w h =
-    let same : record { text = text; notes = notes } ≡ w = cc in
-    record { steps = steps; is = refl; text_is = ap (λ (v : Written). v.text) (sym same); notes_are = ap (λ (v : Written). v.notes) (sym same) }
-has_texts (Err e) text notes w h = absurd cc
+has_texts : (r : Result (List Step) (Refusal × ℕ)) (text notes about : List ℕ) (w : Written) → with_texts r text notes about ≡ Ok w
+    → HasTexts r text notes about w
+has_texts (Ok steps) text notes about w h =
+    let same : record { text = text; notes = notes; frames = about } ≡ w = cc in
+    record {
+      steps = steps;
+      is = refl;
+      text_is = ap (λ (v : Written). v.text) (sym same);
+      notes_are = ap (λ (v : Written). v.notes) (sym same);
+      frames_are = ap (λ (v : Written). v.frames) (sym same);
+    }
+has_texts (Err e) text notes about w h = absurd cc
 
-has_refusal : (r : Result (List Step) (Refusal × ℕ)) (text notes : List ℕ) (e : Refusal × ℕ) → with_texts r text notes ≡ Err e → meant r ≡ Err e
-has_refusal (Ok steps) text notes e h = absurd cc
-has_refusal (Err refusal) text notes e h = cc
+has_refusal : (r : Result (List Step) (Refusal × ℕ)) (text notes about : List ℕ) (e : Refusal × ℕ) → with_texts r text notes about ≡ Err e
+    → meant r ≡ Err e
+has_refusal (Ok steps) text notes about e h = absurd cc
+has_refusal (Err refusal) text notes about e h = cc
 
 pub written_of : (frames : List (List ℕ × Point)) (choices : Choices) (text : List ℕ) (w : Written) → run_of frames choices text ≡ Ok w
-    → AreLines frames choices text w.text w.notes
+    → AreLines frames choices text w.text (w.notes ++ if_stored choices w.frames)
 unfolding meaning_of
 written_of frames choices text w h =
     let statements = (text_reading text).statements in
     let t = has_texts (steps_up_to frames (text_reading text).fault (length (lines text)) [] (all_stated [] (kept choices statements)))
-    (ended_lines (flat_lines (all_stated [] (kept choices statements)))) (notes_from choices [] statements) w
+    (ended_lines (flat_lines (all_stated [] (kept choices statements)))) (notes_from choices [] statements)
+    (frame_notes (all_stated [] (kept choices statements))) w
     (sym (run_from_start frames choices (text_reading text).fault (length (lines text)) statements) ∙ h) in
-    record { meaning = meaning_with t.steps; accepted = ap meant t.is; flat = t.text_is; notes_are = t.notes_are }
+    record {
+      meaning = meaning_with t.steps;
+      accepted = ap meant t.is;
+      flat = t.text_is;
+      notes_are = rw (t.notes_are, t.frames_are) refl;
+    }
 
 pub refused_of : (frames : List (List ℕ × Point)) (choices : Choices) (text : List ℕ) (e : Refusal × ℕ) → run_of frames choices text ≡ Err e
     → lowered_meaning frames choices text ≡ Err e
@@ -49,7 +70,8 @@ unfolding meaning_of
 refused_of frames choices text e h =
     let statements = (text_reading text).statements in
     has_refusal (steps_up_to frames (text_reading text).fault (length (lines text)) [] (all_stated [] (kept choices statements)))
-    (ended_lines (flat_lines (all_stated [] (kept choices statements)))) (notes_from choices [] statements) e
+    (ended_lines (flat_lines (all_stated [] (kept choices statements)))) (notes_from choices [] statements)
+    (frame_notes (all_stated [] (kept choices statements))) e
     (sym (run_from_start frames choices (text_reading text).fault (length (lines text)) statements) ∙ h)
 
 -- one statement more, by what the code gives at it
@@ -60,7 +82,7 @@ goes_past frames choices fault n s all left c d split e = rw (split, e) refl
 
 pub closes_at : (frames : List (List ℕ × Point)) (choices : Choices) (fault : Option TextFault) (n : ℕ) (s : Statement) (all left : List Statement)
     (c d : Carried) → all ≡ s ∷ left → step frames choices c s ≡ Ok (true, d)
-    → run frames choices fault n all c ≡ Ok (record { text = d.text; notes = d.notes })
+    → run frames choices fault n all c ≡ Ok (record { text = d.text; notes = d.notes; frames = frames_closed d.frames d.since })
 closes_at frames choices fault n s all left c d split e = rw (split, e) refl
 
 pub refused_at_statement : (frames : List (List ℕ × Point)) (choices : Choices) (fault : Option TextFault) (n : ℕ) (s : Statement)
@@ -112,3 +134,16 @@ pub at_error : (frames : List (List ℕ × Point)) (choices : Choices) (text : L
 at_error frames choices text u c (Ok lines) f is due same = absurd is
 at_error frames choices text u c (Err given) f is due same =
     subst (λ (g : ProgramFault). GivesLines frames choices text (Err g)) (sym (is ∙ due.1)) (at_fault frames choices text due.0 u c due.2 same)
+
+-- where the program ends
+pub finished : (frames : List (List ℕ × Point)) (choices : Choices) (source text notes : List ℕ) (r : Result Lowered ProgramFault)
+    → AreLines frames choices source text notes → IfOk r (λ (lowered : Lowered). lowered.text.items ≡ text)
+    → IfOk r (λ (lowered : Lowered). lowered.notes.items ≡ notes) → IfErr r (λ (fault : ProgramFault). fault ≡ program.Memory)
+    → GivesLines frames choices source r
+finished frames choices source text notes (Ok lowered) h t n e = record {
+  meaning = h.meaning;
+  accepted = h.accepted;
+  flat = t ∙ h.flat;
+  notes_are = n ∙ h.notes_are;
+}
+finished frames choices source text notes (Err fault) h t n e = rw e tt

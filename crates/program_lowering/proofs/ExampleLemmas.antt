@@ -1,11 +1,18 @@
 -- The examples, computed.
 use Rattle.program_lowering.proofs.Names.{[], ◌++◌, ◌∷◌, ◌≡◌, ◌≤◌, arith, as_read, BadByte, codes, decimal, false, flat, flat_line, flat_meant}
 use Rattle.program_lowering.proofs.Names.{flat_text, is_operator_text, left_out, length, length-append, length-decimal-le, nat_lt, nat_tests, None}
-use Rattle.program_lowering.proofs.Names.{Ok, passed_over, Passes, refl, Some, text_refusal, true}
+use Rattle.program_lowering.proofs.Names.{map, Ok, passed_over, Passes, refl, Some, text_refusal, true}
 use Rattle.std.specs.Option.{option_map}
 use Rattle.dmis_program.specs.Keywords.{keyword_of}
-use Rattle.program_lowering.specs.Examples.{all_choices, bare, first_by_hand, manual_front, measured, mode_man, mode_prog, plain_choices, start, to_operator}
+use Rattle.program_lowering.specs.Examples.{all_choices, bare, first_by_hand, make_b, manual_front, measured, mode_man, mode_prog}
+use Rattle.program_lowering.specs.Examples.{naming_a, naming_none, of_setup, plain_choices, recall_a, saving, start, to_operator, two_frames}
 use Rattle.program_lowering.specs.Lowering.{kept}
+use Rattle.program_lowering.specs.StoredFrames.{by_frame, frame_note, frame_notes}
+use Rattle.dmis_program.specs.LookBack.{frame_said, nearest}
+use Rattle.dmis_program.specs.Parameters.{name_within}
+use Rattle.dmis_program.specs.Positions.{position_of}
+use Rattle.dmis_program.specs.Sayings.{said_by, said_of}
+use Rattle.program_lowering.proofs.Names.{Recalls}
 use Rattle.program_lowering.specs.Manual.{in_manual, is_skipped}
 use Rattle.program_lowering.specs.declared.words.Reason.TheVariants as reason
 use Rattle.program_lowering.specs.Inches.{in_inches, stated}
@@ -143,3 +150,40 @@ manual_looped = refl
 pub manual_open : is_skipped true (bare (codes "GOTO") (codes "'A" ∷ [])) ≡ false
 unfolding keyword_of
 manual_open = refl
+
+pub frames_selecting : map (by_frame all_choices) naming_a ≡ recall_a ∷ recall_a ∷ recall_a ∷ recall_a ∷ []
+unfolding keyword_of name_within
+frames_selecting = refl
+
+pub frames_unasked : map (by_frame plain_choices) naming_a ≡ naming_a
+unfolding keyword_of name_within
+frames_unasked = refl
+
+pub frames_others : map (by_frame all_choices) naming_none ≡ naming_none
+unfolding keyword_of name_within
+frames_others = refl
+
+pub frames_setup : map (left_out all_choices) of_setup ≡ Some reason.Stored ∷ Some reason.Stored ∷ Some reason.Stored ∷ []
+unfolding keyword_of
+frames_setup = refl
+
+pub frames_setup_unasked : map (left_out plain_choices) of_setup ≡ None ∷ None ∷ None ∷ []
+unfolding keyword_of
+frames_setup_unasked = refl
+
+pub frames_saved : map (left_out all_choices) saving ≡ None ∷ None ∷ []
+unfolding keyword_of
+frames_saved = refl
+
+pub frame_nearest : nearest frame_said (make_b ∷ recall_a ∷ []) ≡ Some (codes "B")
+unfolding keyword_of name_within said_of said_by position_of
+frame_nearest = refl
+
+pub frame_before : nearest frame_said (recall_a ∷ make_b ∷ recall_a ∷ []) ≡ Some (codes "A")
+unfolding keyword_of name_within said_of said_by position_of
+frame_before = refl
+
+pub frames_listed : frame_notes two_frames
+    ≡ frame_note 1 (Ok (Recalls (codes "A"))) 2 ++ (frame_note 1 (Ok (Recalls (codes "B"))) 1 ++ [])
+unfolding keyword_of name_within said_of said_by position_of
+frames_listed = refl

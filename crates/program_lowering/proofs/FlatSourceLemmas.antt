@@ -7,7 +7,10 @@ use Rattle.program_lowering.specs.Manual.{is_manual, is_mode}
 use Rattle.program_lowering.specs.declared.words.Reason.TheVariants.{Manual}
 use Rattle.program_lowering.proofs.AboveLemmas.{accepted_if}
 use Rattle.program_lowering.proofs.RunLemmas.{accepted_known}
-use Rattle.program_lowering.proofs.ReadBackLemmas.{meant_steps}
+use Rattle.program_lowering.proofs.ReadBackLemmas.{by_tests, meant_steps}
+use Rattle.program_lowering.proofs.FrameLemmas.{no_text}
+use Rattle.program_lowering.proofs.Names.{◌==◌, bound_count, bound_said, is_unsupported, length, nearest, not}
+use Rattle.program_lowering.specs.StoredFrames.{by_frame, named_frame, selecting, stored_frame}
 use Rattle.program_lowering.proofs.Runs.{steps_up_to}
 use Rattle.std.proofs.Common.{codes, ◌∙◌}
 use Rattle.std.specs.Str.{bytes_eq}
@@ -69,6 +72,30 @@ by_mode s word.Unknown m h = refl
 record IsCounted (choices : Choices) (aboves : List Statement) (s : Statement) : Type 0 where
   mode : in_manual (s ∷ aboves) ≡ false
   stays : left_out_at choices aboves s ≡ None
+  same : by_frame choices s ≡ s
+
+-- and no frame is selected but by `RECALL/D`
+none_named : (k : Keyword) (s : Statement) (first : Bool) → is_unknown k ≡ false → is_unsupported first k s.params ≡ false → named_frame k s ≡ None
+none_named word.Recall s first h g = rw g refl
+none_named word.Unknown s first h g = absurd cc
+none_named word.Dmismn s first h g = refl
+none_named word.Goto s first h g = refl
+none_named word.Meas s first h g = refl
+none_named word.Ptmeas s first h g = refl
+none_named word.Endmes s first h g = refl
+none_named word.Snslct s first h g = refl
+none_named word.Endfil s first h g = refl
+none_named word.Units s first h g = refl
+none_named word.Mode s first h g = refl
+none_named word.Definition s first h g = refl
+none_named word.Passed s first h g = refl
+
+same_statement : (choices : Choices) (s : Statement) → named_frame (keyword_of s.word) s ≡ None → by_frame choices s ≡ s
+same_statement choices s h = go (choices.stored_frames && not (has_open_text s))
+  where
+    go : (b : Bool) → selecting (cond b (named_frame (keyword_of s.word) s) None) s ≡ s
+    go true = rw h refl
+    go false = refl
 
 no_manual : (a : Bool) (o : Option Reason) → cond (a && false) (Some Manual) o ≡ o
 no_manual true o = refl
@@ -79,7 +106,13 @@ counted : (frames : List (List ℕ × Point)) (choices : Choices) (aboves : List
 counted frames choices aboves s m above e =
     let a = accepted_if frames (context_at frames aboves) s m e in
     let here : in_manual (s ∷ aboves) ≡ false = ap (λ (b : Bool). manual_after b s) above ∙ by_mode s (keyword_of s.word) m a.says in
-    record { mode = here; stays = go aboves here (accepted_known frames (context_at frames aboves) s m a) }
+    let known = accepted_known frames (context_at frames aboves) s m a in
+    let tests = by_tests (length aboves) (bound_count (nearest bound_said aboves)) (keyword_of s.word) s.params a.known in
+    record {
+      mode = here;
+      stays = go aboves here known;
+      same = same_statement choices s (none_named (keyword_of s.word) s (length aboves == 0) known tests.second);
+    }
   where
     go : (aboves : List Statement) → in_manual (s ∷ aboves) ≡ false → is_unknown (keyword_of s.word) ≡ false → left_out_at choices aboves s ≡ None
     go [] here known = refl
@@ -95,7 +128,7 @@ by_judged : (frames : List (List ℕ × Point)) (choices : Choices) (fault : Opt
 by_judged frames choices fault lines aboves s below steps (Err refusal) e above behind h = absurd cc
 by_judged frames choices fault lines aboves s below steps (Ok m) e above behind h =
     let c = counted frames choices aboves s m above e in
-    rw (c.stays, e) (same_front (closes m) (steps_of frames (context_at frames aboves) m) (steps_from frames fault lines (s ∷ aboves) below)
+    rw (c.stays, c.same, e) (same_front (closes m) (steps_of frames (context_at frames aboves) m) (steps_from frames fault lines (s ∷ aboves) below)
     (steps_from frames fault lines (s ∷ aboves) (kept_below choices (s ∷ aboves) below)) steps (λ more g. behind more c.mode g) h)
 
 all_kept : (frames : List (List ℕ × Point)) (choices : Choices) (fault : Option TextFault) (lines : ℕ) (aboves below : List Statement)
@@ -119,8 +152,13 @@ kept_fits : (choices : Choices) (above statements : List Statement) → Fit stat
 kept_fits choices above [] h = tt
 kept_fits choices above (s ∷ statements) h = go (left_out_at choices above s) (kept_fits choices (s ∷ above) statements h.1)
   where
-    go : (o : Option Reason) → Fit (kept_below choices (s ∷ above) statements) → Fit (unless_left_out o s ++ kept_below choices (s ∷ above) statements)
-    go None rest = (h.0, rest)
+    fits : (o : Option (List ℕ)) → text_refusal (selecting o s) ≡ None
+    fits None = h.0
+    fits (Some name) = no_text name s
+
+    go : (o : Option Reason) → Fit (kept_below choices (s ∷ above) statements)
+        → Fit (unless_left_out o (by_frame choices s) ++ kept_below choices (s ∷ above) statements)
+    go None rest = (fits (stored_frame choices s), rest)
     go (Some reason) rest = rest
 
 -- a unit that is accepted is the millimetre

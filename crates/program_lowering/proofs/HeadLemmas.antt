@@ -74,18 +74,26 @@ digest_clean : (text : List ℕ) → clean (encode_lower (sha256 text)) ≡ true
 digest_clean text = digits_clean (sha256 text) (digest_is_low text)
 
 options_clean : (choices : Choices) → (clean (options_text choices) ≡ true) × (length (options_text choices) ≤ 100)
-options_clean choices = go choices.no_clearing choices.compensated choices.skip_manual
+options_clean choices = go choices.no_clearing choices.compensated choices.skip_manual choices.stored_frames
   where
-    go : (a b c : Bool) → let text = or_none (option_text a (codes " --no-clearing") ++ (option_text b (codes " --compensated")
-        ++ option_text c (codes " --skip-manual"))) in (clean text ≡ true) × (length text ≤ 100)
-    go true true true = (refl, omega arith)
-    go true true false = (refl, omega arith)
-    go true false true = (refl, omega arith)
-    go true false false = (refl, omega arith)
-    go false true true = (refl, omega arith)
-    go false true false = (refl, omega arith)
-    go false false true = (refl, omega arith)
-    go false false false = (refl, omega arith)
+    go : (a b c d : Bool) → let text = or_none (option_text a (codes " --no-clearing") ++ (option_text b (codes " --compensated")
+        ++ (option_text c (codes " --skip-manual") ++ option_text d (codes " --stored-frames")))) in (clean text ≡ true) × (length text ≤ 100)
+    go true true true true = (refl, omega arith)
+    go true true true false = (refl, omega arith)
+    go true true false true = (refl, omega arith)
+    go true true false false = (refl, omega arith)
+    go true false true true = (refl, omega arith)
+    go true false true false = (refl, omega arith)
+    go true false false true = (refl, omega arith)
+    go true false false false = (refl, omega arith)
+    go false true true true = (refl, omega arith)
+    go false true true false = (refl, omega arith)
+    go false true false true = (refl, omega arith)
+    go false true false false = (refl, omega arith)
+    go false false true true = (refl, omega arith)
+    go false false true false = (refl, omega arith)
+    go false false false true = (refl, omega arith)
+    go false false false false = (refl, omega arith)
 
 -- a comment of a front and what follows it
 comment : (front rest : List ℕ) → clean front ≡ true → length front ≤ 100 → clean rest ≡ true → length rest ≤ 1000

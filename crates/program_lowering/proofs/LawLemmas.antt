@@ -11,6 +11,9 @@ use Rattle.program_lowering.proofs.LineCounts.{lines_few}
 use Rattle.program_lowering.proofs.ReadBackLemmas.{HasShortLine, acts_back, reads_back}
 use Rattle.program_lowering.proofs.RunLemmas.{ended_append}
 use Rattle.program_lowering.specs.Inches.{all_stated}
+use Rattle.program_lowering.specs.StoredFrames.{by_frame}
+use Rattle.program_lowering.proofs.FrameLemmas.{same_line}
+use Rattle.program_lowering.proofs.Names.{subst}
 use Rattle.program_lowering.proofs.Names.{◌&&◌, Bool, cond, false, has_open_text, in_manual, is_skipped, keyword_of, left_out, refl, true}
 use Rattle.program_lowering.specs.declared.words.Reason.TheVariants.{Manual}
 use Rattle.dmis_program.specs.declared.keywords.Keyword.TheVariants as word
@@ -26,8 +29,8 @@ kept_short choices above [] h = tt
 kept_short choices above (s ∷ statements) h = go (left_out_at choices above s) (kept_short choices (s ∷ above) statements h.1)
   where
     go : (o : Option Reason) → AllByRecursion HasShortLine (kept_below choices (s ∷ above) statements)
-        → AllByRecursion HasShortLine (unless_left_out o s ++ kept_below choices (s ∷ above) statements)
-    go None rest = (h.0, rest)
+        → AllByRecursion HasShortLine (unless_left_out o (by_frame choices s) ++ kept_below choices (s ∷ above) statements)
+    go None rest = (subst (λ (n : ℕ). n < 2 ^ 64) (sym (same_line choices s)) h.0, rest)
     go (Some reason) rest = rest
 
 stated_short : (sources statements : List Statement) → AllByRecursion HasShortLine statements → AllByRecursion HasShortLine (all_stated sources statements)

@@ -11,6 +11,7 @@ pub mod SaidLemmas
 pub mod FlatLemmas
 pub mod TextLemmas
 pub mod StatedLemmas
+pub mod FrameLemmas
 pub mod ReadBackLemmas
 pub mod FlatSourceLemmas
 pub mod LawLemmas

@@ -109,17 +109,17 @@ similar_passed aboves flats s h some e =
     record { tool = h.tool; frame = h.frame; bound = h.bound; touched_is = h.touched_is })
 
 -- of three tests none refuses
-record NoneRefuses (a b : Bool) (o : Option Refusal) : Type 0 where
-  first : a ≡ false
-  second : b ≡ false
-  third : o ≡ None
+pub record NoneRefuses (a b : Bool) (o : Option Refusal) : Type 0 where
+  pub first : a ≡ false
+  pub second : b ≡ false
+  pub third : o ≡ None
 
 none_refuses : (a b : Bool) (x y : Refusal) (o : Option Refusal) → cond a (Some x) (cond b (Some y) o) ≡ None → NoneRefuses a b o
 none_refuses true b x y o h = absurd cc
 none_refuses false true x y o h = absurd cc
 none_refuses false false x y o h = record { first = refl; second = refl; third = h }
 
-by_tests : (n : ℕ) (wanted : Option ℕ) (keyword : Keyword) (params : List (List ℕ)) → word_refusal n wanted keyword params ≡ None
+pub by_tests : (n : ℕ) (wanted : Option ℕ) (keyword : Keyword) (params : List (List ℕ)) → word_refusal n wanted keyword params ≡ None
     → NoneRefuses ((n == 0) && not (is_start keyword)) (is_unsupported (n == 0) keyword params) (misplaced keyword wanted)
 by_tests n wanted keyword params h = none_refuses ((n == 0) && not (is_start keyword)) (is_unsupported (n == 0) keyword params) NotDmis Unsupported
     (misplaced keyword wanted) h

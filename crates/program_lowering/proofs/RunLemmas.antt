@@ -16,6 +16,9 @@ use Rattle.program_lowering.proofs.StatedLemmas.{closes_nothing, flat_same, note
 use Rattle.program_lowering.proofs.Names.{in_manual, is_skipped, kept_below, left_out_at, left_out_in, manual_after, measures}
 use Rattle.program_lowering.specs.declared.words.Reason.TheVariants.{Manual}
 use Rattle.std.proofs.Common.{◌⊎◌, inl, inr}
+use Rattle.program_lowering.specs.Carried.{judged_next}
+use Rattle.program_lowering.specs.StoredFrames.{by_frame, frame_notes, touches_until}
+use Rattle.program_lowering.proofs.FrameLemmas.{frames_then, frames_with, last_is, next_is, same_end, same_line, same_mode}
 
 -- lines with their ends, one list after the other
 pub ended_append : (xs ys : List (List ℕ)) → ended_lines (xs ++ ys) ≡ ended_lines xs ++ ended_lines ys
@@ -24,14 +27,14 @@ ended_append (x ∷ xs) ys = ap (λ (rest : List ℕ). (x ++ 10 ∷ []) ++ rest)
     ∙ sym (append_assoc (x ++ 10 ∷ []) (ended_lines xs) (ended_lines ys))
 
 -- a verdict with these texts, where there is no refusal
-abbrev pub with_texts : Result (List Step) (Refusal × ℕ) → List ℕ → List ℕ → Result Written (Refusal × ℕ)
-with_texts (Ok steps) text notes = Ok (record { text = text; notes = notes })
-with_texts (Err e) text notes = Err e
+abbrev pub with_texts : Result (List Step) (Refusal × ℕ) → List ℕ → List ℕ → List ℕ → Result Written (Refusal × ℕ)
+with_texts (Ok steps) text notes about = Ok (record { text = text; notes = notes; frames = about })
+with_texts (Err e) text notes about = Err e
 
-with_texts_front : (front : List Step) (r : Result (List Step) (Refusal × ℕ)) (text notes : List ℕ)
-    → with_texts (with_front front r) text notes ≡ with_texts r text notes
-with_texts_front front (Ok steps) text notes = refl
-with_texts_front front (Err e) text notes = refl
+with_texts_front : (front : List Step) (r : Result (List Step) (Refusal × ℕ)) (text notes about : List ℕ)
+    → with_texts (with_front front r) text notes about ≡ with_texts r text notes about
+with_texts_front front (Ok steps) text notes about = refl
+with_texts_front front (Err e) text notes about = refl
 
 two_refusals : (b : Bool) (x y : Refusal) → ◌≡◌ {A = Option Refusal} (cond b (Some x) (Some y)) None → ⊥
 two_refusals true x y h = cc
@@ -65,18 +68,21 @@ skipped_measures true false b h = absurd cc
 skipped_measures false a b h = absurd cc
 
 left_out_closes : (choices : Choices) (manual : Bool) (s : Statement) (reason : Reason) → left_out_in choices manual s ≡ Some reason
-    → is_closing (saying s) ≡ false
+    → is_closing (saying (by_frame choices s)) ≡ false
 left_out_closes choices manual s reason h = go choices.skip_manual (is_skipped manual s) (is_unknown (keyword_of s.word)) refl refl h
   where
     other : (k : Keyword) → (measures k s.word ≡ true) ⊎ (is_unknown k ≡ true) → k ≡ word.Endfil → ⊥
     other k (inl h) e = let f = rw e at h in absurd cc
     other k (inr h) e = let f = rw e at h in absurd cc
 
+    nothing : (keyword_of s.word ≡ word.Endfil → ⊥) → is_closing (saying (by_frame choices s)) ≡ false
+    nothing h = closes_nothing (by_frame choices s) (same_end choices s h)
+
     go : (asked b unknown : Bool) → is_skipped manual s ≡ b → is_unknown (keyword_of s.word) ≡ unknown
         → cond (asked && b) (Some Manual) (cond (unknown && not (has_open_text s)) (reason_of choices s.word s.params) None) ≡ Some reason
-        → is_closing (saying s) ≡ false
-    go true true unknown e f h = closes_nothing s (other (keyword_of s.word) (inl (skipped_measures manual _ _ e)))
-    go asked b true e f h = closes_nothing s (other (keyword_of s.word) (inr f))
+        → is_closing (saying (by_frame choices s)) ≡ false
+    go true true unknown e f h = nothing (other (keyword_of s.word) (inl (skipped_measures manual _ _ e)))
+    go asked b true e f h = nothing (other (keyword_of s.word) (inr f))
     go true false false e f h = absurd cc
     go false b false e f h = absurd cc
 
@@ -86,26 +92,33 @@ abbrev RunsAs : List (List ℕ × Point) → Choices → Option TextFault → �
     → List Statement → Carried → Type 0
 RunsAs frames choices fault lines aboves sources all statements below c = run frames choices fault lines statements c
     ≡ with_texts (steps_up_to frames fault lines aboves (all_stated sources below)) (c.text ++ ended_lines (flat_lines (all_stated sources below)))
-    (c.notes ++ notes_from choices all statements)
+    (c.notes ++ notes_from choices all statements) (frames_then c.frames c.since (all_stated sources below))
 
--- what follows a statement that says this, by whether it closes the program; t is the statement in millimetres
+-- what follows a statement that says this in millimetres, by whether it closes the program
 by_end : (frames : List (List ℕ × Point)) (choices : Choices) (fault : Option TextFault) (lines : ℕ) (aboves sources all : List Statement)
-    (s t : Statement) (statements below : List Statement) (c : Carried) (m : StatementMeaning) (b : Bool) → closes m ≡ b
-    → (b ≡ false → RunsAs frames choices fault lines (t ∷ aboves) (s ∷ sources) (s ∷ all) statements below (followed c s m))
+    (s : Statement) (u : Bool) (statements below : List Statement) (c : Carried) (m : StatementMeaning) (b : Bool) → closes m ≡ b
+    → (b ≡ false → RunsAs frames choices fault lines (stated u s ∷ aboves) (s ∷ sources) all statements below (followed c s m))
     → ran s.line (Ok (b, followed c s m)) (run frames choices fault lines statements)
     ≡ with_texts (cond b (Ok []) (with_front (steps_of frames (context_at frames aboves) m)
-    (steps_up_to frames fault lines (t ∷ aboves) (all_stated (s ∷ sources) below))))
+    (steps_up_to frames fault lines (stated u s ∷ aboves) (all_stated (s ∷ sources) below))))
     (c.text ++ ended_lines (line_for s.line (flat_meant s m) ++ cond b [] (flat_lines (all_stated (s ∷ sources) below))))
-    (c.notes ++ (note_for s (passed_over s (Ok m)) ++ cond b [] (notes_from choices (s ∷ all) statements)))
-by_end frames choices fault lines aboves sources all s t statements below c m true e behind =
-    rw (append-nil (line_for s.line (flat_meant s m)), append-nil (note_for s (passed_over s (Ok m)))) refl
-by_end frames choices fault lines aboves sources all s t statements below c m false e behind =
+    (c.notes ++ (note_for s (passed_over s (Ok m)) ++ cond b [] (notes_from choices all statements)))
+    (frames_with c.frames c.since s.line (Ok m) (all_stated (s ∷ sources) below))
+by_end frames choices fault lines aboves sources all s u statements below c m true e behind =
+    rw (
+      append-nil (line_for s.line (flat_meant s m)),
+      append-nil (note_for s (passed_over s (Ok m))),
+      last_is c.frames c.since s.line m (touches_until (all_stated (s ∷ sources) below)) (frame_notes (all_stated (s ∷ sources) below)) e,
+    )
+    refl
+by_end frames choices fault lines aboves sources all s u statements below c m false e behind =
     rw (
       behind refl,
+      next_is c.frames c.since s.line m (touches_until (all_stated (s ∷ sources) below)) (frame_notes (all_stated (s ∷ sources) below)) e,
       ended_append (line_for s.line (flat_meant s m)) (flat_lines (all_stated (s ∷ sources) below)),
-      with_texts_front (steps_of frames (context_at frames aboves) m) (steps_up_to frames fault lines (t ∷ aboves) (all_stated (s ∷ sources) below)) _ _,
+      with_texts_front (steps_of frames (context_at frames aboves) m) (steps_up_to frames fault lines (stated u s ∷ aboves) (all_stated (s ∷ sources) below)) _ _ _,
       append_assoc c.text (ended_lines (line_for s.line (flat_meant s m))) (ended_lines (flat_lines (all_stated (s ∷ sources) below))),
-      append_assoc c.notes (note_for s (passed_over s (Ok m))) (notes_from choices (s ∷ all) statements),
+      append_assoc c.notes (note_for s (passed_over s (Ok m))) (notes_from choices all statements),
     )
     refl
 
@@ -115,24 +128,25 @@ accepted_says frames aboves s b m e = (accepted_if frames (context_at frames abo
 
 -- the notes of a statement that counts, and of those below
 abbrev noted_below : Choices → List Statement → Statement → List Statement → List ℕ
-noted_below choices all s statements = note_for s (passed_over s (saying s)) ++ cond (is_closing (saying s)) [] (notes_from choices (s ∷ all) statements)
+noted_below choices all s statements = note_for s (passed_over s (saying s)) ++ cond (is_closing (saying s)) [] (notes_from choices all statements)
 
 -- a statement that counts
 by_judgement : (frames : List (List ℕ × Point)) (choices : Choices) (fault : Option TextFault) (lines : ℕ) (aboves sources all : List Statement)
     (s : Statement) (statements below : List Statement) (c : Carried) (b : Bool) (r : Result StatementMeaning Refusal)
     → ((m : StatementMeaning) → r ≡ Ok m → saying (stated b s) ≡ Ok m)
     → ((m : StatementMeaning) → r ≡ Ok m
-    → RunsAs frames choices fault lines (stated b s ∷ aboves) (s ∷ sources) (s ∷ all) statements below (followed c s m))
+    → RunsAs frames choices fault lines (stated b s ∷ aboves) (s ∷ sources) all statements below (followed c s m))
     → ran s.line (r >>= λ m. Ok (closes m, followed c s m)) (run frames choices fault lines statements)
     ≡ with_texts (continued s.line r (steps_of frames (context_at frames aboves))
     (steps_up_to frames fault lines (stated b s ∷ aboves) (all_stated (s ∷ sources) below)))
     (c.text ++ ended_lines (flat_lines (stated b s ∷ all_stated (s ∷ sources) below))) (c.notes ++ noted_below choices all s statements)
+    (frames_then c.frames c.since (stated b s ∷ all_stated (s ∷ sources) below))
 by_judgement frames choices fault lines aboves sources all s statements below c b (Err e) says behind = refl
 by_judgement frames choices fault lines aboves sources all s statements below c b (Ok m) says behind =
     let said = says m refl in
     let alike = noted_same b s m said in
     rw (said, flat_same b s m said, alike.notes, alike.ends)
-    (by_end frames choices fault lines aboves sources all s (stated b s) statements below c m (closes m) refl (λ e. behind m refl))
+    (by_end frames choices fault lines aboves sources all s b statements below c m (closes m) refl (λ e. behind m refl))
 
 -- a text for the operator is refused on its line
 refusal_is : (s : Statement) (n lines : ℕ) (r : Refusal) → text_refusal s ≡ Some r → ended (Some (fault_for s.line r)) n lines ≡ (r, s.line)
@@ -160,12 +174,12 @@ HasMode all c = c.manual ≡ in_manual all
 by_text : (frames : List (List ℕ × Point)) (choices : Choices) (fault : Option TextFault) (lines : ℕ) (aboves sources all : List Statement)
     (s : Statement) (statements below : List Statement) (c : Carried) (o : Option Refusal) → text_refusal s ≡ o → Stands aboves c.above → HasUnit sources c
     → ((m : StatementMeaning) → Stands (stated (in_inches sources) s ∷ aboves) (after_said c.above m)
-    → RunsAs frames choices fault lines (stated (in_inches sources) s ∷ aboves) (s ∷ sources) (s ∷ all) statements below (followed c s m))
-    → ran s.line (refused_by o (due frames c.above c.inches s >>= λ m. Ok (closes m, followed c s m))) (run frames choices fault lines statements)
+    → RunsAs frames choices fault lines (stated (in_inches sources) s ∷ aboves) (s ∷ sources) all statements below (followed c s m))
+    → ran s.line (refused_by o (due frames c.above c.inches s) >>= λ m. Ok (closes m, followed c s m)) (run frames choices fault lines statements)
     ≡ with_texts (steps_from frames (before_refused (stated (in_inches sources) s) o (up_to_refused fault (all_stated (s ∷ sources) below))).fault lines
     aboves (before_refused (stated (in_inches sources) s) o (up_to_refused fault (all_stated (s ∷ sources) below))).statements)
     (c.text ++ ended_lines (flat_lines (stated (in_inches sources) s ∷ all_stated (s ∷ sources) below)))
-    (c.notes ++ noted_below choices all s statements)
+    (c.notes ++ noted_below choices all s statements) (frames_then c.frames c.since (stated (in_inches sources) s ∷ all_stated (s ∷ sources) below))
 by_text frames choices fault lines aboves sources all s statements below c (Some refusal) e stands unit behind =
     rw (refusal_is s (length aboves) lines refusal e) refl
 by_text frames choices fault lines aboves sources all s statements below c None e stands unit behind =
@@ -178,32 +192,35 @@ by_text frames choices fault lines aboves sources all s statements below c None 
 counts : (frames : List (List ℕ × Point)) (choices : Choices) (fault : Option TextFault) (lines : ℕ) (aboves sources all : List Statement)
     (s : Statement) (statements below : List Statement) (c : Carried) → Stands aboves c.above → HasUnit sources c
     → ((m : StatementMeaning) → Stands (stated (in_inches sources) s ∷ aboves) (after_said c.above m)
-    → RunsAs frames choices fault lines (stated (in_inches sources) s ∷ aboves) (s ∷ sources) (s ∷ all) statements below (followed c s m))
-    → ran s.line (stepped frames c s None) (run frames choices fault lines statements)
+    → RunsAs frames choices fault lines (stated (in_inches sources) s ∷ aboves) (s ∷ sources) all statements below (followed c s m))
+    → ran s.line (judged_next frames c s >>= λ m. Ok (closes m, followed c s m)) (run frames choices fault lines statements)
     ≡ with_texts (steps_up_to frames fault lines aboves (all_stated sources (s ∷ below)))
     (c.text ++ ended_lines (flat_lines (all_stated sources (s ∷ below)))) (c.notes ++ noted_below choices all s statements)
+    (frames_then c.frames c.since (all_stated sources (s ∷ below)))
 counts frames choices fault lines aboves sources all s statements below c stands unit behind =
     rw (text_same (in_inches sources) s) (by_text frames choices fault lines aboves sources all s statements below c (text_refusal s) refl stands unit behind)
 
 some_above : (n : ℕ) → (suc n == 0) ≡ false
 some_above n = ne_eqb (suc n) 0 (λ z. omega arith)
 
--- a statement that may be left out
+-- a statement that may be left out, and the one that counts in its place
 by_reason : (frames : List (List ℕ × Point)) (choices : Choices) (fault : Option TextFault) (lines : ℕ) (aboves sources all : List Statement)
-    (s : Statement) (statements : List Statement) (c : Carried) (o : Option Reason) → left_out_at choices all s ≡ o
-    → ((reason : Reason) → o ≡ Some reason → is_closing (saying s) ≡ false) → Stands aboves c.above → HasUnit sources c
+    (s t : Statement) (statements : List Statement) (c : Carried) (o : Option Reason) → left_out_at choices all s ≡ o → by_frame choices s ≡ t
+    → t.line ≡ s.line → ((reason : Reason) → o ≡ Some reason → is_closing (saying t) ≡ false) → Stands aboves c.above → HasUnit sources c
     → ((d : Carried) → Stands aboves d.above → HasUnit sources d → d.manual ≡ manual_after c.manual s
     → RunsAs frames choices fault lines aboves sources (s ∷ all) statements (kept_below choices (s ∷ all) statements) d)
-    → ((m : StatementMeaning) → Stands (stated (in_inches sources) s ∷ aboves) (after_said c.above m)
-    → RunsAs frames choices fault lines (stated (in_inches sources) s ∷ aboves) (s ∷ sources) (s ∷ all) statements
-    (kept_below choices (s ∷ all) statements) (followed c s m))
-    → ran s.line (stepped frames c s o) (run frames choices fault lines statements)
+    → ((m : StatementMeaning) → Stands (stated (in_inches sources) t ∷ aboves) (after_said c.above m)
+    → RunsAs frames choices fault lines (stated (in_inches sources) t ∷ aboves) (t ∷ sources) (s ∷ all) statements
+    (kept_below choices (s ∷ all) statements) (followed c t m))
+    → ran s.line (stepped frames c s t o) (run frames choices fault lines statements)
     ≡ with_texts (steps_up_to frames fault lines aboves (all_stated sources (kept_below choices all (s ∷ statements))))
     (c.text ++ ended_lines (flat_lines (all_stated sources (kept_below choices all (s ∷ statements))))) (c.notes ++ notes_from choices all (s ∷ statements))
-by_reason frames choices fault lines aboves sources all s statements c None e ends stands unit without behind =
-    rw e (counts frames choices fault lines aboves sources all s statements (kept_below choices (s ∷ all) statements) c stands unit behind)
-by_reason frames choices fault lines aboves sources all s statements c (Some reason) e ends stands unit without behind =
-    rw (e, ends reason refl, ← append_assoc c.notes (note_for s (Some reason)) (notes_from choices (s ∷ all) statements))
+    (frames_then c.frames c.since (all_stated sources (kept_below choices all (s ∷ statements))))
+by_reason frames choices fault lines aboves sources all s t statements c None e counted line ends stands unit without behind =
+    rw (e, counted, ← line) (counts frames choices fault lines aboves sources (s ∷ all) t statements (kept_below choices (s ∷ all) statements) c stands unit
+    behind)
+by_reason frames choices fault lines aboves sources all s t statements c (Some reason) e counted line ends stands unit without behind =
+    rw (e, counted, ends reason refl, ← append_assoc c.notes (note_for s (Some reason)) (notes_from choices (s ∷ all) statements))
     (without (noted c s (Some reason)) stands unit refl)
 
 pub run_is : (frames : List (List ℕ × Point)) (choices : Choices) (fault : Option TextFault) (lines : ℕ) (t u : Statement)
@@ -213,11 +230,13 @@ run_is frames choices fault lines t u aboves sources all [] c stands unit mode =
 run_is frames choices fault lines t u aboves sources all (next ∷ statements) c stands unit mode =
     let some : (c.above.number == 0) ≡ false = ap (λ (n : ℕ). n == 0) stands.number ∙ some_above (length aboves) in
     let then : manual_after c.manual next ≡ in_manual (next ∷ u ∷ all) = ap (λ (b : Bool). manual_after b next) mode in
-    rw (some, then) (by_reason frames choices fault lines (t ∷ aboves) sources (u ∷ all) next statements c
-    (left_out_in choices (in_manual (next ∷ u ∷ all)) next) refl (left_out_closes choices (in_manual (next ∷ u ∷ all)) next) stands unit
+    rw (some, then) (by_reason frames choices fault lines (t ∷ aboves) sources (u ∷ all) next (by_frame choices next) statements c
+    (left_out_in choices (in_manual (next ∷ u ∷ all)) next) refl refl (same_line choices next)
+    (left_out_closes choices (in_manual (next ∷ u ∷ all)) next) stands unit
     (λ d held one is. run_is frames choices fault lines t next aboves sources (u ∷ all) statements d held one (is ∙ then))
-    (λ m held. run_is frames choices fault lines (stated (in_inches sources) next) next (t ∷ aboves) (next ∷ sources) (u ∷ all) statements
-    (followed c next m) held (ap (λ (b : Bool). inches_after b next) unit) then))
+    (λ m held. run_is frames choices fault lines (stated (in_inches sources) (by_frame choices next)) next (t ∷ aboves) (by_frame choices next ∷ sources)
+    (u ∷ all) statements (followed c (by_frame choices next) m) held (ap (λ (b : Bool). inches_after b (by_frame choices next)) unit)
+    (same_mode choices c.manual next ∙ then)))
 
 none_stand : Stands [] none_above
 none_stand = record { number = refl; tool = refl; wanted = refl; touched = refl }
@@ -226,7 +245,10 @@ pub run_from_start : (frames : List (List ℕ × Point)) (choices : Choices) (fa
     → run frames choices fault lines statements nothing_carried
     ≡ with_texts (steps_up_to frames fault lines [] (all_stated [] (kept choices statements)))
     (ended_lines (flat_lines (all_stated [] (kept choices statements)))) (notes_from choices [] statements)
+    (frame_notes (all_stated [] (kept choices statements)))
 run_from_start frames choices fault lines [] = refl
 run_from_start frames choices fault lines (s ∷ statements) =
-    counts frames choices fault lines [] [] [] s statements (kept_below choices (s ∷ []) statements) nothing_carried none_stand refl
-    (λ m held. run_is frames choices fault lines (stated false s) s [] (s ∷ []) [] statements (followed nothing_carried s m) held refl refl)
+    rw (← same_line choices s) (counts frames choices fault lines [] [] (s ∷ []) (by_frame choices s) statements (kept_below choices (s ∷ []) statements)
+    nothing_carried none_stand refl
+    (λ m held. run_is frames choices fault lines (stated false (by_frame choices s)) s [] (by_frame choices s ∷ []) [] statements
+    (followed nothing_carried (by_frame choices s) m) held refl (same_mode choices false s)))

@@ -28,7 +28,7 @@ Tells keyword params (Recalls name) = (keyword ≡ word.Recall) × IsName name
 Tells keyword params Closes = Unit {0}
 Tells keyword params Passes = Unit {0}
 
-name_within_is : (front text : List ℕ) → IfSome (name_within front text) IsName
+pub name_within_is : (front text : List ℕ) → IfSome (name_within front text) IsName
 name_within_is front text = go (name_within front text) refl
   where
     go : (o : Option (List ℕ)) → name_within front text ≡ o → IfSome o IsName

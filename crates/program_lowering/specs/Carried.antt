@@ -9,7 +9,7 @@ use Rattle.dmis_program.specs.LookBack.{Context}
 use Rattle.dmis_program.specs.Judging.{refused_by, settled, word_refusal}
 use Rattle.dmis_program.specs.Meaning.{Meaning, closes}
 use Rattle.dmis_program.specs.declared.faults.Refusal.{Refusal}
-use Rattle.dmis_program.specs.declared.faults.Refusal.TheVariants.{TooLarge}
+use Rattle.dmis_program.specs.declared.faults.Refusal.TheVariants.{NotDmis, TooLarge}
 use Rattle.dmis_program.specs.declared.faults.StatementFault.{StatementFault}
 use Rattle.dmis_program.specs.declared.faults.StatementFault.TheVariants as faults
 use Rattle.dmis_program.specs.declared.faults.ProgramFault.{ProgramFault}
@@ -20,6 +20,7 @@ use Rattle.program_lowering.specs.Inches.{inches_after, said_stated}
 use Rattle.program_lowering.specs.OperatorTexts.{flat_meant, text_refusal}
 use Rattle.program_lowering.specs.Lowering.{ended_lines, flat_program, left_out_in, line_for, lowered_meaning, note_for, notes_of, passed_over}
 use Rattle.program_lowering.specs.Lowered.{Refuses}
+use Rattle.program_lowering.specs.StoredFrames.{by_frame, frame_end, frame_start}
 use Rattle.program_lowering.specs.declared.above.Above.{Above}
 use Rattle.program_lowering.specs.declared.lowering.Lowered.{Lowered}
 use Rattle.program_lowering.specs.declared.words.Choices.{Choices}
@@ -72,13 +73,33 @@ pub record Carried : Type 0 where
   pub manual : Bool
   pub text : List ℕ
   pub notes : List ℕ
+  pub frames : List ℕ
+  pub since : Option ℕ
 
 abbrev pub nothing_carried : Carried
-nothing_carried = record { above = none_above; inches = false; manual = false; text = []; notes = [] }
+nothing_carried = record { above = none_above; inches = false; manual = false; text = []; notes = []; frames = []; since = None }
 
 -- after a statement that is left out, and after one that says this
 abbrev pub noted : Carried → Statement → Option Reason → Carried
 noted c s reason = record c { manual = manual_after c.manual s; notes = c.notes ++ note_for s reason }
+
+-- the notes on frames, of which the last is open: that many touches have referred to it
+abbrev pub frames_closed : List ℕ → Option ℕ → List ℕ
+frames_closed frames None = frames
+frames_closed frames (Some touches) = frames ++ frame_end touches
+
+abbrev pub frames_after : List ℕ → Option ℕ → ℕ → StatementMeaning → List ℕ
+frames_after frames since line (said.Recalls name) = frames_closed frames since ++ frame_start line name
+frames_after frames since line _ = frames
+
+abbrev pub one_touch : Option ℕ → Option ℕ
+one_touch None = None
+one_touch (Some touches) = Some (touches + 1)
+
+abbrev pub since_after : Option ℕ → StatementMeaning → Option ℕ
+since_after since (said.Recalls name) = Some 0
+since_after since (said.Touches target direction) = one_touch since
+since_after since _ = since
 
 abbrev pub followed : Carried → Statement → StatementMeaning → Carried
 followed c s meaning = record {
@@ -87,19 +108,29 @@ followed c s meaning = record {
   manual = manual_after c.manual s;
   text = c.text ++ ended_lines (line_for s.line (flat_meant s meaning));
   notes = c.notes ++ note_for s (passed_over s (Ok meaning));
+  frames = frames_after c.frames c.since s.line meaning;
+  since = since_after c.since meaning;
 }
 
 -- the first statement is never left out
 abbrev pub left_out_after : Choices → ℕ → Bool → Statement → Option Reason
 left_out_after choices number manual s = if number == 0 then None else left_out_in choices manual s
 
-abbrev pub stepped : List (List ℕ × Point) → Carried → Statement → Option Reason → Result (Bool × Carried) Refusal
-stepped frames c s (Some reason) = Ok (false, noted c s (Some reason))
-stepped frames c s None = refused_by (text_refusal s) (due frames c.above c.inches s >>= λ meaning. Ok (closes meaning, followed c s meaning))
+abbrev pub judged_next : List (List ℕ × Point) → Carried → Statement → Result StatementMeaning Refusal
+judged_next frames c s = refused_by (text_refusal s) (due frames c.above c.inches s)
+
+abbrev pub stepped : List (List ℕ × Point) → Carried → Statement → Statement → Option Reason → Result (Bool × Carried) Refusal
+stepped frames c s counted (Some reason) = Ok (false, noted c s (Some reason))
+stepped frames c s counted None = judged_next frames c counted >>= λ meaning. Ok (closes meaning, followed c counted meaning)
+
+-- what is due for a statement that selects a stored frame
+abbrev pub frame_due : List (List ℕ × Point) → Above → List ℕ → Result StatementMeaning Refusal
+frame_due frames above name = if nat_le 10000 above.number then Err TooLarge else if above.number == 0 then Err NotDmis else
+    settled frames (some_tool above.has_tool) above.wanted above.touched (said.Recalls name)
 
 -- after a statement: whether the program ends there, and what is carried on; or the refusal that is due
 abbrev pub step : List (List ℕ × Point) → Choices → Carried → Statement → Result (Bool × Carried) Refusal
-step frames choices c s = stepped frames c s (left_out_after choices c.above.number (manual_after c.manual s) s)
+step frames choices c s = stepped frames c s (by_frame choices s) (left_out_after choices c.above.number (manual_after c.manual s) s)
 
 -- what a call gives and leaves is what is due, unless memory ran out
 abbrev pub GivesStep : Result Bool StatementFault → Carried → Result (Bool × Carried) Refusal → Type 0

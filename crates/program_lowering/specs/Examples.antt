@@ -1,14 +1,15 @@
 -- What the examples of this crate speak of.
-use Rattle.std.specs.Prelude.{ℕ, List, [], ◌∷◌, ◌++◌, codes, true, false, None}
+use Rattle.std.specs.Prelude.{ℕ, List, [], ◌∷◌, ◌++◌, codes, true, false, None, Some}
 use Rattle.dmis_text.specs.declared.elements.Statement.{Statement}
+use Rattle.program_lowering.specs.StoredFrames.{by_frame}
 use Rattle.program_lowering.specs.declared.words.Choices.{Choices}
 
 -- nothing is left out besides what measures and moves nothing; and all that may be
 abbrev pub plain_choices : Choices
-plain_choices = record { no_clearing = false; compensated = false; skip_manual = false }
+plain_choices = record { no_clearing = false; compensated = false; skip_manual = false; stored_frames = false }
 
 abbrev pub all_choices : Choices
-all_choices = record { no_clearing = true; compensated = true; skip_manual = true }
+all_choices = record { no_clearing = true; compensated = true; skip_manual = true; stored_frames = true }
 
 -- a statement without a label
 abbrev pub bare : List ℕ → List (List ℕ) → Statement
@@ -36,3 +37,37 @@ mode_prog = bare (codes "MODE") (codes "PROG" ∷ codes "MAN" ∷ [])
 
 abbrev pub first_by_hand : List Statement
 first_by_hand = start ∷ mode_man ∷ (manual_front ++ (measured ++ (mode_prog ∷ measured)))
+
+-- statements that make and recall coordinate systems, and a touch
+abbrev pub labelled : List ℕ → List ℕ → Statement
+labelled label word = record { line = 1; label = Some label; word = word; params = codes "DAT(A)" ∷ [] }
+
+abbrev pub recall_a : Statement
+recall_a = bare (codes "RECALL") (codes "D(A)" ∷ [])
+
+abbrev pub make_b : Statement
+make_b = by_frame all_choices (labelled (codes "D(B)") (codes "TRANS"))
+
+abbrev pub a_touch : Statement
+a_touch = bare (codes "PTMEAS") (codes "CART" ∷ codes "1" ∷ codes "2" ∷ codes "3" ∷ [])
+
+-- what selects A by its name, and what selects nothing so
+abbrev pub naming_a : List Statement
+naming_a = labelled (codes "D(A)") (codes "DATSET") ∷ labelled (codes "D(A)") (codes "TRANS") ∷ labelled (codes "DA(a)") (codes "ROTATE")
+    ∷ bare (codes "RECALL") (codes "DA(A)" ∷ []) ∷ []
+
+abbrev pub naming_none : List Statement
+naming_none = labelled (codes "F(A)") (codes "DATSET") ∷ labelled (codes "D(A)") (codes "EQUATE") ∷ bare (codes "DATSET") (codes "DAT(A)" ∷ [])
+    ∷ record (labelled (codes "D(A)") (codes "DATSET")) { params = codes "'A" ∷ [] } ∷ bare (codes "RECALL") (codes "D(a)" ∷ [])
+    ∷ bare (codes "RECALL") (codes "DA(A)" ∷ codes "DA(B)" ∷ []) ∷ []
+
+-- what the setup's frames take the place of, and other statements of its word
+abbrev pub of_setup : List Statement
+of_setup = bare (codes "DATDEF") [] ∷ bare (codes "SAVE") (codes "D(A)" ∷ []) ∷ bare (codes "SAVE") (codes "DA(A)" ∷ []) ∷ []
+
+abbrev pub saving : List Statement
+saving = bare (codes "SAVE") (codes "S(A)" ∷ []) ∷ bare (codes "SAVE") (codes "D(A)" ∷ codes "D(B)" ∷ []) ∷ []
+
+-- two touches in A and one in B; what is below the end counts no more
+abbrev pub two_frames : List Statement
+two_frames = recall_a ∷ a_touch ∷ bare (codes "ENDMES") [] ∷ a_touch ∷ make_b ∷ a_touch ∷ bare (codes "ENDFIL") [] ∷ a_touch ∷ recall_a ∷ []

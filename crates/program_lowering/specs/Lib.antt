@@ -1,6 +1,7 @@
 pub mod Words
 pub mod Reasons
 pub mod Manual
+pub mod StoredFrames
 pub mod Flats
 pub mod OperatorTexts
 pub mod Inches

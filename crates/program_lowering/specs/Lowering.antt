@@ -6,7 +6,7 @@ use Rattle.dmis_text.specs.Reading.{Reading, text_reading}
 use Rattle.dmis_text.specs.declared.elements.Statement.{Statement}
 use Rattle.fixed_um.specs.declared.lengths.Point.{Point}
 use Rattle.dmis_program.specs.Keywords.{keyword_of}
-use Rattle.dmis_program.specs.LookBack.{or_else, saying}
+use Rattle.dmis_program.specs.LookBack.{saying}
 use Rattle.dmis_program.specs.Meaning.{Meaning, closes, meaning_of}
 use Rattle.dmis_program.specs.declared.faults.Refusal.{Refusal}
 use Rattle.dmis_program.specs.declared.sayings.StatementMeaning.{StatementMeaning}
@@ -14,6 +14,7 @@ use Rattle.dmis_program.specs.declared.sayings.StatementMeaning.TheVariants as s
 use Rattle.program_lowering.specs.Words.{left_out, passed_reason}
 use Rattle.program_lowering.specs.Manual.{in_manual, is_skipped}
 use Rattle.program_lowering.specs.Flats.{Flat, flat_line}
+use Rattle.program_lowering.specs.StoredFrames.{by_frame, frame_notes, if_stored}
 use Rattle.program_review.specs.Texts.{is_operator_text}
 use Rattle.program_lowering.specs.Inches.{all_stated}
 use Rattle.program_lowering.specs.OperatorTexts.{flat_meant, up_to_refused}
@@ -31,14 +32,14 @@ abbrev pub left_out_at : Choices → List Statement → Statement → Option Rea
 left_out_at choices [] s = None
 left_out_at choices (t ∷ above) s = left_out_in choices (in_manual (s ∷ (t ∷ above))) s
 
--- the statements that count: those that are not left out
+-- the statements that count: those that are not left out, with frames by name
 abbrev pub unless_left_out : Option Reason → Statement → List Statement
 unless_left_out None s = s ∷ []
 unless_left_out (Some reason) s = []
 
 abbrev pub kept_below : Choices → List Statement → List Statement → List Statement
 kept_below choices above [] = []
-kept_below choices above (s ∷ statements) = unless_left_out (left_out_at choices above s) s ++ kept_below choices (s ∷ above) statements
+kept_below choices above (s ∷ statements) = unless_left_out (left_out_at choices above s) (by_frame choices s) ++ kept_below choices (s ∷ above) statements
 
 abbrev pub kept : Choices → List Statement → List Statement
 kept choices statements = kept_below choices [] statements
@@ -87,9 +88,6 @@ abbrev pub passed_over : Statement → Result StatementMeaning Refusal → Optio
 passed_over s (Ok said.Passes) = if is_operator_text s then None else passed_reason (keyword_of s.word) s.word
 passed_over s _ = None
 
-abbrev pub unwritten : Choices → List Statement → Statement → Option Reason
-unwritten choices above s = or_else (left_out_at choices above s) (passed_over s (saying s))
-
 -- the line that says so
 unfoldable pub note_start : Statement → List ℕ
 note_start s = codes "dme: line " ++ (decimal s.line ++ (codes ": " ++ s.word))
@@ -98,11 +96,16 @@ abbrev pub note_for : Statement → Option Reason → List ℕ
 note_for s None = []
 note_for s (Some reason) = note_start s ++ ended (codes " is left out: " ++ reason_text reason)
 
+abbrev pub note_at : Option Reason → Statement → Statement → List ℕ
+note_at (Some reason) s counted = note_for s (Some reason)
+note_at None s counted = note_for counted (passed_over counted (saying counted))
+
 -- one for each such statement, up to the one that closes the program
 abbrev pub notes_from : Choices → List Statement → List Statement → List ℕ
 notes_from choices above [] = []
-notes_from choices above (s ∷ statements) =
-    note_for s (unwritten choices above s) ++ (if is_closing (saying s) then [] else notes_from choices (s ∷ above) statements)
+notes_from choices above (s ∷ statements) = note_at (left_out_at choices above s) s (by_frame choices s)
+    ++ (if is_closing (saying (by_frame choices s)) then [] else notes_from choices (s ∷ above) statements)
 
 abbrev pub notes_of : Choices → List ℕ → List ℕ
 notes_of choices text = notes_from choices [] (text_reading text).statements
+    ++ if_stored choices (frame_notes (all_stated [] (kept choices (text_reading text).statements)))

@@ -2,7 +2,7 @@
 use Rattle.std.specs.Prelude.{List, ℕ, codes}
 use Rattle.program_lowering.specs.declared.words.Reason.{Reason}
 use Rattle.program_lowering.specs.declared.words.Reason.TheVariants.{Printing, Naming, Evaluating, Motion, Clearing, Uncompensated}
-use Rattle.program_lowering.specs.declared.words.Reason.TheVariants.{Compensated, Manual, Passed}
+use Rattle.program_lowering.specs.declared.words.Reason.TheVariants.{Compensated, Manual, Passed, Stored}
 
 abbrev pub reason_text : Reason → List ℕ
 reason_text Printing = codes "it says what is printed or shown, and where"
@@ -13,4 +13,5 @@ reason_text Clearing = codes "it clears the part between features; nothing moves
 reason_text Uncompensated = codes "nothing is corrected for temperature"
 reason_text Compensated = codes "the machine corrects for temperature"
 reason_text Manual = codes "it is in a manual block; the operator would carry it out"
+reason_text Stored = codes "the frames are the setup's"
 reason_text Passed = codes "it commands nothing"

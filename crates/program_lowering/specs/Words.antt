@@ -1,12 +1,13 @@
 -- The words that a flat program does not have, each with the reason for which it is left out (ISO 22093 has the words; the reasons are this
 -- profile's). All of them measure nothing, and but for clearing none moves the machine.
-use Rattle.std.specs.Prelude.{ℕ, Bool, true, false, not, ◌&&◌, List, [], ◌∷◌, codes, Option, Some, None, if◌then◌else◌}
+use Rattle.std.specs.Prelude.{ℕ, Bool, true, false, not, ◌&&◌, List, [], ◌∷◌, ◌||◌, codes, Option, Some, None, if◌then◌else◌}
 use Rattle.std.specs.Str.{bytes_eq}
 use Rattle.dmis_text.specs.Statements.{has_open_text}
 use Rattle.dmis_text.specs.declared.elements.Statement.{Statement}
 use Rattle.dmis_program.specs.Keywords.{keyword_of, is_among}
 use Rattle.dmis_program.specs.declared.keywords.Keyword.{Keyword}
 use Rattle.dmis_program.specs.declared.keywords.Keyword.TheVariants as word
+use Rattle.dmis_program.specs.Parameters.{begins}
 use Rattle.program_lowering.specs.declared.words.Choices.{Choices}
 use Rattle.program_lowering.specs.declared.words.Reason.{Reason}
 use Rattle.program_lowering.specs.declared.words.Reason.TheVariants as reason
@@ -39,6 +40,14 @@ compensation compensated (first ∷ rest) =
     if bytes_eq first (codes "OFF") then Some reason.Uncompensated else
     if compensated && bytes_eq first (codes "ON") then Some reason.Compensated else None
 
+-- what the setup's frames take the place of: `DATDEF`, and `SAVE/D(..)` or `SAVE/DA(..)`, which select nothing
+abbrev pub saves_frame : List (List ℕ) → Bool
+saves_frame (only ∷ []) = begins (codes "D(") only || begins (codes "DA(") only
+saves_frame _ = false
+
+abbrev pub is_of_setup : List ℕ → List (List ℕ) → Bool
+is_of_setup name params = bytes_eq name (codes "DATDEF") || (bytes_eq name (codes "SAVE") && saves_frame params)
+
 -- why a word that no flat program has may be left out
 abbrev pub reason_of : Choices → List ℕ → List (List ℕ) → Option Reason
 reason_of choices name params =
@@ -47,7 +56,8 @@ reason_of choices name params =
     if is_among name evaluating then Some reason.Evaluating else
     if is_among name motion then Some reason.Motion else
     if is_among name clearing then (if choices.no_clearing then Some reason.Clearing else None) else
-    if bytes_eq name (codes "TECOMP") then compensation choices.compensated params else None
+    if bytes_eq name (codes "TECOMP") then compensation choices.compensated params else
+    if choices.stored_frames && is_of_setup name params then Some reason.Stored else None
 
 abbrev pub is_unknown : Keyword → Bool
 is_unknown word.Unknown = true

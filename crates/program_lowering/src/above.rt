@@ -1,14 +1,16 @@
 // What the statements above leave for the one that is judged.
 
 ghost use Rattle.std.specs.Prelude.{◌≡◌, ◌≤◌, ◌<◌, ◌+◌, IfOk};
-ghost use Rattle.dmis_program.specs.Outcomes.{Gives};
 ghost use Rattle.dmis_program.specs.Judging.{is_too_few, settled, judged};
 ghost use Rattle.dmis_program.specs.Keywords.{keyword_of};
-ghost use Rattle.program_lowering.specs.Carried.{none_above, some_tool, due, after_said};
+ghost use Rattle.dmis_program.specs.Outcomes.{Gives};
+ghost use Rattle.dmis_program.specs.declared.sayings.StatementMeaning.TheVariants.{Recalls};
+ghost use Rattle.program_lowering.specs.Carried.{none_above, some_tool, due, after_said, frame_due};
 
 use crate::inches::said_in;
 use dmis_program::{Frames, Keyword, Refusal, StatementFault, StatementMeaning, word_refusal};
 use dmis_text::Statement;
+use fixed_um::Name;
 use std::alloc::Global;
 
 /// The most statements that a program may have (this profile).
@@ -106,6 +108,25 @@ impl Above {
         }
         let meaning = said_in(alloc, inches, keyword, statement)?;
         Ok(self.settled(frames, meaning)?)
+    }
+
+    /// What a statement that selects a stored frame says here, or the refusal that is due.
+    pub(crate) fn judge_frame(
+        self,
+        frames: &Frames,
+        name: Name,
+    ) -> Result<StatementMeaning, Refusal>
+        ensures due { result ≡ frame_due frames.now self name }
+        ensures says { IfOk result (λ m. m ≡ Recalls name) }
+        ensures few { IfOk result (λ _. self.number < 10000) }
+    {
+        if self.number >= MOST_STATEMENTS {
+            return Err(Refusal::TooLarge);
+        }
+        if self.number == 0 {
+            return Err(Refusal::NotDmis);
+        }
+        self.settled(frames, StatementMeaning::Recalls(name))
     }
 
     /// After a statement that says this.

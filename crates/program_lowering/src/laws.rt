@@ -1,30 +1,33 @@
 // What follows from the definitions alone. Each function has laws for its contract and does nothing.
-ghost use Rattle.std.specs.Prelude.{◌≡◌, ◌<◌, ◌^◌, ◌++◌, ◌∷◌, ◌*◌, [], ℕ, ℤ, pos, neg_ℤ, int_lt, unsigned_abs, List, length, codes, false, true, Some, None, Ok};
-ghost use Rattle.std.specs.Option.{option_map};
-ghost use Rattle.dmis_program.specs.declared.faults.Refusal.TheVariants.{BadByte};
-ghost use Rattle.dmis_program.specs.declared.sayings.StatementMeaning.TheVariants.{Passes};
+ghost use Rattle.std.specs.Prelude.{◌≡◌, ◌<◌, ◌^◌, ◌++◌, ◌∷◌, ◌*◌, [], ℕ, ℤ, pos, neg_ℤ, int_lt, unsigned_abs, List, length, map, codes, false, true, Some, None, Ok};
 ghost use Rattle.std.specs.List.{AllByRecursion};
-ghost use Rattle.fixed_um.specs.declared.lengths.Point.{Point};
-ghost use Rattle.dmis_program.specs.Meaning.{Meaning, program_of};
-ghost use Rattle.dmis_text.specs.Reading.{text_reading};
-ghost use Rattle.program_lowering.specs.Acts.{acts_of};
-ghost use Rattle.program_lowering.specs.Heads.{IsComment, Names, head_lines};
+ghost use Rattle.std.specs.Option.{option_map};
 ghost use Rattle.dmis_program.specs.Keywords.{keyword_of};
+ghost use Rattle.dmis_program.specs.LookBack.{frame_said, nearest, saying};
+ghost use Rattle.dmis_program.specs.Meaning.{Meaning, program_of};
+ghost use Rattle.dmis_program.specs.Positions.{length_of};
+ghost use Rattle.dmis_program.specs.declared.faults.Refusal.TheVariants.{BadByte};
 ghost use Rattle.dmis_program.specs.declared.keywords.Keyword.TheVariants.{Ptmeas};
+ghost use Rattle.dmis_program.specs.declared.sayings.StatementMeaning.TheVariants.{Passes, Recalls};
+ghost use Rattle.dmis_text.specs.Reading.{text_reading};
 ghost use Rattle.dmis_text.specs.Statements.{has_open_text};
 ghost use Rattle.dmis_text.specs.declared.elements.Statement.{Statement};
+ghost use Rattle.fixed_um.specs.Limits.{component_limit};
+ghost use Rattle.fixed_um.specs.Numerals.{IsRounded, signed};
+ghost use Rattle.fixed_um.specs.declared.lengths.Point.{Point};
+ghost use Rattle.program_review.specs.Texts.{is_operator_text};
+ghost use Rattle.program_lowering.specs.Acts.{acts_of};
+ghost use Rattle.program_lowering.specs.Examples.{all_choices, bare, first_by_hand, manual_front, measured, mode_man, mode_prog, plain_choices, start, to_operator, make_b, recall_a, naming_a, naming_none, of_setup, saving, two_frames};
+ghost use Rattle.program_lowering.specs.Flats.{flat, flat_text};
+ghost use Rattle.program_lowering.specs.Heads.{IsComment, Names, head_lines};
+ghost use Rattle.program_lowering.specs.Inches.{all_stated, in_inches, in_millimetres, inch_length, stated};
 ghost use Rattle.program_lowering.specs.Lowering.{ended_lines, flat_program, kept, left_out_at, lowered_meaning, passed_over};
 ghost use Rattle.program_lowering.specs.Manual.{in_manual, is_skipped};
-ghost use Rattle.fixed_um.specs.Limits.{component_limit};
-ghost use Rattle.fixed_um.specs.Numerals.{IsRounded, Reads, signed};
-ghost use Rattle.dmis_program.specs.Positions.{length_of};
-ghost use Rattle.program_lowering.specs.Inches.{all_stated, in_inches, in_millimetres, inch_length, stated};
-ghost use Rattle.program_lowering.specs.Examples.{all_choices, bare, first_by_hand, manual_front, measured, mode_man, mode_prog, plain_choices, start, to_operator};
-ghost use Rattle.program_lowering.specs.Flats.{flat, flat_text};
-ghost use Rattle.program_review.specs.Texts.{is_operator_text};
 ghost use Rattle.program_lowering.specs.OperatorTexts.{TextsFit, flat_meant, text_refusal};
+ghost use Rattle.program_lowering.specs.StoredFrames.{by_frame, frame_note, frame_notes, stored_frame};
 ghost use Rattle.program_lowering.specs.Words.{left_out};
 ghost use Rattle.program_lowering.specs.declared.words.Choices.{Choices};
+ghost use Rattle.fixed_um.specs.Numerals.{Reads};
 ghost use Rattle.program_lowering.specs.declared.words.Reason.TheVariants as reason;
 
 /// A flat program is accepted as it is written, and has the features and steps of the program that it was written of, whatever comments
@@ -92,6 +95,31 @@ pub fn examples_of_manual_blocks()
     ensures scanned { is_skipped true (bare (codes "SCAN") []) ≡ true }
     ensures looped { is_skipped true (bare (codes "DO") []) ≡ false }
     ensures open { is_skipped true (bare (codes "GOTO") (codes "'A" ∷ [])) ≡ false }
+{}
+
+/// What makes or recalls a coordinate system by name selects the stored frame of this name, and no other statement changes.
+pub fn frames_are_selected_by_name()
+    ensures selects { (choices : Choices) (s : Statement) (name : List ℕ)
+        → stored_frame choices s ≡ Some name → saying (by_frame choices s) ≡ Ok (Recalls name) }
+    ensures others { (choices : Choices) (s : Statement) → stored_frame choices s ≡ None
+        → by_frame choices s ≡ s }
+{}
+
+/// Examples: alignments by name, what the setup's frames take the place of, the frame of a touch, and the notes.
+pub fn examples_of_frames()
+    ensures selecting { map (by_frame all_choices) naming_a
+        ≡ recall_a ∷ (recall_a ∷ (recall_a ∷ (recall_a ∷ []))) }
+    ensures unasked { map (by_frame plain_choices) naming_a ≡ naming_a }
+    ensures others { map (by_frame all_choices) naming_none ≡ naming_none }
+    ensures setup { map (left_out all_choices) of_setup
+        ≡ Some reason.Stored ∷ (Some reason.Stored ∷ (Some reason.Stored ∷ [])) }
+    ensures setup_unasked { map (left_out plain_choices) of_setup ≡ None ∷ (None ∷ (None ∷ [])) }
+    ensures saved { map (left_out all_choices) saving ≡ None ∷ (None ∷ []) }
+    ensures nearest { nearest frame_said (make_b ∷ (recall_a ∷ [])) ≡ Some (codes "B") }
+    ensures before { nearest frame_said (recall_a ∷ (make_b ∷ (recall_a ∷ [])))
+        ≡ Some (codes "A") }
+    ensures listed { frame_notes two_frames ≡ frame_note 1 (Ok (Recalls (codes "A"))) 2
+        ++ (frame_note 1 (Ok (Recalls (codes "B"))) 1 ++ []) }
 {}
 
 /// The head of a flat program is comments alone.

@@ -5,6 +5,7 @@
 //! - `lines`: the line that is written of a statement; texts for the operator are written as they are read
 //! - `inches`: what a statement says whose lengths are in inches
 //! - `manual`: what is left to the operator
+//! - `stored`: frames of the setup in place of alignments
 //! - `heads`: the comments before a flat program
 //! - `above`: what the statements above leave for the one that is judged
 //! - `lowering`: `lower`, the flat program of a text, or its first refusal; `laws`: what follows from the definitions
@@ -22,6 +23,7 @@ mod lines;
 mod lowering;
 mod manual;
 mod orders;
+mod stored;
 mod words;
 
 pub use heads::SourceNames;

@@ -1,15 +1,17 @@
 // The flat program of a text.
 
 ghost use Rattle.std.specs.Prelude.{◌≡◌, ◌≤◌, ◌<◌, ◌++◌, ◌∷◌, [], codes, decimal, OnOk, IfOk, IfSome, IfNone, IfErr, Ok, None, Option, Some};
-ghost use Rattle.dmis_text.specs.Reading.{IsDue};
-ghost use Rattle.dmis_text.specs.declared.reading.TextFault.{TextFault};
 ghost use Rattle.dmis_program.specs.Keywords.{keyword_of};
 ghost use Rattle.dmis_program.specs.Meaning.{closes, without_end};
-ghost use Rattle.dmis_program.specs.Outcomes.{fault_at, refused_at, text_refused};
-ghost use Rattle.program_lowering.specs.Carried.{Carried, GivesLines, GivesStep, after_said, followed, left_out_after, noted, nothing_carried, step};
-ghost use Rattle.program_lowering.specs.Lowering.{lowered_meaning, flat_program, note_for, note_start, notes_of, passed_over, unwritten};
+ghost use Rattle.dmis_program.specs.Outcomes.{fault_at, refused_at, text_refused, Gives};
+ghost use Rattle.dmis_text.specs.Reading.{IsDue};
+ghost use Rattle.dmis_text.specs.declared.reading.TextFault.{TextFault};
+ghost use Rattle.program_lowering.specs.Carried.{GivesLines, GivesStep, after_said, followed, left_out_after, noted, nothing_carried, step, frames_closed, judged_next};
 ghost use Rattle.program_lowering.specs.Heads.{names_of};
 ghost use Rattle.program_lowering.specs.Lowered.{GivesLowered};
+ghost use Rattle.program_lowering.specs.Lowering.{lowered_meaning, flat_program, note_for, note_start, notes_of, passed_over};
+ghost use Rattle.program_lowering.specs.StoredFrames.{by_frame, if_stored};
+ghost use Rattle.program_lowering.specs.Carried.{Carried};
 
 use crate::above::Above;
 use crate::flats::{push_named, push_number};
@@ -17,6 +19,7 @@ use crate::heads::{SourceNames, with_head};
 use crate::inches::inches_after;
 use crate::lines::{push_line, text_refusal};
 use crate::manual::{is_skipped, manual_after};
+use crate::stored::{FrameNotes, stored_frame};
 use crate::words::{Choices, Reason, left_out, passed_reason, reason_text};
 use dmis_program::{
     Frames, Keyword, ProgramFault, Refusal, StatementFault, StatementMeaning, keyword_of_word,
@@ -44,17 +47,18 @@ struct Lowering {
     manual: bool,
     text: Vec<u8>,
     notes: Vec<u8>,
+    frames: FrameNotes,
 }
 
 impl Model for Lowering {
-    ghost use Rattle.std.specs.Prelude.{◌≤◌};
+    ghost use Rattle.std.specs.Prelude.{◌≤◌, IfSome};
     ghost use Rattle.program_lowering.specs.Carried.{Carried};
 
     ghost Value = { Carried };
 
-    ghost view = { λ l. record { above = l.above; inches = l.inches; manual = l.manual; text = l.text.items; notes = l.notes.items } };
+    ghost view = { λ l. record { above = l.above; inches = l.inches; manual = l.manual; text = l.text.items; notes = l.notes.items; frames = l.frames.text.items; since = l.frames.since } };
 
-    ghost invariant = { λ l. (l.above.number ≤ 10000) × (l.above.touched ≤ l.above.number) };
+    ghost invariant = { λ l. (l.above.number ≤ 10000) × (l.above.touched ≤ l.above.number) × (IfSome l.frames.since (λ n. n ≤ l.above.number)) };
 }
 
 /// Appends what names a statement: its line and its word.
@@ -147,6 +151,10 @@ impl Lowering {
             manual: false,
             text: Vec::new(alloc),
             notes: Vec::new(alloc),
+            frames: FrameNotes {
+                text: Vec::new(alloc),
+                since: None,
+            },
         }
     }
 
@@ -187,10 +195,36 @@ impl Lowering {
             statement,
             passed_over(keyword, statement, meaning),
         )?;
+        self.frames.follow(statement.line, meaning)?;
         self.above = self.above.after(meaning);
         self.inches = inches_after(self.inches, keyword, statement);
         self.manual = manual_after(self.manual, keyword, statement);
         Ok(())
+    }
+
+    /// What a statement with this keyword that counts says, with frames by name, or the refusal that is due.
+    #[tactic(auto, using(crate::proofs::FrameLemmas::frames))]
+    fn judge(
+        &self,
+        choices: Choices,
+        frames: &Frames,
+        keyword: Keyword,
+        statement: &Statement,
+    ) -> Result<StatementMeaning, StatementFault>
+        requires { keyword ≡ keyword_of statement.now.word }
+        ensures due { Gives result (judged_next frames.now self.now (by_frame choices statement.now)) }
+        ensures few { IfOk result (λ _. self.now.above.number < 10000) }
+        ensures same { IfOk result (λ m. followed self.now statement.now m
+            ≡ followed self.now (by_frame choices statement.now) m) }
+    {
+        if let Some(name) = stored_frame(self.alloc, choices, keyword, statement)? {
+            return Ok(self.above.judge_frame(frames, name)?);
+        }
+        if let Some(refusal) = text_refusal(self.alloc, statement)? {
+            return Err(StatementFault::Refused(refusal));
+        }
+        self.above
+            .judge(self.alloc, frames, self.inches, keyword, statement)
     }
 
     /// Takes the next statement. True at the end of the program. If memory runs out, what was carried is of no use.
@@ -209,12 +243,7 @@ impl Lowering {
             self.manual = manual;
             return Ok(false);
         }
-        if let Some(refusal) = text_refusal(self.alloc, statement)? {
-            return Err(StatementFault::Refused(refusal));
-        }
-        let meaning = self
-            .above
-            .judge(self.alloc, frames, self.inches, keyword, statement)?;
+        let meaning = self.judge(choices, frames, keyword, statement)?;
         self.follow(keyword, statement, &meaning)?;
         Ok(closes(&meaning))
     }
@@ -230,10 +259,12 @@ impl Lowering {
         }
     }
 
-    /// The flat program, and what was decided.
-    fn finish(self) -> Lowered
-        ensures text { result.text.items ≡ self.text }
-        ensures notes { result.notes.items ≡ self.notes }
+    /// The flat program, and what was decided. Fails only if out of memory.
+    fn finish(self, choices: Choices) -> Result<Lowered, ProgramFault>
+        ensures text { IfOk result (λ lowered. lowered.text.items ≡ self.text) }
+        ensures notes { IfOk result (λ lowered. lowered.notes.items
+            ≡ self.notes ++ if_stored choices (frames_closed self.frames self.since)) }
+        ensures err { IfErr result (λ fault. fault ≡ ProgramFault.Memory) }
     {
         let Lowering {
             alloc: _,
@@ -241,9 +272,13 @@ impl Lowering {
             inches: _,
             manual: _,
             text,
-            notes,
+            mut notes,
+            mut frames,
         } = self;
-        Lowered { text, notes }
+        if choices.stored_frames && frames.push_to(&mut notes).is_err() {
+            return Err(ProgramFault::Memory);
+        }
+        Ok(Lowered { text, notes })
     }
 }
 
@@ -260,7 +295,7 @@ fn lines_of(
     let mut lowering = Lowering::new(alloc);
     while let Some(statement) = next_statement(&mut statements)? {
         match lowering.take(choices, frames, &statement) {
-            Ok(true) => return Ok(lowering.finish()),
+            Ok(true) => return lowering.finish(choices),
             Ok(false) => statements.take_back(statement),
             Err(fault) => return Err(fault_at(fault, statement.line)),
         }

@@ -2,9 +2,8 @@
 
 ghost use Rattle.std.specs.Prelude.{◌≡◌};
 ghost use Rattle.dmis_program.specs.Keywords.{is_among, keyword_of};
-ghost use Rattle.program_lowering.specs.Words.{clearing, compensation, left_out, naming, passed_motion};
-ghost use Rattle.program_lowering.specs.Words.{passed_reason, printing, reason_of};
 ghost use Rattle.program_lowering.specs.Reasons.{reason_text};
+ghost use Rattle.program_lowering.specs.Words.{clearing, compensation, left_out, naming, passed_motion, passed_reason, printing, reason_of, is_of_setup, saves_frame};
 
 use dmis_program::Keyword;
 use dmis_text::{Statement, Text};
@@ -19,6 +18,8 @@ pub struct Choices {
     pub compensated: bool,
     /// What the operator would measure is left out.
     pub skip_manual: bool,
+    /// Alignments select the frames of the setup that have their names.
+    pub stored_frames: bool,
 }
 
 /// Why nothing is written of a statement.
@@ -40,6 +41,8 @@ pub enum Reason {
     Compensated,
     /// The operator would measure.
     Manual,
+    /// The setup has the frames.
+    Stored,
     /// It commands nothing.
     Passed,
 }
@@ -88,6 +91,23 @@ fn compensation(compensated: bool, params: &[Text]) -> Option<Reason>
     None
 }
 
+/// Whether a `SAVE` with these parameters saves a frame.
+fn saves_frame(params: &[Text]) -> bool
+    ensures { result ≡ saves_frame params.now }
+{
+    match params {
+        [only] => only.starts_with(b"D(") || only.starts_with(b"DA("),
+        _ => false,
+    }
+}
+
+/// What the setup's frames take the place of.
+fn is_of_setup(word: &[u8], params: &[Text]) -> bool
+    ensures { result ≡ is_of_setup word.now params.now }
+{
+    is_text(word, "DATDEF") || (is_text(word, "SAVE") && saves_frame(params))
+}
+
 /// Why a word that no flat program has may be left out.
 fn reason_of(choices: Choices, word: &[u8], params: &[Text]) -> Option<Reason>
     ensures { result ≡ reason_of choices word.now params.now }
@@ -113,6 +133,9 @@ fn reason_of(choices: Choices, word: &[u8], params: &[Text]) -> Option<Reason>
     }
     if is_text(word, "TECOMP") {
         return compensation(choices.compensated, params);
+    }
+    if choices.stored_frames && is_of_setup(word, params) {
+        return Some(Reason::Stored);
     }
     None
 }
@@ -159,6 +182,7 @@ pub(crate) fn reason_text(reason: Reason) -> &'static [u8]
         Reason::Uncompensated => b"nothing is corrected for temperature",
         Reason::Compensated => b"the machine corrects for temperature",
         Reason::Manual => b"it is in a manual block; the operator would carry it out",
+        Reason::Stored => b"the frames are the setup's",
         Reason::Passed => b"it commands nothing",
     }
 }

@@ -1,5 +1,5 @@
 use Rattle.std.proofs.Common.{rules, sym, ◌∙◌}
-use Rattle.program_lowering.proofs.EndLemmas.{goes_past, closes_at, at_statement, at_error, at_end, written_of}
+use Rattle.program_lowering.proofs.EndLemmas.{goes_past, closes_at, at_statement, at_error, at_end, finished, written_of}
 use Rattle.program_lowering.proofs.lowering.lines_of.Goals as goal
 
 pub loop-lowering-preserved : goal.loop-lowering-preserved
@@ -17,12 +17,7 @@ returns-in-Ok-true c =
     let closed = closes_at c.args.frames.now c.args.choices c.loop-lowering.statements.fault c.loop-lowering.statements.lines c.in-Some.statement
     c.loop-lowering.statements.left c.next_statement.new.statements.left c.loop-lowering.lowering c.take.new.self split given in
     let w = written_of c.args.frames.now c.args.choices c.args.bytes.now _ (sym c.loop-lowering.invariant ∙ closed) in
-    record {
-      meaning = w.meaning;
-      accepted = w.accepted;
-      flat = c.finish.ensures.text ∙ w.flat;
-      notes_are = c.finish.ensures.notes ∙ w.notes_are;
-    }
+    finished c.args.frames.now c.args.choices c.args.bytes.now _ _ c.finish.result w c.finish.ensures.text c.finish.ensures.notes c.finish.ensures.err
 
 pub returns-in-Err : goal.returns-in-Err
 returns-in-Err c =

@@ -1,0 +1,168 @@
+// Alignments by name.
+
+ghost use Rattle.std.specs.Prelude.{◌≡◌, ◌<◌, ◌++◌, IfOk, IfSome, OnOk};
+ghost use Rattle.std.specs.Option.{option_map};
+ghost use Rattle.dmis_program.specs.Keywords.{keyword_of};
+ghost use Rattle.dmis_program.specs.Parameters.{before_close, is_other_recall, name_within};
+ghost use Rattle.program_lowering.specs.Carried.{frames_after, frames_closed, since_after};
+ghost use Rattle.program_lowering.specs.StoredFrames as spec;
+
+use crate::flats::push_number;
+use crate::words::Choices;
+use dmis_program::{Keyword, StatementMeaning, word_refusal};
+use dmis_text::{Statement, Text};
+use fixed_um::Name;
+use program_review::is_among;
+use std::alloc::{AllocError, Global};
+
+/// What precedes a `)` at the end.
+fn before_close(text: &[u8]) -> Option<&[u8]>
+    ensures { option_map (λ t. t.now) result ≡ before_close text.now }
+{
+    match text {
+        [front @ .., b')'] => Some(front),
+        _ => None,
+    }
+}
+
+/// The name between these bytes and a `)`.
+#[tactic(auto, unfolding(dmis_program::specs::Parameters::name_within))]
+fn name_within(alloc: Global, front: &[u8], text: &[u8]) -> Result<Option<Name>, AllocError>
+    ensures { IfOk result (λ name. name ≡ name_within front.now text.now) }
+{
+    let Some(rest) = text.strip_prefix(front) else {
+        return Ok(None);
+    };
+    let Some(inner) = before_close(rest) else {
+        return Ok(None);
+    };
+    Name::new(alloc, inner)
+}
+
+/// The name in `D(name)` or `DA(name)`.
+fn frame_name(alloc: Global, text: &[u8]) -> Result<Option<Name>, AllocError>
+    ensures { IfOk result (λ name. name ≡ spec.frame_name text.now) }
+{
+    match name_within(alloc, b"D(", text)? {
+        Some(name) => Ok(Some(name)),
+        None => name_within(alloc, b"DA(", text),
+    }
+}
+
+/// Likewise of a label, if there is one.
+fn labelled_frame(alloc: Global, label: &Option<Text<'_>>) -> Result<Option<Name>, AllocError>
+    ensures { IfOk result (λ name. name ≡ spec.labelled_frame label.now) }
+{
+    match label {
+        Some(label) => frame_name(alloc, label),
+        None => Ok(None),
+    }
+}
+
+/// Likewise of a parameter, if it is the only one.
+fn only_frame(alloc: Global, params: &[Text]) -> Result<Option<Name>, AllocError>
+    ensures { IfOk result (λ name. name ≡ spec.only_frame params.now) }
+{
+    match params {
+        [only] => frame_name(alloc, only),
+        _ => Ok(None),
+    }
+}
+
+/// Whether a `RECALL` recalls what no flat program does.
+fn is_other_recall(params: &[Text]) -> bool
+    ensures { result ≡ is_other_recall params.now }
+{
+    word_refusal(1, None, Keyword::Recall, params).is_some()
+}
+
+/// The stored frame that a statement with this keyword selects by name, if frames are selected so.
+pub(crate) fn stored_frame(
+    alloc: Global,
+    choices: Choices,
+    keyword: Keyword,
+    statement: &Statement,
+) -> Result<Option<Name>, AllocError>
+    requires { keyword ≡ keyword_of statement.now.word }
+    ensures { IfOk result (λ name. name ≡ spec.stored_frame choices statement.now) }
+{
+    if !choices.stored_frames || statement.is_open() {
+        return Ok(None);
+    }
+    match keyword {
+        Keyword::Recall if is_other_recall(&statement.params) => {
+            only_frame(alloc, &statement.params)
+        }
+        Keyword::Unknown if is_among(&statement.word, &["DATSET", "TRANS", "ROTATE"]) => {
+            labelled_frame(alloc, &statement.label)
+        }
+        _ => Ok(None),
+    }
+}
+
+/// The notes on frames that are selected by name.
+#[derive(Drop)]
+pub(crate) struct FrameNotes {
+    /// A line for each, of which the last is open.
+    pub(crate) text: Vec<u8>,
+    /// How many touches refer to the last; none before the first.
+    pub(crate) since: Option<u64>,
+}
+
+/// Appends a line up to the count of touches.
+fn push_frame(out: &mut Vec<u8>, line: u64, name: &Name) -> Result<(), AllocError>
+    ensures { OnOk result (out.new.items ≡ out.old.items ++ spec.frame_start line name.now) }
+{
+    out.extend_from_slice(b"dme: line ")?;
+    push_number(out, line)?;
+    out.extend_from_slice(b": the frame is ")?;
+    out.extend_from_slice(name.as_bytes())?;
+    out.extend_from_slice(b" of the setup; touches that refer to it: ")
+}
+
+impl FrameNotes {
+    /// Ends the open line.
+    fn close(&mut self) -> Result<(), AllocError>
+        ensures text { OnOk result (self.new.text.items
+            ≡ frames_closed self.old.text.items self.old.since) }
+        ensures since { self.new.since ≡ self.old.since }
+    {
+        if let Some(touches) = self.since {
+            push_number(&mut self.text, touches)?;
+            self.text.extend_from_slice(b"\n")?;
+        }
+        Ok(())
+    }
+
+    /// Appends all lines.
+    pub(crate) fn push_to(&mut self, out: &mut Vec<u8>) -> Result<(), AllocError>
+        ensures { OnOk result (out.new.items
+            ≡ out.old.items ++ frames_closed self.old.text.items self.old.since) }
+    {
+        self.close()?;
+        out.extend_from_slice(self.text.as_slice())
+    }
+
+    /// After the statement of this line, which says this.
+    pub(crate) fn follow(&mut self, line: u64, meaning: &StatementMeaning) -> Result<(), AllocError>
+        requires { IfSome self.old.since (λ n. n < 10000) }
+        ensures text { OnOk result (self.new.text.items
+            ≡ frames_after self.old.text.items self.old.since line meaning.now) }
+        ensures since { OnOk result (self.new.since ≡ since_after self.old.since meaning.now) }
+    {
+        match meaning {
+            StatementMeaning::Recalls(name) => {
+                self.close()?;
+                push_frame(&mut self.text, line, name)?;
+                self.since = Some(0);
+            }
+            StatementMeaning::Touches(_, _) => {
+                if let Some(touches) = self.since {
+                    self.since = Some(touches + 1);
+                }
+            }
+            _ => {}
+        }
+        Ok(())
+    }
+}
