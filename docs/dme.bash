@@ -4,7 +4,7 @@ _dme()
     local word=${COMP_WORDS[COMP_CWORD]} before=${COMP_WORDS[COMP_CWORD - 1]} options
     COMPREPLY=()
     if (( COMP_CWORD == 1 )); then
-        mapfile -t COMPREPLY < <(compgen -W "check simulate audit loop serve run explain export review lower ledger judge watch help --help --version" -- "$word")
+        mapfile -t COMPREPLY < <(compgen -W "check simulate audit loop serve run explain export report review lower ledger judge watch help --help --version" -- "$word")
         return
     fi
     case $before in
@@ -30,6 +30,7 @@ _dme()
         serve) options="--setup --listen --port --connections --endless --contacts --progress --trace --log --timeout --stop --explain" ;;
         run) options="--setup --host --port --window --features --record --part --contacts --progress --trace --log --timeout --wait --stop --confirm --pause --explain" ;;
         export) options="--as --setup --features --record --limits --explain" ;;
+        report) options="--record --setup --limits --explain" ;;
         review) options="--as --setup" ;;
         lower) options="--setup --no-clearing --compensated --skip-manual --stored-frames --explain" ;;
         ledger) options="--up --down --connection" ;;
@@ -42,7 +43,7 @@ _dme()
             [[ $word == -* ]] && options=--help
             mapfile -t COMPREPLY < <(compgen -W "$options" -- "$word")
             return ;;
-        help) options="check simulate audit loop serve run explain export review lower ledger judge watch" ;;
+        help) options="check simulate audit loop serve run explain export report review lower ledger judge watch" ;;
         *) return ;;
     esac
     if [[ ${COMP_WORDS[1]} == help || $word == -* ]]; then

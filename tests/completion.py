@@ -57,7 +57,7 @@ def is_whole(name):
 
 def check_completion():
     """How many lists are as the program reports, and how many are not."""
-    names = ["commands", "codes", "forms", "check", "simulate", "audit", "loop", "serve", "run", "explain", "export", "review", "lower", "ledger", "judge", "watch"]
+    names = ["commands", "codes", "forms", "check", "simulate", "audit", "loop", "serve", "run", "explain", "export", "report", "review", "lower", "ledger", "judge", "watch"]
     wrong = [it for it in names if not (PROGRAM.exists() and is_whole(it))]
     for name in wrong:
         print(f"completion of {name}: not as the program says")

@@ -1,6 +1,6 @@
 """Refuses each growth of a run in turn: the first, then the second, up to the last that it makes (refuse.c).
 
-Each run of a command must end with status 4 and `dme: out of memory`. `check`, `review`, `simulate`, `audit`, `export` and `explain` have
+Each run of a command must end with status 4 and `dme: out of memory`. `check`, `review`, `simulate`, `audit`, `export`, `report` and `explain` have
 then printed nothing; a command over a connection has printed nothing, or the report of what was done until then, and has left its file as it
 was or put a prefix of it there. For the calls that these commands make (`test_calls`), each growth of a pump or of a whole connection must be
 answered as out of memory, the side has left, and a prefix of its lines has gone out. A run may ask for room in advance and manage without
@@ -58,6 +58,7 @@ FILE_ROWS = {
     "export_svg": "export --as svg --setup machine.setup --features break_inside_a_feature.features circle.dmis",
     "audit_record": "audit --setup machine.setup --record break_inside_a_feature.record circle.dmis",
     "export_features": "export --as features --record break_inside_a_feature.record circle.dmis",
+    "report": "report --record break_inside_a_feature.record circle.dmis",
     "export_contacts": "export --as contacts --record break_inside_a_feature.record circle.dmis",
     "explain": "explain P5",
 }

@@ -37,10 +37,19 @@ worse_row range worst number (Some along) = worse range worst (record { number =
 abbrev pub worst_after : Range → Option Worst → List Row → Option Worst
 worst_after range worst rows = fold (λ worst r. worse_row range worst r.place.number r.along) worst rows
 
+-- the words for a worst point
+unfoldable pub point_words : Range → Worst → List ℕ
+point_words range worst = codes "worst " ++ (written worst.along ++ (codes " at point " ++ (decimal worst.number
+    ++ (codes ": " ++ verdict_word (verdict_in range worst.along)))))
+
+-- the words for the worst of rows; none if no row is compared
+abbrev pub worst_words : Range → Option Worst → List ℕ
+worst_words range None = []
+worst_words range (Some worst) = point_words range worst
+
 -- the line that names the worst point of a feature
 unfoldable pub worst_line : List ℕ → Range → Worst → List ℕ
-worst_line label range worst = codes "dme: " ++ (label ++ (codes ": worst " ++ (written worst.along ++ (codes " at point "
-    ++ (decimal worst.number ++ (codes ": " ++ (verdict_word (verdict_in range worst.along) ++ codes "\n")))))))
+worst_line label range worst = codes "dme: " ++ (label ++ (codes ": " ++ (point_words range worst ++ codes "\n")))
 
 abbrev pub worst_text : List ℕ → Range → Option Worst → List ℕ
 worst_text label range None = []

@@ -16,8 +16,8 @@ pub use Rattle.json.specs.Lex.{tokens}
 pub use Rattle.json.specs.Token.{key, null, number, string}
 unfoldable pub use Rattle.tool_rack.specs.Entries.{length_of}
 pub use Rattle.deviations.specs.Along.{IsAlong, IsDeviation, IsNearestRoot, deviation, deviation_limit, on_side_of, scalar_product, squared, squared_length}
-unfoldable pub use Rattle.deviations.specs.Compared.{part_text, worst_line}
-pub use Rattle.deviations.specs.Compared.{compared_count, compared_text, feature_text, features_text, is_out, margin, out_count, worse, worse_row, worst_after, worst_text}
+unfoldable pub use Rattle.deviations.specs.Compared.{part_text, point_words, worst_line}
+pub use Rattle.deviations.specs.Compared.{compared_count, compared_text, feature_text, features_text, is_out, margin, out_count, worse, worse_row, worst_after, worst_text, worst_words}
 unfoldable pub use Rattle.deviations.specs.Entries.{entry_on}
 pub use Rattle.deviations.specs.Entries.{is_in_micrometres, is_no_exponent, label_in, length_in, limit_from}
 unfoldable pub use Rattle.deviations.specs.Json.{along_member, asked_members, connection_member, count_member, deviation_members, feature_member, found_members, kind_member, limit_member, means_members, measured_members, nominal_members, normal_members, place_members, row_tokens, tool_member}

@@ -1,7 +1,7 @@
 // The lines that compare the points of a part with limits.
 
 ghost use Rattle.std.specs.Prelude.{◌≡◌, ◌-ℤ◌, ◌++◌, ◌≤◌, ◌^◌, take, drop, IfOk, OnOk, string_bytes, None, unsigned_abs};
-ghost use Rattle.deviations.specs.Names.{int_min, margin, worse, worse_row, worst_after, worst_line, worst_text, feature_text, features_text, is_out, compared_count, out_count, part_text, compared_text};
+ghost use Rattle.deviations.specs.Names.{int_min, margin, worse, worse_row, worst_after, point_words, worst_words, worst_line, worst_text, feature_text, features_text, is_out, compared_count, out_count, part_text, compared_text};
 
 use crate::judged::{row_verdict, verdict_word};
 use crate::printed::Micrometres;
@@ -95,18 +95,38 @@ fn worst_of(range: &Range, rows: &[Row<'_>]) -> Option<Worst>
     worst
 }
 
+#[tactic(auto, unfolding(crate::specs::Compared::point_words))]
+fn push_worst(text: &mut String, range: Range, worst: Worst) -> Result<(), AllocError>
+    ensures { OnOk result (string_bytes text.new
+        ≡ string_bytes text.old ++ point_words range worst) }
+{
+    let along = Micrometres(worst.along);
+    let number = worst.number;
+    let verdict = verdict_word(range.verdict(worst.along));
+    write!(text, "worst {along} at point {number}: {verdict}")
+}
+
+/// The words for the worst of rows under a range, as `worst 0.021 at point 3: out`; none if no row has a deviation along its normal. Fails
+/// only if out of memory.
+pub fn worst_words(alloc: Global, range: Range, rows: &[Row<'_>]) -> Result<String, AllocError>
+    ensures { IfOk result (λ text. string_bytes text
+        ≡ worst_words range (worst_after range None rows.now)) }
+{
+    let mut text = String::new(alloc);
+    if let Some(worst) = worst_of(&range, rows) {
+        push_worst(&mut text, range, worst)?;
+    }
+    Ok(text)
+}
+
 #[tactic(auto, unfolding(crate::specs::Compared::worst_line))]
 fn push_line(text: &mut String, label: &Name, range: Range, worst: Worst) -> Result<(), AllocError>
     ensures { OnOk result (string_bytes text.new
         ≡ string_bytes text.old ++ worst_line label.now range worst) }
 {
-    let along = Micrometres(worst.along);
-    let number = worst.number;
-    let verdict = verdict_word(range.verdict(worst.along));
-    write!(
-        text,
-        "dme: {label}: worst {along} at point {number}: {verdict}\n"
-    )
+    write!(text, "dme: {label}: ")?;
+    push_worst(text, range, worst)?;
+    text.push_str("\n")
 }
 
 /// Appends the line of a feature, if a limit is for it and one of its points has a deviation along its normal. Fails only if out of memory.
@@ -128,9 +148,9 @@ fn push_feature(
     }
 }
 
-/// The first rows, up to this many.
+/// The first rows, up to this many. Does not allocate.
 #[tactic(auto, using(std::proofs::lemmas::List::take_all))]
-fn front<'a, 'b>(rows: &'a [Row<'b>], count: usize) -> &'a [Row<'b>]
+pub fn first_rows<'a, 'b>(rows: &'a [Row<'b>], count: usize) -> &'a [Row<'b>]
     ensures { result.now ≡ take count rows.now }
 {
     if count > rows.len() {
@@ -140,9 +160,9 @@ fn front<'a, 'b>(rows: &'a [Row<'b>], count: usize) -> &'a [Row<'b>]
     front
 }
 
-/// The rows after those.
+/// The rows after the first ones, if these are this many. Does not allocate.
 #[tactic(auto, using(std::proofs::lemmas::List::drop_all))]
-fn behind<'a, 'b>(rows: &'a [Row<'b>], count: usize) -> &'a [Row<'b>]
+pub fn later_rows<'a, 'b>(rows: &'a [Row<'b>], count: usize) -> &'a [Row<'b>]
     ensures { result.now ≡ drop count rows.now }
 {
     if count > rows.len() {
@@ -167,9 +187,9 @@ fn push_features(
     while let [first, others @ ..] = left {
         let count = first.touches.as_slice().len();
         let range = limits.range_for(&first.label);
-        push_feature(text, &first.label, range, front(later, count))?;
+        push_feature(text, &first.label, range, first_rows(later, count))?;
         left = others;
-        later = behind(later, count);
+        later = later_rows(later, count);
     }
     Ok(())
 }
@@ -184,7 +204,8 @@ fn is_out(verdict: Option<Verdict>) -> bool
     }
 }
 
-fn compared_count(limits: &Limits, rows: &[Row<'_>]) -> usize
+/// How many rows are compared with a limit. Does not allocate.
+pub fn compared_count(limits: &Limits, rows: &[Row<'_>]) -> usize
     ensures { result ≡ compared_count limits.now rows.now }
 {
     rows.iter()
@@ -192,7 +213,8 @@ fn compared_count(limits: &Limits, rows: &[Row<'_>]) -> usize
         .count()
 }
 
-fn out_count(limits: &Limits, rows: &[Row<'_>]) -> usize
+/// How many of them are out of their limits. Does not allocate.
+pub fn out_count(limits: &Limits, rows: &[Row<'_>]) -> usize
     ensures { result ≡ out_count limits.now rows.now }
 {
     rows.iter()

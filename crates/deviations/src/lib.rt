@@ -27,7 +27,7 @@ mod records;
 pub mod rows;
 
 pub use along::{Deviation, along_normal, one_length_is_along};
-pub use compared::limit_lines;
+pub use compared::{compared_count, first_rows, later_rows, limit_lines, out_count, worst_words};
 pub use entries::is_in_micrometres;
 pub use faults::RowsFault;
 pub use forms::Form;
@@ -35,6 +35,7 @@ pub use judged::{row_verdict, verdict_word};
 pub use limit_faults::LimitsFault;
 pub use limits::Limits;
 pub use objects::write_json;
+pub use printed::Micrometres;
 pub use ranges::{Range, Verdict};
 pub use records::write_csv;
 pub use rows::{Row, rows_of};

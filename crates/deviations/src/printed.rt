@@ -13,7 +13,7 @@ fn minus(value: i128) -> &'static str
 
 /// A length in micrometres, which is printed in millimetres with three decimals; a deviation may be longer than a length on a wire.
 #[derive(Clone, Copy)]
-pub(crate) struct Micrometres(pub i128);
+pub struct Micrometres(pub i128);
 
 impl fmt::Display for Micrometres {
     ghost output = { λ m. Some (written m.0) };

@@ -15,3 +15,4 @@ pub mod Exporting
 pub mod Recorded
 pub mod OfRecords
 pub mod RunErrors
+pub mod Reporting

@@ -18,7 +18,7 @@ use order_parts::FilesFault;
 use std::alloc::{AllocError, Global};
 
 /// The exit status of an audit, and its line. Fails only if out of memory.
-fn verdict_line(
+pub(crate) fn verdict_line(
     alloc: Global,
     program: &Program,
     features: &[Feature],

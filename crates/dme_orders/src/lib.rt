@@ -8,6 +8,7 @@
 //! - `exporting`: what was measured is put next to what a program asks for; `explaining`: what a refusal means
 //! - `of_records`: a record is audited and exported; `missing`: which features were not measured; `run_errors`: what the
 //!   server reported meanwhile
+//! - `reporting`: the page of a part
 //! - `notes`: what an audit found, and in what a record differs from a program, besides what an order prints
 //! - `preparing`: the files of an order over a connection are read before there is one
 //! - `looping`: a program is run over one connection between both ends
@@ -29,6 +30,7 @@ mod of_records;
 mod orders;
 mod preparing;
 mod reading;
+mod reporting;
 mod reviewing;
 mod run_errors;
 mod simulating;
@@ -46,6 +48,7 @@ pub use of_records::{RecordFiles, RecordNotes, RecordText, audit_record, export_
 pub use orders::check_under_setup;
 pub use preparing::setup_and_program;
 pub use reading::read_setup;
+pub use reporting::report_record;
 pub use reviewing::review_program;
 pub use simulating::{SimulationFiles, simulate};
 pub use verdicts::write_verdict;

@@ -73,7 +73,7 @@ fn record_input<S: Source, J: Source, R: Source>(
 }
 
 /// Likewise, and before them limits if they are named.
-fn limited_input<L: Source, S: Source, J: Source, R: Source>(
+pub(crate) fn limited_input<L: Source, S: Source, J: Source, R: Source>(
     alloc: Global,
     limits: &mut Option<L>,
     files: &mut RecordFiles<S, J, R>,
@@ -105,7 +105,11 @@ fn limited_input<L: Source, S: Source, J: Source, R: Source>(
 }
 
 /// Refuses a record that is not of this program. One that is not begun is of any.
-fn of_program(alloc: Global, held: &Option<Record>, program: &Program) -> Result<(), FilesFault>
+pub(crate) fn of_program(
+    alloc: Global,
+    held: &Option<Record>,
+    program: &Program,
+) -> Result<(), FilesFault>
     ensures same { OnOk result (IsOfProgram held.now program.now) }
     ensures other { IfErr result (RefusesRecord held.now program.now) }
 {
@@ -119,7 +123,7 @@ fn of_program(alloc: Global, held: &Option<Record>, program: &Program) -> Result
 }
 
 /// The features and the acts of a record; one that is not begun has none.
-fn parts_of(alloc: Global, held: Option<Record>) -> (FeatureLedger, ServerLedger)
+pub(crate) fn parts_of(alloc: Global, held: Option<Record>) -> (FeatureLedger, ServerLedger)
     ensures features { result.0 ≡ features_in held }
     ensures told { result.1 ≡ told_in held }
 {

@@ -5,10 +5,12 @@ use crate::files::{NamedSource, Sources, file_of};
 use byte_ports::Writing;
 use dme_orders::{
     ExportFiles, Exported, RecordFiles, RecordText, explain, export_files, export_record,
+    report_record,
 };
-use dme_words::{Export, RecordExport, RecordForm};
+use dme_words::{Export, PartReport, RecordExport, RecordForm};
 use order_parts::FilesFault;
 use refusal_guide::{InputFiles, Topic};
+use std::alloc::AllocError;
 use std::io;
 
 /// The exit status of an export, after which standard error shows what it says besides what it prints, or why it was not carried out.
@@ -89,6 +91,39 @@ pub fn export_of_record(rt: HostRuntime, order: RecordExport) -> u8 {
         ..record_files(rt, sought)
     };
     export_end(rt, exported, files, order.explain)
+}
+
+/// How a page names a file.
+fn shown_name(name: &str) -> &str {
+    if name == "-" { "standard input" } else { name }
+}
+
+/// The order `report`: its exit status.
+#[inline(never)]
+pub fn report_of_record(rt: HostRuntime, order: PartReport) -> Result<u8, AllocError> {
+    let name = order.program.clone()?;
+    let mut sources = Sources::new(rt, order.explain);
+    let mut sought = RecordFiles {
+        setup: sources.maybe(order.setup),
+        record: sources.file(order.record),
+        program: sources.file(order.program),
+    };
+    let mut limits = sources.maybe(order.limits);
+    let mut sink = Writing::new(io::writer(&rt));
+    let name = shown_name(name.as_str());
+    let reported = report_record(rt.alloc(), name, &mut limits, &mut sought, &mut sink);
+    let files = InputFiles {
+        limits: file_of(rt, limits),
+        ..record_files(rt, sought)
+    };
+    match reported {
+        Ok(missing) => {
+            let sentence = &missing.sentence;
+            let _ = eprint!(rt; "{sentence}");
+            Ok(missing.status())
+        }
+        Err(fault) => Ok(refused(rt, fault, files, order.explain)),
+    }
 }
 
 /// The order `explain`: its exit status.

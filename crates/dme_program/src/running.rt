@@ -7,7 +7,7 @@ ghost use Rattle.dme_program.specs.Blamed.{OnSetup};
 
 use crate::connecting::loop_program;
 use crate::explaining::{refused, tell_audit};
-use crate::exporting::{explain_topic, export, export_of_record, record_files};
+use crate::exporting::{explain_topic, export, export_of_record, record_files, report_of_record};
 use crate::faults::Fault;
 use crate::files::{NamedSource, Sources, file_of};
 use crate::serving::{read_recordings, run_program, serve, watch};
@@ -265,6 +265,7 @@ fn carry_out(rt: HostRuntime, order: Order) -> Result<u8, Fault>
         Order::Judge(order) => Ok(read_recordings(rt, Job::Judge, order.up, order.down)?),
         Order::Watch(order) => Ok(watch(rt, order)?),
         Order::Lower(order) => Ok(lower(rt, order)?),
+        Order::Report(order) => Ok(report_of_record(rt, order)?),
     }
 }
 

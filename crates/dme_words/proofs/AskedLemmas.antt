@@ -3,7 +3,7 @@ use Rattle.dme_words.proofs.Names.{[], ◌||◌, ◌∷◌, ◌≡◌, answers_t
 use Rattle.dme_words.proofs.Names.{bytes_eq-Decides, check_line, codes, cond, entered, entered_fault, explain_line, export_line, false, fault_of}
 use Rattle.dme_words.proofs.Names.{find, Has, inl, inr, is_some, IsAskable, IsSomeAnd, judge_line, label_of, leaf, ledger_line, level_fault, List}
 use Rattle.dme_words.proofs.Names.{loop_line, lower_line, names_of, None, none-some, nothing_held, Option, option_map, option_map_or, refl, rows_after, rows_at}
-use Rattle.dme_words.proofs.Names.{run_line, serve_line, Shape, simulate_line, Some, subcommand_of, sym, Text, true, true≢false, walk, walk_fault}
+use Rattle.dme_words.proofs.Names.{report_line, run_line, serve_line, Shape, simulate_line, Some, subcommand_of, sym, Text, true, true≢false, walk, walk_fault}
 use Rattle.dme_words.proofs.Names.{walk_from, watch_line, whole_line}
 use Rattle.dme_words.proofs.HelpLemmas.{NotAtHelp, entered_there, first_none, second_none, walk_stops}
 use Rattle.dme_words.proofs.FoundLemmas.{level_has}
@@ -99,6 +99,11 @@ lowered words none = level_has (leaf lower_line) words refl
     ((refl, inl (refl, refl)), ((refl, inr (inl (refl, omega arith))), ((refl, inr (inl (refl, omega arith))), ((refl, inr (inl (refl, omega arith))), ((refl, inr (inl (refl, omega arith))), ((refl, inr (inl (refl, omega arith))), ((refl, inl (refl, refl)), ((refl, inr (inr refl)), tt))))))))
     none
 
+reported : (words : List Text) → level_fault (leaf report_line) [] nothing_held words false [] ≡ [] → Has report_line (rows_after (leaf report_line).rules [] words)
+reported words none = level_has (leaf report_line) words refl
+    ((refl, inl (refl, refl)), ((refl, inl (refl, refl)), ((refl, inl (refl, refl)), ((refl, inr (inl (refl, omega arith))), ((refl, inl (refl, refl)), ((refl, inr (inr refl)), tt))))))
+    none
+
 -- each subcommand of `dme` may be asked for, and `help` was not met
 serves : (p : Text × List Text) → NotAtHelp (Some p) → Serve p.0 p.1 (built whole_line).subs
 serves p free = (
@@ -126,8 +131,11 @@ serves p free = (
                       (
                         λ answers none. inr (inr (inr (inr (inr (inr (inr (inr (inr (inr (inr (inl (refl, relayed p.1 none)))))))))))),
                         (
-                          λ answers none. inr (inr (inr (inr (inr (inr (inr (inr (inr (inr (inr (inr (refl, lowered p.1 none)))))))))))),
-                          (λ answers none. absurd (no_help p.0 p.1 free answers), tt),
+                          λ answers none. inr (inr (inr (inr (inr (inr (inr (inr (inr (inr (inr (inr (inl (refl, lowered p.1 none))))))))))))),
+                          (
+                            λ answers none. inr (inr (inr (inr (inr (inr (inr (inr (inr (inr (inr (inr (inr (refl, reported p.1 none))))))))))))),
+                            (λ answers none. absurd (no_help p.0 p.1 free answers), tt),
+                          ),
                         ),
                       ),
                     ),

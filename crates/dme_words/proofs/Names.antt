@@ -24,7 +24,7 @@ pub use Rattle.clap.specs.declared.error.kind.ErrorKind.{ErrorKind}
 pub use Rattle.clap.specs.declared.parser.matches.ValueSource.TheVariants.{CommandLine, DefaultValue}
 pub use Rattle.dme_words.specs.Arguments.{with_argument, with_line}
 pub use Rattle.dme_words.specs.CommandLine.{audit_line, check_line, explain_line, export_line, judge_line, ledger_line, loop_line, lower_line, run_line}
-pub use Rattle.dme_words.specs.CommandLine.{serve_line, simulate_line, watch_line, whole_line}
+pub use Rattle.dme_words.specs.CommandLine.{report_line, serve_line, simulate_line, watch_line, whole_line}
 pub use Rattle.dme_words.specs.Ordered.{Asks, AsksForNothing, Has, has_default, HasAll, HasFault, HasFlag, HasIf, HasNoValue, HasRead, HasSigned}
 pub use Rattle.dme_words.specs.Ordered.{HasValue, IsAskable, IsCalled, IsFlagOf, IsLaterAskable, IsNumber, IsOrderOf, IsRefusal, IsRefusedOf, leaf}
 pub use Rattle.std.proofs.Common.{[], ◌&&◌, ◌++◌, ◌<◌, ◌==◌, ◌^◌, ◌||◌, ◌∙◌, ◌∷◌, ◌≡◌, ◌≢◌, ◌⊎◌, ap, ap₂, arith, Bool, codes, cond, drop, encode_utf8}

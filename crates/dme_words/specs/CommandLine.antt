@@ -120,6 +120,11 @@ abbrev pub lower_line : App
 lower_line = line_of (codes "lower") (text_rule (codes "setup") ∷ flag_rule (codes "no-clearing") ∷ flag_rule (codes "compensated")
     ∷ flag_rule (codes "skip-manual") ∷ flag_rule (codes "stored-frames") ∷ flag_rule (codes "explain") ∷ program_rule ∷ [])
 
+-- `report --record FILE [--setup FILE] [--limits FILE] [--explain] [PROGRAM]`
+abbrev pub report_line : App
+report_line = line_of (codes "report") (needed_rule (codes "record") ∷ text_rule (codes "setup") ∷ text_rule (codes "limits")
+    ∷ flag_rule (codes "explain") ∷ program_rule ∷ [])
+
 -- the command without its subcommands, of which one is required
 abbrev pub bare_line : App
 bare_line = record (new_app (codes "dme")) { top = record (new_app (codes "dme")).top { subcommand_required = true } }
@@ -132,4 +137,5 @@ first_line = fold (λ line order. with_subcommand line order.top) bare_line (che
 -- `dme COMMAND ..`
 abbrev pub whole_line : App
 whole_line = fold (λ line order. with_subcommand line order.top) bare_line (check_line ∷ simulate_line ∷ audit_line ∷ loop_line
-    ∷ serve_line ∷ run_line ∷ explain_line ∷ export_line ∷ review_line ∷ ledger_line ∷ judge_line ∷ watch_line ∷ lower_line ∷ [])
+    ∷ serve_line ∷ run_line ∷ explain_line ∷ export_line ∷ review_line ∷ ledger_line ∷ judge_line ∷ watch_line ∷ lower_line
+    ∷ report_line ∷ [])

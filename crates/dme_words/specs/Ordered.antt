@@ -16,7 +16,7 @@ use Rattle.refusal_guide.specs.Codes.{is_code_of}
 use Rattle.record_text.specs.Heads.{IsPart, IsPartGiven}
 use Rattle.refusal_guide.specs.declared.topics.Topic.{Topic}
 use Rattle.deviations.specs.declared.forms.Form.TheVariants.{Csv, Json, Svg}
-use Rattle.dme_words.specs.CommandLine.{audit_line, check_line, explain_line, export_line, judge_line, ledger_line, loop_line, lower_line, run_line, serve_line, simulate_line, watch_line, whole_line}
+use Rattle.dme_words.specs.CommandLine.{audit_line, check_line, explain_line, export_line, judge_line, ledger_line, loop_line, lower_line, report_line, run_line, serve_line, simulate_line, watch_line, whole_line}
 use Rattle.dme_words.specs.declared.orders.Audit.{Audit}
 use Rattle.dme_words.specs.declared.orders.Check.{Check}
 use Rattle.dme_words.specs.declared.orders.Export.{Export}
@@ -26,6 +26,7 @@ use Rattle.dme_words.specs.declared.orders.Loop.{Loop}
 use Rattle.dme_words.specs.declared.orders.Lower.{Lower}
 use Rattle.dme_words.specs.declared.orders.Order.{Order}
 use Rattle.dme_words.specs.declared.orders.Order.TheVariants as order
+use Rattle.dme_words.specs.declared.orders.PartReport.{PartReport}
 use Rattle.dme_words.specs.declared.orders.RecordAudit.{RecordAudit}
 use Rattle.dme_words.specs.declared.orders.RecordExport.{RecordExport}
 use Rattle.dme_words.specs.declared.orders.RecordForm.{RecordForm}
@@ -246,6 +247,13 @@ IsLowerOf rows o =
     × IsFlagOf (codes "stored-frames") rows o.stored_frames × IsExplainedOf rows o.explain
     × IsProgramOf rows (string_bytes o.program)
 
+-- the page of the named record, under the program and the named setup and limits, each if one is named
+abbrev pub IsReportOf : List Row → PartReport → Type 0
+IsReportOf rows o =
+    IsMaybeOf (codes "setup") rows (option_map string_bytes o.setup) × IsValueOf (codes "record") rows (string_bytes o.record)
+    × IsMaybeOf (codes "limits") rows (option_map string_bytes o.limits) × IsExplainedOf rows o.explain
+    × IsProgramOf rows (string_bytes o.program)
+
 -- the order of a subcommand with its values, by its name
 abbrev pub IsNamedOrderOf : Text × List Row → Order → Type 0
 IsNamedOrderOf p (order.Check o) = (p.0 ≡ codes "check") × IsCheckOf p.1 o
@@ -263,6 +271,7 @@ IsNamedOrderOf p (order.Ledger o) = (p.0 ≡ codes "ledger") × IsLedgerOf p.1 o
 IsNamedOrderOf p (order.Judge o) = (p.0 ≡ codes "judge") × IsJudgeOf p.1 o
 IsNamedOrderOf p (order.Watch o) = (p.0 ≡ codes "watch") × IsWatchOf p.1 o
 IsNamedOrderOf p (order.Lower o) = (p.0 ≡ codes "lower") × IsLowerOf p.1 o
+IsNamedOrderOf p (order.Report o) = (p.0 ≡ codes "report") × IsReportOf p.1 o
 
 -- the order of the subcommand that was found
 abbrev pub IsOrderOf : Option (Text × List Row) → Order → Type 0
@@ -316,12 +325,13 @@ leaf line = built_leaf (inherited (on_top with_leaf_noted (on_top marked_built w
 abbrev pub Has : App → List Row → Type 0
 Has line rows = HasAll (leaf line).rules rows
 
--- the name of one of the last nine subcommands, with the values that it cannot do without
+-- the name of one of the last ten subcommands, with the values that it cannot do without
 abbrev pub IsLaterAskable : Text × List Row → Type 0
 IsLaterAskable p = ((p.0 ≡ codes "serve") × Has serve_line p.1) ⊎ ((p.0 ≡ codes "run") × Has run_line p.1)
     ⊎ ((p.0 ≡ codes "explain") × Has explain_line p.1) ⊎ ((p.0 ≡ codes "export") × Has export_line p.1)
     ⊎ (p.0 ≡ codes "review") ⊎ ((p.0 ≡ codes "ledger") × Has ledger_line p.1) ⊎ ((p.0 ≡ codes "judge") × Has judge_line p.1)
     ⊎ ((p.0 ≡ codes "watch") × Has watch_line p.1) ⊎ ((p.0 ≡ codes "lower") × Has lower_line p.1)
+    ⊎ ((p.0 ≡ codes "report") × Has report_line p.1)
 
 -- the name of a subcommand of `dme`, with the values that it cannot do without
 abbrev pub IsAskable : Text × List Row → Type 0
@@ -346,6 +356,7 @@ IsReady (order.Ledger o) = (1 ≤ o.connection) × (o.connection ≤ 4000000000)
 IsReady (order.Judge o) = Unit {0}
 IsReady (order.Watch o) = (1 ≤ o.listen) × (1 ≤ o.port) × (1 ≤ o.connections) × (o.connections ≤ 4000000000)
 IsReady (order.Lower o) = Unit {0}
+IsReady (order.Report o) = Unit {0}
 
 -- the words are a command line without a fault, and this is the order of the subcommand that they name, with its values
 pub record Asks (words : List Text) (asked : Order) : Type 0 where

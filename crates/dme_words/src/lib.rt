@@ -12,7 +12,7 @@ pub mod words;
 
 pub use misfits::{Lacks, Misfit};
 pub use orders::{
-    Audit, Check, Export, Judge, Ledger, Loop, Lower, Order, RecordAudit, RecordExport, RecordForm,
-    Review, Run, Service, Simulation, Watch,
+    Audit, Check, Export, Judge, Ledger, Loop, Lower, Order, PartReport, RecordAudit, RecordExport,
+    RecordForm, Review, Run, Service, Simulation, Watch,
 };
 pub use words::{WordsFault, read_words};

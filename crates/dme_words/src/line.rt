@@ -28,6 +28,7 @@ At the machine:
 After a run:
   audit     Says in which runs of the server's contacts the client's features were measured
   export    Prints how far the measured points of features lie from their nominal points
+  report    Prints a page of a part, for a browser or a printer
 
 For makers of clients and servers:
   serve     Is the server of a simulated machine, and prints the contacts that it made
@@ -81,6 +82,8 @@ const RECORD_HELP: &str =
     "The record of a run, in place of features and contacts; - is standard input";
 
 const MEASURED_HELP: &str = "The features that were measured; - is standard input";
+
+const REPORTED_RECORD_HELP: &str = "The record of a run; - is standard input";
 
 const LIMITS_HELP: &str =
     "The limits that the points are compared with, along the normal; - is standard input";
@@ -278,7 +281,7 @@ const LINES: [Line; 6] = [
 ];
 
 /// The others.
-const LATER_LINES: [Line; 7] = [
+const LATER_LINES: [Line; 8] = [
     Line(
         "explain",
         "Says what a refusal means and what to do about it",
@@ -341,6 +344,17 @@ const LATER_LINES: [Line; 7] = [
             Flag("compensated", COMPENSATED_HELP),
             Flag("skip-manual", SKIP_MANUAL_HELP),
             Flag("stored-frames", STORED_FRAMES_HELP),
+            EXPLAIN,
+            PROGRAM,
+        ],
+    ),
+    Line(
+        "report",
+        "Prints a page of a part, for a browser or a printer",
+        &[
+            Needed("record", "FILE", REPORTED_RECORD_HELP),
+            SETUP,
+            Text("limits", "FILE", LIMITS_HELP),
             EXPLAIN,
             PROGRAM,
         ],

@@ -36,6 +36,8 @@ pub enum Order {
     Watch(Watch),
     /// Write the flat program that a program stands for.
     Lower(Lower),
+    /// Print the page of a part.
+    Report(PartReport),
 }
 
 /// The values of `check`.
@@ -291,6 +293,21 @@ pub struct Lower {
     pub skip_manual: bool,
     /// Whether alignments select the stored frames of their names.
     pub stored_frames: bool,
+    /// Whether a line that is refused is shown, with what is wrong with it.
+    pub explain: bool,
+    /// The file of the program; `-` is standard input.
+    pub program: String,
+}
+
+/// The values of `report`.
+#[derive(Debug, Drop)]
+pub struct PartReport {
+    /// The file of the machine's setup, whose frames the program may recall; `-` is standard input.
+    pub setup: Option<String>,
+    /// The file of the record; `-` is standard input.
+    pub record: String,
+    /// The file of the limits that the points are compared with; `-` is standard input.
+    pub limits: Option<String>,
     /// Whether a line that is refused is shown, with what is wrong with it.
     pub explain: bool,
     /// The file of the program; `-` is standard input.

@@ -4,21 +4,14 @@ ghost use Rattle.std.specs.Prelude.{◌≡◌, ◌≤◌, IfOk, IfErr, OnOk, IsE
 ghost use Rattle.std.specs.Option.{option_map};
 ghost use Rattle.clap.specs.Words.{first_of, found_of, rows_of, subcommand_rows_of};
 ghost use Rattle.client_core.specs.Clients.{is_window};
-ghost use Rattle.dme_words.specs.CommandLine.{audit_line, check_line, explain_line, export_line, judge_line, ledger_line};
-ghost use Rattle.dme_words.specs.CommandLine.{loop_line, lower_line, run_line, serve_line, simulate_line, watch_line};
-ghost use Rattle.dme_words.specs.Ordered.{Asks, AsksForNothing, ExportMisfits, Has, HasFlag, HasNoAudit, HasNoExport, HasNoPart, HasNoReview};
-ghost use Rattle.dme_words.specs.Ordered.{HasNoRun, HasNoRunValue, HasNoSeconds, HasNoTopic, HasNone, HasNumber, HasValue, IsAnyAuditOf};
-ghost use Rattle.dme_words.specs.Ordered.{IsAnyExportOf, IsAskable, IsCalled, IsCheckOf, IsCodeOf, IsConnectionsOf, IsExplainOf, IsFindingFormOf};
-ghost use Rattle.dme_words.specs.Ordered.{IsFlagOf, IsJudgeOf, IsLaterAskable, IsLedgerOf, IsLoopOf, IsLowerOf, IsMaybeOf, IsNoCode, IsNoForm, IsNoSeconds};
-ghost use Rattle.dme_words.specs.Ordered.{IsNumber, IsNumberOf, IsOrderOf, IsPartOf, IsProgramOf, IsReady, IsRefusal, IsRefusedOf, IsReviewOf};
-ghost use Rattle.dme_words.specs.Ordered.{IsRunOf, IsSecondsOf, IsServeOf, IsSimulateOf, IsValueOf, IsWatchOf, IsWindowOf, NamesItsPart, form_word};
-ghost use Rattle.dme_words.specs.Ordered.{is_lacking};
+ghost use Rattle.dme_words.specs.CommandLine.{audit_line, check_line, explain_line, export_line, judge_line, ledger_line, loop_line, lower_line, report_line, run_line, serve_line, simulate_line, watch_line};
+ghost use Rattle.dme_words.specs.Ordered.{Asks, AsksForNothing, ExportMisfits, Has, HasFlag, HasNoAudit, HasNoExport, HasNoPart, HasNoReview, HasNoRun, HasNoRunValue, HasNoSeconds, HasNoTopic, HasNone, HasNumber, HasValue, IsAnyAuditOf, IsAnyExportOf, IsAskable, IsCalled, IsCheckOf, IsCodeOf, IsConnectionsOf, IsExplainOf, IsFindingFormOf, IsFlagOf, IsJudgeOf, IsLaterAskable, IsLedgerOf, IsLoopOf, IsLowerOf, IsMaybeOf, IsNoCode, IsNoForm, IsNoSeconds, IsNumber, IsNumberOf, IsOrderOf, IsPartOf, IsProgramOf, IsReady, IsRefusal, IsRefusedOf, IsReportOf, IsReviewOf, IsRunOf, IsSecondsOf, IsServeOf, IsSimulateOf, IsValueOf, IsWatchOf, IsWindowOf, NamesItsPart, form_word, is_lacking};
 
 use crate::line::whole_command;
 use crate::misfits::{Lacks, Misfit};
 use crate::orders::{
-    Audit, Check, Export, Judge, Ledger, Loop, Lower, Order, RecordAudit, RecordExport, RecordForm,
-    Review, Run, Service, Simulation, Watch,
+    Audit, Check, Export, Judge, Ledger, Loop, Lower, Order, PartReport, RecordAudit, RecordExport,
+    RecordForm, Review, Run, Service, Simulation, Watch,
 };
 use clap::error::ErrorKind;
 use clap::parser::ValueSource;
@@ -641,7 +634,21 @@ fn lower_order(alloc: Global, values: &ArgMatches) -> Result<Lower, AllocError>
     })
 }
 
-/// The order of one of the last nine subcommands, with its values.
+/// The values of `report`. Fails only if out of memory.
+fn report_order(alloc: Global, values: &ArgMatches) -> Result<PartReport, AllocError>
+    requires { Has report_line (rows_of (found_of values.now)) }
+    ensures { IfOk result (IsReportOf (rows_of (found_of values.now))) }
+{
+    Ok(PartReport {
+        setup: copied_maybe(alloc, values, "setup")?,
+        record: copied_value(alloc, values, "record")?,
+        limits: copied_maybe(alloc, values, "limits")?,
+        explain: flag_of(values, "explain"),
+        program: copied_program(alloc, values)?,
+    })
+}
+
+/// The order of one of the last ten subcommands, with its values.
 fn later_order(alloc: Global, name: &str, values: &ArgMatches) -> Result<Order, WordsFault>
     requires { IsLaterAskable (name.now, rows_of (found_of values.now)) }
     ensures named { IfOk result (IsOrderOf (Some (name.now, rows_of (found_of values.now)))) }
@@ -658,6 +665,7 @@ fn later_order(alloc: Global, name: &str, values: &ArgMatches) -> Result<Order, 
         "judge" => Ok(Order::Judge(judge_order(alloc, values)?)),
         "watch" => Ok(Order::Watch(watch_order(alloc, values)?)),
         "lower" => Ok(Order::Lower(lower_order(alloc, values)?)),
+        "report" => Ok(Order::Report(report_order(alloc, values)?)),
         _ => unreachable!(),
     }
 }

@@ -7,3 +7,5 @@ pub mod Longest
 pub mod Farthest
 pub mod Lines
 pub mod Drawn
+pub mod Escapes
+pub mod Filled

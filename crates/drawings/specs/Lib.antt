@@ -14,4 +14,9 @@ pub mod Named
 pub mod Labels
 pub mod Footer
 pub mod Drawing
+pub mod Markup
+pub mod BarCells
+pub mod Sections
+pub mod Pages
+pub mod Examples
 pub mod Names

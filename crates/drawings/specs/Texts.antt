@@ -1,18 +1,23 @@
--- Texts of SVG (W3C SVG 1.1), which is XML 1.0.
-use Rattle.std.specs.Prelude.{◌≡◌, ℕ, List, [], ◌∷◌, ◌++◌, ◌-◌, ◌/◌, ◌%◌, codes, decimal, pos, length, take, nat_le, ◌==◌, if◌then◌else◌}
+-- Texts of SVG (W3C SVG 1.1), which is XML 1.0, and of HTML (WHATWG HTML).
+use Rattle.std.specs.Prelude.{◌≡◌, ℕ, Bool, not, ◌&&◌, List, [], ◌∷◌, ◌++◌, ◌-◌, ◌/◌, ◌%◌, codes, decimal, pos, length, take, nat_le, ◌==◌, if◌then◌else◌}
 use Rattle.fixed_um.specs.Written.{written, last_digit, three_digits}
 use Rattle.drawings.specs.Sheet.{Spot}
 
--- a byte of a name as character data of XML: `&`, `<` and `>` are written as entities
+-- a byte of a text between tags or in an attribute: `&`, `<`, `>` and `"` are written as entities
 abbrev pub escaped_byte : ℕ → List ℕ
 escaped_byte b =
     if b == 38 then codes "&amp;" else
     if b == 60 then codes "&lt;" else
-    if b == 62 then codes "&gt;" else b ∷ []
+    if b == 62 then codes "&gt;" else
+    if b == 34 then codes "&quot;" else b ∷ []
 
 abbrev pub escaped : List ℕ → List ℕ
 escaped [] = []
 escaped (b ∷ text) = escaped_byte b ++ escaped text
+
+-- a byte that neither begins nor ends a tag or an attribute
+abbrev pub is_plain : ℕ → Bool
+is_plain b = not (b == 60) && (not (b == 62) && not (b == 34))
 
 -- a name of at most 26 bytes unchanged, a longer one by its first 24 bytes and two points, escaped
 abbrev pub shown_name : List ℕ → List ℕ

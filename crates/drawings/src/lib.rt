@@ -10,19 +10,30 @@
 //! - `pictures`: what is drawn in a view; `marks`: what labels name; `labels`: the column of the features' names; `footer`: what is
 //!   below
 //! - `texts`: the elements of SVG; `drawing`: the whole
+//!
+//! And a page of HTML, which has a drawing in it:
+//!
+//! - `markup`: texts between tags; `bar_cells`: a bar for each deviation along its normal
+//! - `sections`: the table of each feature; `pages`: the whole page
+//! - `examples`: texts, bars, verdicts and rows that are written out
 #![tactic(auto)]
 
 mod away;
+mod bar_cells;
 mod drawing;
+pub mod examples;
 mod extents;
 mod footer;
 mod labels;
 mod magnifying;
 mod marks;
+pub mod markup;
+mod pages;
 mod pictures;
 mod places;
 mod placing;
 mod scales;
+mod sections;
 mod sheet;
 mod sides;
 mod spans;
@@ -32,3 +43,4 @@ mod walk;
 mod whiskers;
 
 pub use drawing::write_drawing;
+pub use pages::{Facts, report_text};

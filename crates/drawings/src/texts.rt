@@ -1,4 +1,4 @@
-// The elements of SVG (W3C SVG 1.1).
+// The elements of SVG (W3C SVG 1.1), and texts between tags.
 
 ghost use Rattle.std.specs.Prelude.{◌≡◌, ◌≤◌, ◌<◌, ◌++◌, ◌∷◌, [], pos, decimal, codes, OnOk};
 ghost use Rattle.drawings.specs.Names.{written, three_digits, Writes, escaped, escaped_byte, spot_text, markup, attribute, disc_text, line_text, frame_text, text_start, text_end, text_element, millimetres};
@@ -41,11 +41,12 @@ fn put_escaped_byte(out: &mut Vec<u8>, byte: u8) -> Result<(), AllocError>
         b'&' => out.extend_from_slice(b"&amp;"),
         b'<' => out.extend_from_slice(b"&lt;"),
         b'>' => out.extend_from_slice(b"&gt;"),
+        b'"' => out.extend_from_slice(b"&quot;"),
         _ => Ok(out.push(byte)?),
     }
 }
 
-/// Appends a name as character data of XML.
+/// Appends a text, escaped.
 pub(crate) fn put_escaped(out: &mut Vec<u8>, text: &[u8]) -> Result<(), AllocError>
     ensures { OnOk result (out.new.items ≡ out.old.items ++ escaped text.now) }
 {

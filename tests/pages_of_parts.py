@@ -1,0 +1,223 @@
+"""Reads the pages of `dme report` back by Python's reader of HTML, and compares each number with `dme export --as json` of the same record.
+
+What a page has besides its numbers, its verdicts, bars and texts, is computed here from those and from the record. `run` calls this; by
+itself: tests/pages_of_parts.py
+"""
+
+import html.parser
+import json
+import pathlib
+import subprocess
+import sys
+import tempfile
+
+ROOT = pathlib.Path(__file__).resolve().parent.parent
+EXAMPLES = ROOT / "examples"
+PROGRAM = ROOT / "crates" / "dme_program" / "out" / "dme_program"
+SECONDS = 20
+COLUMNS = [f"{name}_{axis}" for name in ("nominal", "measured", "deviation") for axis in "xyz"]
+# What could load something from elsewhere, or run.
+FOREIGN = {"script", "link", "img", "iframe", "object", "embed", "base", "form", "a", "image", "use", "foreignobject"}
+HOSTILE = """<script>alert("1")</script>&amp;'"""
+
+
+class Page(html.parser.HTMLParser):
+    """The parts of a page: its title, its heading, its lines with their classes, its errors, and for each feature its line and its rows."""
+
+    def __init__(self, text):
+        super().__init__(convert_charrefs=True)
+        self.lines, self.features, self.texts, self.foreign = [], [], {}, []
+        self.open, self.text, self.in_drawing = [], "", False
+        self.feed(text)
+        self.close()
+
+    def handle_starttag(self, tag, attributes):
+        given = dict(attributes)
+        is_foreign = tag in FOREIGN or any(it in ("src", "href", "style") or it.startswith("on") for it in given)
+        self.foreign += [tag] if is_foreign else []
+        if tag == "svg" and given.get("class") != "bar":
+            self.in_drawing = True
+        if self.in_drawing:
+            return
+        if tag in ("title", "h1", "h2", "p", "td", "pre"):
+            self.text = ""
+        if tag == "p":
+            self.kind = given.get("class", "")
+        if tag == "tr":
+            self.row = {"class": given.get("class"), "cells": [], "bar": None}
+        if tag == "g":
+            self.turn = {"scale(1 1)": 1, "scale(-1 1)": -1}[given["transform"]]
+        if tag == "rect":
+            self.row["bar"] = self.turn * int(given["width"])
+
+    def handle_endtag(self, tag):
+        if tag == "svg" and self.in_drawing:
+            self.in_drawing = False
+            self.texts["drawings"] = self.texts.get("drawings", 0) + 1
+        if self.in_drawing:
+            return
+        if tag in ("title", "h1", "pre"):
+            self.texts[tag] = self.text
+        if tag == "h2":
+            self.features.append({"heading": self.text, "line": None, "rows": []})
+        if tag == "p" and self.features:
+            self.features[-1]["line"] = self.text
+        elif tag == "p":
+            self.lines.append((self.kind, self.text))
+        if tag == "td":
+            self.row["cells"].append(self.text)
+        if tag == "tr" and self.row["cells"]:
+            self.features[-1]["rows"].append(self.row)
+
+    def handle_data(self, data):
+        self.text += data
+
+
+def length_text(micrometres):
+    sign = "-" if micrometres < 0 else ""
+    return f"{sign}{abs(micrometres) // 1000}.{abs(micrometres) % 1000:03}"
+
+
+def micrometres(text):
+    whole, decimals = text.lstrip("-").split(".")
+    return (-1 if text.startswith("-") else 1) * (int(whole) * 1000 + int(decimals))
+
+
+def record_of(part, features, measured):
+    """The program and the record of features, of which the first ones were measured; each is a label with touches, and what they gave."""
+    program, head, tail = ["DMISMN/'P',05.2", "SNSLCT/S(P1)"], ["DME-RECORD 1", f"PART {part}"], ["1 HOMEDIS 1", "1 FRAMED M", "1 CHANGED P1"]
+    for number, (label, touches) in enumerate(features):
+        program.append(f"MEAS/CIRCLE,F({label}),{len(touches)}")
+        head.append(f"FEATURE {label} {len(touches)}")
+        for target, normal, point in touches:
+            nominal = [length_text(it) for it in target]
+            direction = [f"{it:.6f}" for it in normal]
+            program.append("PTMEAS/CART," + ",".join(nominal + direction))
+            touch = " ".join(nominal + ["D"] + direction + ["P1", "M"])
+            head.append(f"TOUCH {touch}")
+            if number < measured:
+                tail.append(f"1 CONTACT {touch} " + " ".join(map(length_text, point)))
+        program.append("ENDMES")
+        tail += [f"1 COMPLETED {label}"] if number < measured else []
+    return "\n".join(program + ["ENDFIL", ""]), "\n".join(head + ["END"] + tail + [""])
+
+
+def planes_of(count, touches, labels):
+    """Features of touches along an axis each, measured up to 60 micrometres off it, and 9 along the others."""
+    normals, found = [(0, 0, 1), (1, 0, 0), (0, -1, 0)], []
+    for number in range(count):
+        normal, own = normals[number % 3], []
+        for at in range(touches):
+            target = (1000 * at, 7500 * number, 20000 - 250 * at)
+            off = (at * 37 + number * 11) % 121 - 60
+            own.append((target, normal, [a + b * off + (0 if b else at % 10) for a, b in zip(target, normal)]))
+        found.append((labels[number] if number < len(labels) else f"PLANE{number}", own))
+    return found
+
+
+def cases():
+    """Records by name: the program, the record, the limits, the part, the labels, and how many of them were measured."""
+    circle = (EXAMPLES / "circle.dmis").read_text()
+    record = (EXAMPLES / "break_inside_a_feature.record").read_text()
+    yield "circle", (circle, record, None, "(not named)", ["C"], 1)
+    yield "circle_on_its_limit", (circle, record, "LIMIT * -0.001 0.002\n", "(not named)", ["C"], 1)
+    yield "circle_out_of_its_limit", (circle, record, "LIMIT C -0.001 0.001\n", "(not named)", ["C"], 1)
+    yield "nothing_measured", (circle, "", "LIMIT C -0.001 0.001\n", "(not named)", ["C"], 0)
+    hostile = planes_of(8, 25, ["A&B", "<B>", "&LT;", "C<!--"])
+    for name, measured in (("two_hundred_points", 8), ("unfinished", 5)):
+        labels = [label for label, _ in hostile]
+        limits = "LIMIT * -0.06 0.06\nLIMIT <B> -0.030 0.030\n" if measured == 5 else "LIMIT A&B -0.060 0.060\nLIMIT PLANE7 -0.061 0.061\n"
+        yield name, (*record_of(HOSTILE, hostile, measured), limits, HOSTILE, labels, measured)
+
+
+def printed(folder, words, statuses=(0, 3)):
+    run = subprocess.run([PROGRAM, *words], cwd=folder, capture_output=True, text=True, timeout=SECONDS, check=False)
+    assert run.returncode in statuses, (words, run.returncode, run.stderr)
+    return run.stdout, run.stderr, run.returncode
+
+
+def expected_row(row, most, has_limits):
+    cells = [str(row["point"])] + [row[it] or "" for it in COLUMNS] + [row["deviation_along_normal"] or "", ""]
+    along = row["deviation_along_normal"]
+    bar = None if along is None else (-1 if micrometres(along) < 0 else 1) * (abs(micrometres(along)) * 50 // most)
+    return {"class": (row.get("limit") or "") if has_limits else "", "cells": cells + ([row["limit"] or ""] if has_limits else []), "bar": bar}
+
+
+def limits_line(rows, limits, is_complete):
+    if limits is None:
+        return "open", "Not compared with limits: none were named."
+    out = sum(row["limit"] == "out" for row in rows)
+    compared = sum(row["limit"] is not None for row in rows)
+    kind, word = ("no", "Out of limits") if out else ("open", "Not compared with limits") if not compared else (
+        ("yes", "Within limits") if is_complete and compared == len(rows) else ("open", "Within limits as far as compared"))
+    return kind, (f"{word}: {out} of {compared} compared points are out, {len(rows) - compared} not compared. "
+                  "No fit and no other tolerance was evaluated.")
+
+
+def feature_line(label, limits, worst):
+    """The line of a feature's limits: that of its own label, in capitals, or else of all."""
+    if limits is None:
+        return None
+    ranges = {line.split()[1]: line.split()[2:] for line in limits.splitlines()}
+    if label not in ranges and "*" not in ranges:
+        return "No limit is for it."
+    lower, upper = ranges.get(label) or ranges["*"]
+    numbers = [length_text(round(float(it) * 1000)) for it in (lower, upper)]
+    return f"Limits {numbers[0]} to {numbers[1]}. {worst.get(label, '')}"
+
+
+def is_page(program, record, limits, part, labels, measured):
+    """Whether the page of a record is what its export, its audit and its texts say."""
+    with tempfile.TemporaryDirectory() as name:
+        folder = pathlib.Path(name)
+        given = {"a&b<c>.dmis": program, "part.record": record, "part.limits": limits}
+        for file, text in given.items():
+            if text is not None:
+                (folder / file).write_text(text)
+        of = ["--record", "part.record", "a&b<c>.dmis"]
+        named = [] if limits is None else ["--limits", "part.limits"]
+        text, notes, status = printed(folder, ["report", *named, *of])
+        exported, lines, export_status = printed(folder, ["export", "--as", "json", *named, *of])
+        audited, _, audit_status = printed(folder, ["audit", *of])
+    page, rows = Page(text), json.loads(exported, parse_float=str)
+    is_complete = measured == len(labels)
+    missing = "".join(f" {it} is missing." for it in labels[measured:])
+    verdict = ("open", "Nothing to audit: no feature was measured.") if not measured else (
+        ("yes", "Audit passed: each measured feature has its run of reported contacts.") if audit_status == 0 else
+        ("no", "Audit failed: a measured feature has no run of reported contacts."))
+    most = max([1] + [abs(micrometres(row["deviation_along_normal"])) for row in rows if row["deviation_along_normal"]])
+    worst = dict(line[5:].split(": ", 1) for line in lines.splitlines() if ": worst " in line)
+    head = [
+        ("", "Program: a&b<c>.dmis"),
+        ("yes" if is_complete else "no", f"{'Complete' if is_complete else 'Not complete'}: {measured} of {len(labels)} features were measured.{missing}"),
+        limits_line(rows, limits, is_complete),
+    ]
+    sections = [
+        {
+            "heading": label + ("" if number < measured else ": not measured"),
+            "line": feature_line(label, limits, worst),
+            "rows": [expected_row(row, most, limits is not None) for row in rows if row["feature"] == label],
+        }
+        for number, label in enumerate(labels)
+    ]
+    return all((
+        page.texts["title"] == page.texts["h1"] == f"Part {part}",
+        page.lines[:4] == head + [(verdict[0], f"{verdict[1]} {audited}")],
+        page.features[:-1] == sections and page.features[-1]["heading"] == "How to check this page",
+        not page.foreign and page.texts["drawings"] == 1 and "pre" not in page.texts,
+        status == export_status == (0 if is_complete else 3) and [it for it in lines.splitlines() if "missing" in it] == notes.splitlines(),
+    ))
+
+
+def check_pages_of_parts():
+    """How many pages are correct, and how many are not."""
+    found = {name: PROGRAM.exists() and is_page(*it) for name, it in cases()}
+    wrong = [name for name, is_right in found.items() if not is_right]
+    for name in wrong:
+        print(f"page of {name}: not as expected")
+    print(f"pages of parts: {len(found) - len(wrong)} of {len(found)}", flush=True)
+    return len(found) - len(wrong), len(wrong)
+
+
+if __name__ == "__main__":
+    sys.exit(1 if check_pages_of_parts()[1] else 0)
