@@ -174,7 +174,9 @@ fn begun_of(
     ensures due { IfErr result (IsDueFor (part_of part.now) program.features bytes.now) }
 {
     let begun = beginning_of(alloc, bytes, &program, part)?;
-    let waiting = first_bytes(alloc, &program, part, begun.held)?;
+    let Ok(waiting) = first_bytes(alloc, &program, part, begun.held) else {
+        return Err(NotBegun::Memory);
+    };
     let last = begun.connection.saturating_sub(1);
     let recording = Recording::new(last, begun.features.list().len(), waiting);
     let client = continued(alloc, program, begun.features, &begun.told, window);
