@@ -56,4 +56,4 @@ module _ {S J R W : Type 0} (s : Named S) (j : Came J) (r : Came R) (w : Went W)
   -- the page was written, or it was not: a file is blamed, or the record is of another program, or has other features
   abbrev pub ReportsRecord : {L : Type 0} → Named L → List ℕ → Result Missing FilesFault → Type 0
   ReportsRecord l name = Carries (ReadsLimited l (ReadsHeld s j r)) (LeavesPage name) w
-      (λ cause. WhyNoLimited l (AreUntouched s j r) (WhyNoneHeld s j r) cause ⊎ (IsOtherProgram s j r cause ⊎ HoldsOthers s j r cause))
+      (λ cause. WhyNoLimited l (AreUntouched s j r) (WhyNoneHeld s j r) cause ⊎ (IsOtherProgram s j r w cause ⊎ HoldsOthers s j r w cause))

@@ -5,13 +5,13 @@ ghost use Rattle.drawings.specs.Names.{written, point_fields, measured_fields, d
 
 use crate::bar_cells::put_bar_cell;
 use crate::markup::{put_between, put_cell};
-use crate::texts::{put_coordinate, put_markup};
+use crate::texts::put_markup;
 use deviations::{
     Deviation, Limits, Micrometres, Range, Row, Verdict, first_rows, later_rows, row_verdict,
     verdict_word, worst_words,
 };
 use dmis_program::Wanted;
-use fixed_um::{Name, Point};
+use fixed_um::{Name, Point, Um, write_um};
 use std::alloc::{AllocError, Global};
 
 fn put_written(alloc: Global, out: &mut Vec<u8>, length: i128) -> Result<(), AllocError>
@@ -239,6 +239,12 @@ fn put_worst(
     put_between(out, b". <b>", worst.as_bytes(), b"</b></p>\n")
 }
 
+fn put_limit_length(out: &mut Vec<u8>, length: Um) -> Result<(), AllocError>
+    ensures { OnOk result (out.new.items ≡ out.old.items ++ written length) }
+{
+    write_um(out, length)
+}
+
 #[tactic(auto, unfolding(crate::specs::Sections::range_line))]
 fn put_range_line(
     alloc: Global,
@@ -249,9 +255,9 @@ fn put_range_line(
     ensures { OnOk result (out.new.items ≡ out.old.items ++ range_line range.now rows.now) }
 {
     put_markup(out, b"<p>Limits ")?;
-    put_coordinate(out, range.lower.get())?;
+    put_limit_length(out, range.lower)?;
     put_markup(out, b" to ")?;
-    put_coordinate(out, range.upper.get())?;
+    put_limit_length(out, range.upper)?;
     put_worst(alloc, out, range, rows)
 }
 

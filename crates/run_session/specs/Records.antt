@@ -196,10 +196,20 @@ abbrev pub IsReplace : List ℕ → Ask → Type 0
 IsReplace text (Replace name beside whole) = whole ≡ text
 IsReplace text ask = ⊥
 
--- what is asked: of the effects on the record's file, only what its stage says; and at a pause what the operator types
+abbrev pub IsAnyReplace : Ask → Type 0
+IsAnyReplace (Replace name beside whole) = ⊤
+IsAnyReplace ask = ⊥
+
+-- what is asked: the record's file is written, bytes are sent, an operator is waited for, a file is replaced, a report is printed and the
+-- program ends only at the stages that say so
 abbrev pub IsQuietAsk : Ask → Type 0
 IsQuietAsk (Append growth.Record text) = ⊥
 IsQuietAsk (Keep growth.Record text) = ⊥
+IsQuietAsk (Send peer bytes) = ⊥
+IsQuietAsk Byte = ⊥
+IsQuietAsk (Replace name beside whole) = ⊥
+IsQuietAsk (Print text) = ⊥
+IsQuietAsk (Exit status) = ⊥
 IsQuietAsk ask = ⊤
 
 -- the exit status is 0 only once the client has measured all that was asked for
@@ -215,6 +225,7 @@ AsksAt stage.Awaiting s ask = ask ≡ Byte
 AsksAt stage.Returning s ask = ask ≡ Byte
 AsksAt stage.ReplacingRecord s ask = IsReplace s.pair.recording.text ask
 AsksAt stage.ReplacingFeatures s ask = IsReplace s.list ask
+AsksAt stage.ReplacingContacts s ask = IsAnyReplace ask
 AsksAt stage.Printing s ask = ask ≡ Print s.text
 AsksAt stage.Exiting s ask = IsExit s ask
 AsksAt st s ask = IsQuietAsk ask

@@ -1,12 +1,12 @@
 // Examples: what is asked and what comes of it. Each function has laws for its contract and does nothing.
 
 ghost use Rattle.std.specs.Prelude.{◌≡◌, ℕ, [], ◌∷◌, true, false, length, Some};
-ghost use Rattle.effects.specs.Effects.{Append, Keep, Byte, Receive, Exit, Done, Bytes, Short};
+ghost use Rattle.effects.specs.Effects.{Append, Keep, Send, Byte, Receive, Replace, Print, Exit, Done, Bytes, Short};
 ghost use Rattle.effects.specs.declared.vocabulary.Peer.TheVariants.{Server};
 ghost use Rattle.protocol_model.specs.declared.states.State.TheVariants.{Running};
 ghost use Rattle.effects.specs.declared.vocabulary.Growth.TheVariants.{Record, Features};
 ghost use Rattle.run_session.specs.Records.{State, Outside, IsQuietAsk, AsksAt, IsDue, IsDueBy, Unforced, HasTold, HasFollowed, appended, kept, filed_by, lacking, confirms_pause};
-ghost use Rattle.run_session.specs.declared.stages.Stage.TheVariants.{Recording, Settling, Sending, Receiving, Awaiting, Returning, Telling, Exiting};
+ghost use Rattle.run_session.specs.declared.stages.Stage.TheVariants.{Recording, Settling, Listing, Showing, Sending, Receiving, Awaiting, Returning, Closing, Ending, Telling, Exiting};
 
 /// What was added is in the file, and on the device only if it was forced there; of what was not written the file has the first bytes, and
 /// what was safe stays so.
@@ -20,7 +20,8 @@ pub fn file_rows()
 {}
 
 /// What completes a feature is not added without being forced; the record's file is written by two stages only; the features file is another
-/// one; nothing is added to a file that could not be kept; and an exit with status 0 is that of a client that is Done.
+/// one; nothing is added to a file that could not be kept; an exit with status 0 is that of a client that is Done; and no other stage sends,
+/// asks the operator, replaces, prints or ends.
 pub fn ask_rows()
     ensures unforced { (s : State) → s.pair.recording.telling.counted.features ≡ 2
         → s.book.settled ≡ 1 → IsDueBy (Some Unforced) s → ⊥ }
@@ -30,6 +31,11 @@ pub fn ask_rows()
     ensures lost { (s : State) → s.book.lost ≡ true → lacking s ≡ [] }
     ensures exit { (s : State) → s.pair.end.client.state ≡ Running → AsksAt Exiting s (Exit 0) → ⊥ }
     ensures failure { (s : State) → AsksAt Exiting s (Exit 3) }
+    ensures early { (s : State) → AsksAt Ending s (Exit 0) → ⊥ }
+    ensures unsent { (s : State) → AsksAt Showing s (Send Server (7 ∷ [])) → ⊥ }
+    ensures unprinted { (s : State) → AsksAt Closing s (Print (7 ∷ [])) → ⊥ }
+    ensures untyped { (s : State) → AsksAt Receiving s Byte → ⊥ }
+    ensures replaced { (s : State) → AsksAt Listing s (Replace [] [] []) → ⊥ }
 {}
 
 /// Nothing is sent before an act that was counted has its line, nor received before the file has it; while it is added the file may lack it;

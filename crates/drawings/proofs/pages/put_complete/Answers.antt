@@ -14,7 +14,6 @@ returns c = on_ok_weaker c.put_markup-4.result
       c.in_ok-put_count.ensures,
       c.in_ok-put_markup.ensures,
       c.complete_start.ensures,
-      c.len-asked.ensures,
       append_assoc,
     ))
     c.put_markup-4.ensures

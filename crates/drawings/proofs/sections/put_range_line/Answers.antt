@@ -6,9 +6,9 @@ pub returns : goal.returns
 unfolding range_line
 returns c = on_ok_weaker c.put_worst.result
     (λ e. e ∙ simp (
-      c.in_ok-put_coordinate-2.ensures,
+      c.in_ok-put_limit_length-2.ensures,
       c.in_ok-put_markup-2.ensures,
-      c.in_ok-put_coordinate.ensures,
+      c.in_ok-put_limit_length.ensures,
       c.in_ok-put_markup.ensures,
       append_assoc,
     ))
