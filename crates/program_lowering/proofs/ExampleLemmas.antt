@@ -2,6 +2,7 @@
 use Rattle.program_lowering.proofs.Names.{[], ◌++◌, ◌∷◌, ◌≡◌, ◌≤◌, arith, as_read, BadByte, codes, decimal, false, flat, flat_line, flat_meant}
 use Rattle.program_lowering.proofs.Names.{flat_text, is_operator_text, left_out, length, length-append, length-decimal-le, nat_lt, nat_tests, None}
 use Rattle.program_lowering.proofs.Names.{map, Ok, passed_over, Passes, refl, Some, text_refusal, true}
+use Rattle.fixed_um.specs.Scan.{exponent_of, numeral_of}
 use Rattle.std.specs.Option.{option_map}
 use Rattle.dmis_program.specs.Keywords.{keyword_of}
 use Rattle.program_lowering.specs.Examples.{all_choices, bare, first_by_hand, make_b, manual_front, measured, mode_man, mode_prog}
@@ -10,7 +11,7 @@ use Rattle.program_lowering.specs.Lowering.{kept}
 use Rattle.program_lowering.specs.StoredFrames.{by_frame, frame_note, frame_notes}
 use Rattle.dmis_program.specs.LookBack.{frame_said, nearest}
 use Rattle.dmis_program.specs.Parameters.{name_within}
-use Rattle.dmis_program.specs.Positions.{position_of}
+use Rattle.dmis_program.specs.Positions.{length_of, position_of}
 use Rattle.dmis_program.specs.Sayings.{said_by, said_of}
 use Rattle.program_lowering.proofs.Names.{Recalls}
 use Rattle.program_lowering.specs.Manual.{in_manual, is_skipped}
@@ -185,5 +186,5 @@ frame_before = refl
 
 pub frames_listed : frame_notes two_frames
     ≡ frame_note 1 (Ok (Recalls (codes "A"))) 2 ++ (frame_note 1 (Ok (Recalls (codes "B"))) 1 ++ [])
-unfolding keyword_of name_within said_of said_by position_of
+unfolding keyword_of name_within said_of said_by position_of length_of numeral_of exponent_of
 frames_listed = refl

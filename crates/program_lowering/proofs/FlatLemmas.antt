@@ -44,7 +44,7 @@ snslct_word : keyword_of (codes "SNSLCT") ≡ word.Snslct
 unfolding keyword_of
 snslct_word = refl
 
-recall_word : keyword_of (codes "RECALL") ≡ word.Recall
+pub recall_word : keyword_of (codes "RECALL") ≡ word.Recall
 unfolding keyword_of
 recall_word = refl
 
@@ -273,7 +273,7 @@ selects_flat params name h = record {
       (closed_solid (within (codes "S(") name) (within_solid (codes "S(") name refl h)) (selects_says name h);
 }
 
-recalls_flat : (params : List (List ℕ)) (name : List ℕ) → IsName name
+pub recalls_flat : (params : List (List ℕ)) (name : List ℕ) → IsName name
     → IsFlatOf word.Recall params (said.Recalls name) (flat (codes "RECALL") (within (codes "D(") name ∷ []))
 recalls_flat params name h = record {
   is_solid = named_solid (codes "D(") name refl (omega arith) h (codes "RECALL") refl (omega arith) (omega arith);

@@ -1,22 +1,24 @@
 -- Frames by name: what is carried of them, and the statement that counts.
-use Rattle.program_lowering.proofs.Names.{[], ◌&&◌, ◌+◌, ◌++◌, ◌==◌, ◌>>=◌, ◌∙◌, ◌∷◌, ◌≡◌, add-zero, ap, append-nil, append_assoc, arith, Bool, Carried, Choices}
-use Rattle.program_lowering.proofs.Names.{closes, codes, cond, due, Err, false, flat, followed, has_open_text, is_closing, is_unsupported, IsName}
+use Rattle.program_lowering.proofs.Names.{[], ◌&&◌, ◌+◌, ◌++◌, ◌==◌, ◌∙◌, ◌∷◌, ◌≡◌, add-zero, ap, append-nil, append_assoc, arith, Bool, Carried, Choices}
+use Rattle.program_lowering.proofs.Names.{closes, codes, cond, due, Err, false, followed, has_open_text, IsName}
 use Rattle.program_lowering.proofs.Names.{Keyword, keyword_of, List, manual_after, nat_le, None, not, NotDmis, Ok, Option, Point, refl, Refusal, Result}
 use Rattle.program_lowering.proofs.Names.{saying, settled, Some, some_tool, Statement, StatementMeaning, sym, text_refusal, TooLarge, true, within, ℕ}
 use Rattle.dmis_program.specs.Judging.{judged}
+use Rattle.dmis_program.specs.Outcomes.{Gives}
+use Rattle.dmis_program.specs.declared.faults.StatementFault.{StatementFault}
 use Rattle.dmis_program.specs.declared.keywords.Keyword.TheVariants as word
 use Rattle.dmis_program.specs.declared.sayings.StatementMeaning.TheVariants as said
-use Rattle.program_lowering.specs.Carried.{frame_due, frames_after, frames_closed, judged_next, one_touch, since_after}
+use Rattle.program_lowering.specs.Carried.{frame_due, frames_after, frames_closed, judged_next, since_after}
 use Rattle.program_lowering.specs.Inches.{inches_after, stated}
 use Rattle.program_lowering.specs.StoredFrames.{by_frame, frame_end, frame_note, frame_notes, frame_start, named_frame, notes_with, selecting}
 use Rattle.program_lowering.specs.StoredFrames.{stored_frame, touches_until, touches_with}
 use Rattle.program_lowering.specs.declared.above.Above.{Above}
-use Rattle.program_lowering.proofs.FlatLemmas.{recalls_flat}
+use Rattle.program_lowering.proofs.FlatLemmas.{recall_word, recalls_flat}
 use Rattle.program_lowering.proofs.InchLemmas.{judged_stated}
 use Rattle.program_lowering.proofs.Names.{context_of, is_badly_formed, is_operator_text, misplaced, refused_by}
 use Rattle.program_lowering.proofs.TextLemmas.{is_text, text_word}
 use Rattle.program_lowering.proofs.SaidLemmas.{name_within_is}
-use Rattle.program_lowering.proofs.Names.{IfSome, name_within, or_else}
+use Rattle.program_lowering.proofs.Names.{IfOk, IfSome, name_within, or_else, subst}
 use Rattle.dmis_program.specs.Keywords.{is_among}
 use Rattle.dmis_program.specs.Parameters.{is_other_recall}
 use Rattle.program_lowering.specs.StoredFrames.{alignments, frame_name, labelled_frame, only_frame}
@@ -76,10 +78,6 @@ last_is frames (Some n) line said.Closes k rest h = ap (λ (t : ℕ). frames ++ 
 last_is frames since line said.Passes k rest h = absurd cc
 
 -- ---- the statement that counts
-
-recall_word : keyword_of (codes "RECALL") ≡ word.Recall
-unfolding keyword_of
-recall_word = refl
 
 -- it has the line of the source, is no `MODE`, and ends the program only if the source does
 pub same_line : (choices : Choices) (s : Statement) → (by_frame choices s).line ≡ s.line
@@ -252,22 +250,18 @@ pub others_same : (choices : Choices) (s : Statement) → stored_frame choices s
 others_same choices s e = rw e refl
 
 -- what the code gives there
-pub gives_due : (frames : List (List ℕ × Point)) (c : Carried) (choices : Choices) (s : Statement) (name : List ℕ)
-    (given : Option (List ℕ)) (m : StatementMeaning) → given ≡ Some name → given ≡ stored_frame choices s → frame_due frames c.above name ≡ Ok m
-    → judged_next frames c (by_frame choices s) ≡ Ok m
-gives_due frames c choices s name given m is e due =
+pub gives_frame : (frames : List (List ℕ × Point)) (c : Carried) (choices : Choices) (s : Statement) (name : List ℕ)
+    (given : Option (List ℕ)) (r : Result StatementMeaning StatementFault) → given ≡ Some name → given ≡ stored_frame choices s
+    → Gives r (frame_due frames c.above name) → Gives r (judged_next frames c (by_frame choices s))
+gives_frame frames c choices s name given r is e due =
     let h : stored_frame choices s ≡ Some name = sym e ∙ is in
-    next_selected frames c choices s name h (rw h at (stored_is choices s)) ∙ due
+    subst (λ (d : Result StatementMeaning Refusal). Gives r d) (sym (next_selected frames c choices s name h (rw h at (stored_is choices s)))) due
 
-pub gives_refusal : (frames : List (List ℕ × Point)) (c : Carried) (choices : Choices) (s : Statement) (name : List ℕ)
-    (given : Option (List ℕ)) (e : Refusal) → given ≡ Some name → given ≡ stored_frame choices s → frame_due frames c.above name ≡ Err e
-    → judged_next frames c (by_frame choices s) ≡ Err e
-gives_refusal frames c choices s name given refusal is e due =
-    let h : stored_frame choices s ≡ Some name = sym e ∙ is in
-    next_selected frames c choices s name h (rw h at (stored_is choices s)) ∙ due
+pub follows_same : (c : Carried) (choices : Choices) (s : Statement) (name : List ℕ) (given : Option (List ℕ))
+    (r : Result StatementMeaning StatementFault) → given ≡ Some name → given ≡ stored_frame choices s
+    → IfOk r (λ (m : StatementMeaning). m ≡ said.Recalls name)
+    → IfOk r (λ (m : StatementMeaning). followed c s m ≡ followed c (by_frame choices s) m)
+follows_same c choices s name given (Ok m) is e says = rw says (same_followed c choices s name (sym e ∙ is))
+follows_same c choices s name given (Err fault) is e says = tt
 
-pub follows_same : (c : Carried) (choices : Choices) (s : Statement) (name : List ℕ) (given : Option (List ℕ)) (m : StatementMeaning)
-    → given ≡ Some name → given ≡ stored_frame choices s → m ≡ said.Recalls name → followed c s m ≡ followed c (by_frame choices s) m
-follows_same c choices s name given m is e says = rw says (same_followed c choices s name (sym e ∙ is))
-
-pub ruleset frames = (gives_due, gives_refusal, follows_same)
+pub ruleset frames = (gives_frame, follows_same)

@@ -1,8 +1,8 @@
 -- Carrying forward gives what looking back gives.
 use Rattle.program_lowering.proofs.Names.{[], ◌&&◌, ◌++◌, ◌==◌, ◌>>=◌, ◌∙◌, ◌∷◌, ◌≡◌, after_said, ap, append-nil, append_assoc, arith, BadByte}
 use Rattle.program_lowering.proofs.Names.{before_refused, Bool, Carried, Choices, closes, cond, Context, context_at, continued, due, ended_lines, Err}
-use Rattle.program_lowering.proofs.Names.{false, fault_for, flat_lines, flat_meant, followed, has_open_text, is_badly_formed, is_closing}
-use Rattle.program_lowering.proofs.Names.{is_none, is_operator_text, is_unknown, judged, kept, Keyword, keyword_of, left_out, length}
+use Rattle.program_lowering.proofs.Names.{false, fault_for, flat_lines, flat_meant, followed, has_open_text, is_closing}
+use Rattle.program_lowering.proofs.Names.{is_operator_text, is_unknown, judged, kept, Keyword, keyword_of, length}
 use Rattle.program_lowering.proofs.Names.{line_for, LineTooLong, List, ne_eqb, None, none_above, not, note_for, noted, notes_from, nothing_carried}
 use Rattle.program_lowering.proofs.Names.{Ok, Option, passed_over, Point, Reason, reason_of, refl, Refusal, refused_by, Result, saying, Some}
 use Rattle.program_lowering.proofs.Names.{Statement, StatementMeaning, Step, stepped, steps_from, steps_of, subst, suc, sym, text_refusal, TextFault}
@@ -13,10 +13,11 @@ use Rattle.program_lowering.proofs.AboveLemmas.{Stands, due_is, stands_after, Is
 use Rattle.program_lowering.proofs.Runs.{Written, ran, run, steps_up_to}
 use Rattle.program_lowering.specs.Inches.{all_stated, in_inches, inches_after, stated}
 use Rattle.program_lowering.proofs.StatedLemmas.{closes_nothing, flat_same, noted_same, text_same}
-use Rattle.program_lowering.proofs.Names.{in_manual, is_skipped, kept_below, left_out_at, left_out_in, manual_after, measures}
+use Rattle.program_lowering.proofs.Names.{in_manual, is_skipped, kept_below, left_out_in, manual_after, measures}
 use Rattle.program_lowering.specs.declared.words.Reason.TheVariants.{Manual}
 use Rattle.std.proofs.Common.{◌⊎◌, inl, inr}
 use Rattle.program_lowering.specs.Carried.{judged_next}
+use Rattle.program_lowering.specs.Lowering.{note_at, unless_left_out}
 use Rattle.program_lowering.specs.StoredFrames.{by_frame, frame_notes, touches_until}
 use Rattle.program_lowering.proofs.FrameLemmas.{frames_then, frames_with, last_is, next_is, same_end, same_line, same_mode}
 
@@ -205,22 +206,22 @@ some_above n = ne_eqb (suc n) 0 (λ z. omega arith)
 
 -- a statement that may be left out, and the one that counts in its place
 by_reason : (frames : List (List ℕ × Point)) (choices : Choices) (fault : Option TextFault) (lines : ℕ) (aboves sources all : List Statement)
-    (s t : Statement) (statements : List Statement) (c : Carried) (o : Option Reason) → left_out_at choices all s ≡ o → by_frame choices s ≡ t
-    → t.line ≡ s.line → ((reason : Reason) → o ≡ Some reason → is_closing (saying t) ≡ false) → Stands aboves c.above → HasUnit sources c
+    (s t : Statement) (statements : List Statement) (c : Carried) (o : Option Reason) → t.line ≡ s.line → ((reason : Reason) → o ≡ Some reason → is_closing (saying t) ≡ false) → Stands aboves c.above → HasUnit sources c
     → ((d : Carried) → Stands aboves d.above → HasUnit sources d → d.manual ≡ manual_after c.manual s
     → RunsAs frames choices fault lines aboves sources (s ∷ all) statements (kept_below choices (s ∷ all) statements) d)
     → ((m : StatementMeaning) → Stands (stated (in_inches sources) t ∷ aboves) (after_said c.above m)
     → RunsAs frames choices fault lines (stated (in_inches sources) t ∷ aboves) (t ∷ sources) (s ∷ all) statements
     (kept_below choices (s ∷ all) statements) (followed c t m))
     → ran s.line (stepped frames c s t o) (run frames choices fault lines statements)
-    ≡ with_texts (steps_up_to frames fault lines aboves (all_stated sources (kept_below choices all (s ∷ statements))))
-    (c.text ++ ended_lines (flat_lines (all_stated sources (kept_below choices all (s ∷ statements))))) (c.notes ++ notes_from choices all (s ∷ statements))
-    (frames_then c.frames c.since (all_stated sources (kept_below choices all (s ∷ statements))))
-by_reason frames choices fault lines aboves sources all s t statements c None e counted line ends stands unit without behind =
-    rw (e, counted, ← line) (counts frames choices fault lines aboves sources (s ∷ all) t statements (kept_below choices (s ∷ all) statements) c stands unit
-    behind)
-by_reason frames choices fault lines aboves sources all s t statements c (Some reason) e counted line ends stands unit without behind =
-    rw (e, counted, ends reason refl, ← append_assoc c.notes (note_for s (Some reason)) (notes_from choices (s ∷ all) statements))
+    ≡ with_texts (steps_up_to frames fault lines aboves (all_stated sources (unless_left_out o t ++ kept_below choices (s ∷ all) statements)))
+    (c.text ++ ended_lines (flat_lines (all_stated sources (unless_left_out o t ++ kept_below choices (s ∷ all) statements))))
+    (c.notes ++ (note_at o s t ++ cond (is_closing (saying t)) [] (notes_from choices (s ∷ all) statements)))
+    (frames_then c.frames c.since (all_stated sources (unless_left_out o t ++ kept_below choices (s ∷ all) statements)))
+by_reason frames choices fault lines aboves sources all s t statements c None line ends stands unit without behind =
+    ap (λ (n : ℕ). ran n (stepped frames c s t None) (run frames choices fault lines statements)) (sym line)
+    ∙ counts frames choices fault lines aboves sources (s ∷ all) t statements (kept_below choices (s ∷ all) statements) c stands unit behind
+by_reason frames choices fault lines aboves sources all s t statements c (Some reason) line ends stands unit without behind =
+    rw (ends reason refl, ← append_assoc c.notes (note_for s (Some reason)) (notes_from choices (s ∷ all) statements))
     (without (noted c s (Some reason)) stands unit refl)
 
 pub run_is : (frames : List (List ℕ × Point)) (choices : Choices) (fault : Option TextFault) (lines : ℕ) (t u : Statement)
@@ -231,7 +232,7 @@ run_is frames choices fault lines t u aboves sources all (next ∷ statements) c
     let some : (c.above.number == 0) ≡ false = ap (λ (n : ℕ). n == 0) stands.number ∙ some_above (length aboves) in
     let then : manual_after c.manual next ≡ in_manual (next ∷ u ∷ all) = ap (λ (b : Bool). manual_after b next) mode in
     rw (some, then) (by_reason frames choices fault lines (t ∷ aboves) sources (u ∷ all) next (by_frame choices next) statements c
-    (left_out_in choices (in_manual (next ∷ u ∷ all)) next) refl refl (same_line choices next)
+    (left_out_in choices (in_manual (next ∷ u ∷ all)) next) (same_line choices next)
     (left_out_closes choices (in_manual (next ∷ u ∷ all)) next) stands unit
     (λ d held one is. run_is frames choices fault lines t next aboves sources (u ∷ all) statements d held one (is ∙ then))
     (λ m held. run_is frames choices fault lines (stated (in_inches sources) (by_frame choices next)) next (t ∷ aboves) (by_frame choices next ∷ sources)
@@ -248,7 +249,8 @@ pub run_from_start : (frames : List (List ℕ × Point)) (choices : Choices) (fa
     (frame_notes (all_stated [] (kept choices statements)))
 run_from_start frames choices fault lines [] = refl
 run_from_start frames choices fault lines (s ∷ statements) =
-    rw (← same_line choices s) (counts frames choices fault lines [] [] (s ∷ []) (by_frame choices s) statements (kept_below choices (s ∷ []) statements)
-    nothing_carried none_stand refl
-    (λ m held. run_is frames choices fault lines (stated false (by_frame choices s)) s [] (by_frame choices s ∷ []) [] statements
-    (followed nothing_carried (by_frame choices s) m) held refl (same_mode choices false s)))
+    ap (λ (n : ℕ). ran n (stepped frames nothing_carried s (by_frame choices s) None) (run frames choices fault lines statements))
+    (sym (same_line choices s))
+    ∙ counts frames choices fault lines [] [] (s ∷ []) (by_frame choices s) statements (kept_below choices (s ∷ []) statements) nothing_carried none_stand
+    refl (λ m held. run_is frames choices fault lines (stated false (by_frame choices s)) s [] (by_frame choices s ∷ []) [] statements
+    (followed nothing_carried (by_frame choices s) m) held refl (same_mode choices false s))

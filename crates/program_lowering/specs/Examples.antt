@@ -51,6 +51,13 @@ make_b = by_frame all_choices (labelled (codes "D(B)") (codes "TRANS"))
 abbrev pub a_touch : Statement
 a_touch = bare (codes "PTMEAS") (codes "CART" ∷ codes "1" ∷ codes "2" ∷ codes "3" ∷ [])
 
+-- what the setup's frames take the place of, and other statements of its word
+abbrev pub of_setup : List Statement
+of_setup = bare (codes "DATDEF") [] ∷ bare (codes "SAVE") (codes "D(A)" ∷ []) ∷ bare (codes "SAVE") (codes "DA(A)" ∷ []) ∷ []
+
+abbrev pub saving : List Statement
+saving = bare (codes "SAVE") (codes "S(A)" ∷ []) ∷ bare (codes "SAVE") (codes "D(A)" ∷ codes "D(B)" ∷ []) ∷ []
+
 -- what selects A by its name, and what selects nothing so
 abbrev pub naming_a : List Statement
 naming_a = labelled (codes "D(A)") (codes "DATSET") ∷ labelled (codes "D(A)") (codes "TRANS") ∷ labelled (codes "DA(a)") (codes "ROTATE")
@@ -59,14 +66,7 @@ naming_a = labelled (codes "D(A)") (codes "DATSET") ∷ labelled (codes "D(A)") 
 abbrev pub naming_none : List Statement
 naming_none = labelled (codes "F(A)") (codes "DATSET") ∷ labelled (codes "D(A)") (codes "EQUATE") ∷ bare (codes "DATSET") (codes "DAT(A)" ∷ [])
     ∷ record (labelled (codes "D(A)") (codes "DATSET")) { params = codes "'A" ∷ [] } ∷ bare (codes "RECALL") (codes "D(a)" ∷ [])
-    ∷ bare (codes "RECALL") (codes "DA(A)" ∷ codes "DA(B)" ∷ []) ∷ []
-
--- what the setup's frames take the place of, and other statements of its word
-abbrev pub of_setup : List Statement
-of_setup = bare (codes "DATDEF") [] ∷ bare (codes "SAVE") (codes "D(A)" ∷ []) ∷ bare (codes "SAVE") (codes "DA(A)" ∷ []) ∷ []
-
-abbrev pub saving : List Statement
-saving = bare (codes "SAVE") (codes "S(A)" ∷ []) ∷ bare (codes "SAVE") (codes "D(A)" ∷ codes "D(B)" ∷ []) ∷ []
+    ∷ bare (codes "RECALL") (codes "DA(A)" ∷ codes "DA(B)" ∷ []) ∷ of_setup
 
 -- two touches in A and one in B; what is below the end counts no more
 abbrev pub two_frames : List Statement

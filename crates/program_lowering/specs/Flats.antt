@@ -72,6 +72,10 @@ flat_text f = f.word ++ after_word f.params
 abbrev pub flat_line : Flat → ℕ → List ℕ
 flat_line f line = flat_text f ++ (codes " $$ line " ++ decimal line)
 
+-- what begins a note: the line of the source
+unfoldable pub note_line : ℕ → List ℕ
+note_line line = codes "dme: line " ++ (decimal line ++ codes ": ")
+
 -- what the code appends, part by part: no public clause cites it
 abbrev pub text_for : Option Flat → List ℕ
 text_for None = []

@@ -1,5 +1,5 @@
 -- The flat program that a program stands for, and what was decided about it (this profile).
-use Rattle.std.specs.Prelude.{ℕ, Bool, false, List, [], ◌∷◌, ◌++◌, length, codes, decimal, flat_map, Option, Some, None}
+use Rattle.std.specs.Prelude.{ℕ, Bool, false, List, [], ◌∷◌, ◌++◌, length, codes, flat_map, Option, Some, None}
 use Rattle.std.specs.Prelude.{Result, Ok, Err, ◌&&◌, if◌then◌else◌}
 use Rattle.std.specs.Str.Lines.{lines}
 use Rattle.dmis_text.specs.Reading.{Reading, text_reading}
@@ -13,7 +13,7 @@ use Rattle.dmis_program.specs.declared.sayings.StatementMeaning.{StatementMeanin
 use Rattle.dmis_program.specs.declared.sayings.StatementMeaning.TheVariants as said
 use Rattle.program_lowering.specs.Words.{left_out, passed_reason}
 use Rattle.program_lowering.specs.Manual.{in_manual, is_skipped}
-use Rattle.program_lowering.specs.Flats.{Flat, flat_line}
+use Rattle.program_lowering.specs.Flats.{Flat, flat_line, note_line}
 use Rattle.program_lowering.specs.StoredFrames.{by_frame, frame_notes, if_stored}
 use Rattle.program_review.specs.Texts.{is_operator_text}
 use Rattle.program_lowering.specs.Inches.{all_stated}
@@ -90,7 +90,7 @@ passed_over s _ = None
 
 -- the line that says so
 unfoldable pub note_start : Statement → List ℕ
-note_start s = codes "dme: line " ++ (decimal s.line ++ (codes ": " ++ s.word))
+note_start s = note_line s.line ++ s.word
 
 abbrev pub note_for : Statement → Option Reason → List ℕ
 note_for s None = []

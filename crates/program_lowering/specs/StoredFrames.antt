@@ -1,6 +1,6 @@
 -- Alignments by name (ISO 22093, DATSET, TRANS, ROTATE, RECALL): what makes or recalls a coordinate system selects the frame of its name in
 -- the setup, as `RECALL/D` does (this profile). The frame of a touch is then that of the nearest such statement above it.
-use Rattle.std.specs.Prelude.{ℕ, ◌+◌, Bool, false, true, not, ◌&&◌, List, [], ◌∷◌, ◌++◌, codes, decimal, Option, Some, None, Result, Ok, Err, is_some}
+use Rattle.std.specs.Prelude.{ℕ, ◌+◌, not, ◌&&◌, List, [], ◌∷◌, ◌++◌, codes, decimal, Option, Some, None, Result, Ok}
 use Rattle.std.specs.Prelude.{if◌then◌else◌}
 use Rattle.dmis_text.specs.Statements.{has_open_text}
 use Rattle.dmis_text.specs.declared.elements.Statement.{Statement}
@@ -12,7 +12,7 @@ use Rattle.dmis_program.specs.declared.keywords.Keyword.{Keyword}
 use Rattle.dmis_program.specs.declared.keywords.Keyword.TheVariants as word
 use Rattle.dmis_program.specs.declared.sayings.StatementMeaning.{StatementMeaning}
 use Rattle.dmis_program.specs.declared.sayings.StatementMeaning.TheVariants as said
-use Rattle.program_lowering.specs.Flats.{within}
+use Rattle.program_lowering.specs.Flats.{note_line, within}
 use Rattle.program_lowering.specs.declared.words.Choices.{Choices}
 
 -- the words that make a coordinate system, whose label names it
@@ -60,8 +60,11 @@ touches_until [] = 0
 touches_until (s ∷ below) = touches_with (saying s) (touches_until below)
 
 -- the line that says which frame is selected, and how many touches refer to it: LF is 10
+unfoldable pub frame_text : List ℕ → List ℕ
+frame_text name = codes "the frame is " ++ (name ++ codes " of the setup; touches that refer to it: ")
+
 abbrev pub frame_start : ℕ → List ℕ → List ℕ
-frame_start line name = codes "dme: line " ++ (decimal line ++ (codes ": the frame is " ++ (name ++ codes " of the setup; touches that refer to it: ")))
+frame_start line name = note_line line ++ frame_text name
 
 abbrev pub frame_end : ℕ → List ℕ
 frame_end touches = decimal touches ++ 10 ∷ []

@@ -115,18 +115,18 @@ impl Above {
         self,
         frames: &Frames,
         name: Name,
-    ) -> Result<StatementMeaning, Refusal>
-        ensures due { result ≡ frame_due frames.now self name }
+    ) -> Result<StatementMeaning, StatementFault>
+        ensures due { Gives result (frame_due frames.now self name) }
         ensures says { IfOk result (λ m. m ≡ Recalls name) }
         ensures few { IfOk result (λ _. self.number < 10000) }
     {
         if self.number >= MOST_STATEMENTS {
-            return Err(Refusal::TooLarge);
+            return Err(StatementFault::Refused(Refusal::TooLarge));
         }
         if self.number == 0 {
-            return Err(Refusal::NotDmis);
+            return Err(StatementFault::Refused(Refusal::NotDmis));
         }
-        self.settled(frames, StatementMeaning::Recalls(name))
+        Ok(self.settled(frames, StatementMeaning::Recalls(name))?)
     }
 
     /// After a statement that says this.

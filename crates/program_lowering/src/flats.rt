@@ -4,7 +4,7 @@ ghost use Rattle.std.specs.Prelude.{◌≡◌, ◌++◌, ◌∷◌, [], ℕ, Lis
 ghost use Rattle.std.specs.Char.{to_ascii_uppercase};
 ghost use Rattle.fixed_um.specs.Written.{written};
 ghost use Rattle.dmis_program.specs.declared.sayings.StatementMeaning.TheVariants as said;
-ghost use Rattle.program_lowering.specs.Flats.{components, components_text, flat_passed, flat_said, kind_of, place_text, text_for, within};
+ghost use Rattle.program_lowering.specs.Flats.{components, components_text, flat_passed, flat_said, kind_of, note_line, place_text, text_for};
 ghost use Rattle.program_lowering.specs.Lowering.{ended};
 
 use dmis_program::{Keyword, StatementMeaning};
@@ -19,6 +19,16 @@ pub(crate) fn push_number(out: &mut Vec<u8>, number: u64) -> Result<(), AllocErr
 {
     let mut buffer = Buffer::new();
     out.extend_from_slice(buffer.format(number).as_bytes())
+}
+
+/// Appends what begins a note: the line of the source.
+#[tactic(auto, unfolding(crate::specs::Flats::note_line))]
+pub(crate) fn push_note_line(out: &mut Vec<u8>, line: u64) -> Result<(), AllocError>
+    ensures { OnOk result (out.new.items ≡ out.old.items ++ note_line line) }
+{
+    out.extend_from_slice(b"dme: line ")?;
+    push_number(out, line)?;
+    out.extend_from_slice(b": ")
 }
 
 /// Appends a line: its mark, and what follows it.
@@ -52,13 +62,19 @@ fn push_components(out: &mut Vec<u8>, direction: Option<Dir>) -> Result<(), Allo
     write_dir(out, direction, b",")
 }
 
-/// Appends a name in parentheses after its mark.
-fn push_within(out: &mut Vec<u8>, mark: &[u8], name: &Name) -> Result<(), AllocError>
-    ensures { OnOk result (out.new.items ≡ out.old.items ++ within mark.now name.now) }
+/// Appends a name between two texts.
+pub(crate) fn push_between(
+    out: &mut Vec<u8>,
+    front: &[u8],
+    name: &Name,
+    back: &[u8],
+) -> Result<(), AllocError>
+    ensures { OnOk result (out.new.items
+        ≡ out.old.items ++ (front.now ++ (name.now ++ back.now))) }
 {
-    out.extend_from_slice(mark)?;
+    out.extend_from_slice(front)?;
     out.extend_from_slice(name.as_bytes())?;
-    out.extend_from_slice(b")")
+    out.extend_from_slice(back)
 }
 
 /// Appends letters as capitals.
@@ -106,7 +122,7 @@ fn push_beginning(
     out.extend_from_slice(b"MEAS/")?;
     push_kind(out, params)?;
     out.push(b',')?;
-    push_within(out, b"F(", name)?;
+    push_between(out, b"F(", name, b")")?;
     out.push(b',')?;
     push_number(out, count)
 }
@@ -147,11 +163,11 @@ pub(crate) fn push_text(
         StatementMeaning::Ends => out.extend_from_slice(b"ENDMES"),
         StatementMeaning::Selects(name) => {
             out.extend_from_slice(b"SNSLCT/")?;
-            push_within(out, b"S(", name)
+            push_between(out, b"S(", name, b")")
         }
         StatementMeaning::Recalls(name) => {
             out.extend_from_slice(b"RECALL/")?;
-            push_within(out, b"D(", name)
+            push_between(out, b"D(", name, b")")
         }
         StatementMeaning::Closes => out.extend_from_slice(b"ENDFIL"),
         StatementMeaning::Passes => out.extend_from_slice(passed_text(keyword)),

@@ -14,7 +14,7 @@ ghost use Rattle.program_lowering.specs.StoredFrames.{by_frame, if_stored};
 ghost use Rattle.program_lowering.specs.Carried.{Carried};
 
 use crate::above::Above;
-use crate::flats::{push_named, push_number};
+use crate::flats::{push_named, push_note_line};
 use crate::heads::{SourceNames, with_head};
 use crate::inches::inches_after;
 use crate::lines::{push_line, text_refusal};
@@ -34,7 +34,7 @@ use std::marker::Model;
 pub struct Lowered {
     /// The flat program.
     pub text: Vec<u8>,
-    /// One line for each statement of which nothing is written, with the reason.
+    /// One line for each statement of which nothing is written, with the reason; then one for each frame that alignments select.
     pub notes: Vec<u8>,
 }
 
@@ -66,9 +66,7 @@ impl Model for Lowering {
 fn push_start(notes: &mut Vec<u8>, statement: &Statement) -> Result<(), AllocError>
     ensures { OnOk result (notes.new.items ≡ notes.old.items ++ note_start statement.now) }
 {
-    notes.extend_from_slice(b"dme: line ")?;
-    push_number(notes, statement.line)?;
-    notes.extend_from_slice(b": ")?;
+    push_note_line(notes, statement.line)?;
     notes.extend_from_slice(&statement.word)
 }
 
@@ -218,7 +216,7 @@ impl Lowering {
             ≡ followed self.now (by_frame choices statement.now) m) }
     {
         if let Some(name) = stored_frame(self.alloc, choices, keyword, statement)? {
-            return Ok(self.above.judge_frame(frames, name)?);
+            return self.above.judge_frame(frames, name);
         }
         if let Some(refusal) = text_refusal(self.alloc, statement)? {
             return Err(StatementFault::Refused(refusal));

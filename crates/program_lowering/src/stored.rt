@@ -1,13 +1,13 @@
 // Alignments by name.
 
-ghost use Rattle.std.specs.Prelude.{◌≡◌, ◌<◌, ◌++◌, IfOk, IfSome, OnOk};
+ghost use Rattle.std.specs.Prelude.{◌≡◌, ◌<◌, ◌++◌, IfOk, IfSome, OnErr, OnOk};
 ghost use Rattle.std.specs.Option.{option_map};
 ghost use Rattle.dmis_program.specs.Keywords.{keyword_of};
 ghost use Rattle.dmis_program.specs.Parameters.{before_close, is_other_recall, name_within};
 ghost use Rattle.program_lowering.specs.Carried.{frames_after, frames_closed, since_after};
 ghost use Rattle.program_lowering.specs.StoredFrames as spec;
 
-use crate::flats::push_number;
+use crate::flats::{push_between, push_note_line, push_number};
 use crate::words::Choices;
 use dmis_program::{Keyword, StatementMeaning, word_refusal};
 use dmis_text::{Statement, Text};
@@ -109,15 +109,17 @@ pub(crate) struct FrameNotes {
     pub(crate) since: Option<u64>,
 }
 
-/// Appends a line up to the count of touches.
-fn push_frame(out: &mut Vec<u8>, line: u64, name: &Name) -> Result<(), AllocError>
-    ensures { OnOk result (out.new.items ≡ out.old.items ++ spec.frame_start line name.now) }
+/// Appends what the note on a frame says, up to the count of touches.
+#[tactic(auto, unfolding(crate::specs::StoredFrames::frame_text))]
+fn push_frame(out: &mut Vec<u8>, name: &Name) -> Result<(), AllocError>
+    ensures { OnOk result (out.new.items ≡ out.old.items ++ spec.frame_text name.now) }
 {
-    out.extend_from_slice(b"dme: line ")?;
-    push_number(out, line)?;
-    out.extend_from_slice(b": the frame is ")?;
-    out.extend_from_slice(name.as_bytes())?;
-    out.extend_from_slice(b" of the setup; touches that refer to it: ")
+    push_between(
+        out,
+        b"the frame is ",
+        name,
+        b" of the setup; touches that refer to it: ",
+    )
 }
 
 impl FrameNotes {
@@ -149,11 +151,13 @@ impl FrameNotes {
         ensures text { OnOk result (self.new.text.items
             ≡ frames_after self.old.text.items self.old.since line meaning.now) }
         ensures since { OnOk result (self.new.since ≡ since_after self.old.since meaning.now) }
+        ensures err { OnErr result (self.new.since ≡ self.old.since) }
     {
         match meaning {
             StatementMeaning::Recalls(name) => {
                 self.close()?;
-                push_frame(&mut self.text, line, name)?;
+                push_note_line(&mut self.text, line)?;
+                push_frame(&mut self.text, name)?;
                 self.since = Some(0);
             }
             StatementMeaning::Touches(_, _) => {

@@ -1,13 +1,13 @@
 -- All files that a call names are compared, one after another.
 use Rattle.run_opening.proofs.Names.{[], ◌++◌, ◌<◌, ◌∙◌, ◌≡◌, arith, Bool, false, is_some, List, None, Ok, Option, Err, OnOk, Result, Run, Some, subst, sym, true, true≢false, ℕ}
-use Rattle.std.proofs.Common.{◌∷◌, ◌≤◌, ◌⊎◌, ap, inl, inr, map, refl, suc, zero}
+use Rattle.std.proofs.Common.{◌∷◌, ◌≤◌, ◌⊎◌, ap, inl, inr, map, refl, suc}
 use Rattle.std.proofs.lemmas.Bool.{ltb-true, ltb-false}
 use Rattle.std.proofs.lemmas.List.{map-append}
 use Rattle.std.specs.Prelude.{nat_lt, option_map, string_bytes}
 use Rattle.std.specs.List.{AllByRecursion}
 use Rattle.effects.specs.Effects.{Reply}
-use Rattle.run_opening.specs.Naming.{AreApart, AreCompared, AreNone, Covers, Disturbs, IsClear, IsIn, IsSeen, name_at, Seen, seen_of}
-use Rattle.run_opening.specs.Openings.{Answered, bytes_of, Core, GoesOn, Holds, IsComparing, IsFresh, Known, numbered, outcome, Outside, placed, State, untouched}
+use Rattle.run_opening.specs.Naming.{AreApart, AreCompared, AreNone, Covers, Disturbs, IsClear, IsIn, IsSeen, Seen, seen_of}
+use Rattle.run_opening.specs.Openings.{Answered, bytes_of, Core, GoesOn, Holds, IsComparing, Known, outcome, Outside, placed, State, untouched}
 use Rattle.run_opening.specs.declared.naming.Called.{Called}
 use Rattle.run_opening.specs.declared.stages.Stage.{Stage}
 use Rattle.run_opening.specs.declared.stages.Stage.TheVariants as stage

@@ -4,7 +4,6 @@ use Rattle.std.specs.Global.{Global}
 use Rattle.std.specs.Option.{option_map_or}
 use Rattle.dme_words.specs.declared.orders.Run.{Run}
 use Rattle.effects.specs.declared.vocabulary.Slot.TheVariants.{Up}
-use Rattle.effects.specs.declared.vocabulary.Growth.{Growth}
 use Rattle.effects.specs.declared.vocabulary.Growth.TheVariants as growth
 use Rattle.effects.specs.Effects.{Ask, Where, Named, Input, Nowhere, Open, Read, Byte, Exists, Look, Place, Node, Hold, Fill, Discard, Say, Exit}
 use Rattle.protocol_model.specs.Ends.{ClientEnd}

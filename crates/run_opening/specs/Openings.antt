@@ -1,12 +1,12 @@
 -- What is known of a run before its server is called, by what the outside has answered (this profile).
-use Rattle.std.specs.Prelude.{◌≡◌, ◌⊎◌, ◌<◌, ◌++◌, ◌∷◌, [], ⊤, ℕ, Bool, true, false, List, length, Option, None, Some, is_some, Ok, option_map, string_bytes}
+use Rattle.std.specs.Prelude.{◌≡◌, ◌⊎◌, ◌<◌, ◌++◌, ◌∷◌, [], ℕ, Bool, true, false, List, length, Option, None, Some, is_some, Ok, option_map, string_bytes}
 use Rattle.client_core.specs.Clients.{are_ours, may_connect}
 use Rattle.contact_ledger.specs.FeatureTexts.{IsFeatures}
 use Rattle.contact_ledger.specs.declared.features.Feature.{Feature}
 use Rattle.dme_words.specs.declared.orders.Run.{Run}
 use Rattle.dmis_program.specs.Meaning.{Meaning, program_of}
 use Rattle.effects.specs.declared.vocabulary.Cause.TheVariants as cause
-use Rattle.effects.specs.Effects.{Reply, Done, Bytes, End, Missing, Found as IsThere, Nothing, At, Took, Failed, Short}
+use Rattle.effects.specs.Effects.{Reply, Done, Bytes, End, Missing, Found as IsThere, Failed}
 use Rattle.protocol_model.specs.Ends.{ClientEnd, new_client_end, end_connected}
 use Rattle.record_text.specs.Beginnings.{BeginsWith}
 use Rattle.record_text.specs.Growths.{begun}

@@ -53,8 +53,8 @@ pub fn answer_rows()
     ensures absent { is_there Done ≡ false }
 {}
 
-/// No run is ready whose files meet, or were not looked for; whose record is not locked, or lacks its text; whose stop file was there, or was not looked for; or whose question was
-/// answered by another line.
+/// No run is ready whose files meet, or were not looked for; whose record is not locked, or lacks its text; whose stop file was there, or
+/// was not looked for; or whose question was answered by another line.
 #[tactic(auto, using(crate::proofs::Comparing::uncompared))]
 pub fn ready_rows()
     ensures unlocked { (run : Run) (s : State) (o : Outside) → Known stage.Ready run s o

@@ -1,8 +1,8 @@
 -- A session's server stays one that was given just what was received.
-use Rattle.std.proofs.Common.{◌+◌, ◌-◌, ◌≡◌, ◌<◌, ◌≤◌, ◌⊎◌, inl, inr, refl, sym, ap, subst, ◌∙◌, true≢false, ℕ, suc, Bool, true, false, Option, None, Some, List, [], ◌∷◌, ◌++◌, length, append-nil, append_assoc, length-append, arith}
+use Rattle.std.proofs.Common.{◌+◌, ◌-◌, ◌≡◌, ◌<◌, ◌≤◌, ◌⊎◌, inl, inr, refl, sym, ap, subst, ◌∙◌, true≢false, ℕ, suc, Bool, true, false, Option, None, Some, List, [], ◌∷◌, ◌++◌, length, append-nil, append_assoc, length-append, arith, Bor}
 use Rattle.std.proofs.lemmas.Bool.{and_from, le-leb, leb-false, leb-true, lt-ltb}
 use Rattle.std.proofs.lemmas.List.{nil_from_length}
-use Rattle.std.specs.Prelude.{⊤, ◌^◌, nat_le, nat_lt, ◌&&◌, not, Ok, Err, OnOk, OnErr, Result}
+use Rattle.std.specs.Prelude.{⊤, ◌^◌, nat_le, nat_lt, ◌&&◌, not, Ok, Err, OnOk, OnErr, Result, is_err}
 use Rattle.std.specs.Io.KnownBytes.{Consumes, Appends}
 use Rattle.std.specs.List.{concat}
 use Rattle.byte_ports.specs.Pieces.{PiecesValue, stored_piece}
@@ -15,7 +15,7 @@ use Rattle.link_world.specs.ServerPumps.{ServerTurn, ServerMoved, ServerStopped,
 use Rattle.link_world.specs.declared.connections.pumps.Moved.{Moved}
 use Rattle.link_world.specs.declared.connections.pumps.PumpFault.{PumpFault}
 use Rattle.link_world.specs.declared.connections.pumps.PumpFault.TheVariants as fault
-use Rattle.protocol_model.specs.Ends.{ServerEnd, new_server_end, front_served, serving_fed, serving_read, serving_turned, serving_machined, serving_taken, serving_accepted, serving_left}
+use Rattle.protocol_model.specs.Ends.{ServerEnd, new_server_end, front_served, serving_read, serving_turned, serving_machined, serving_accepted, serving_left}
 use Rattle.protocol_model.specs.Lines.{reading_of}
 use Rattle.protocol_model.specs.Readings.{command_of}
 use Rattle.protocol_model.specs.declared.machine.Job.{Job}
@@ -24,10 +24,12 @@ use Rattle.protocol_model.proofs.invariant.Moves.{read_moves, turned_moves, mach
 use Rattle.protocol_model.specs.Server.{running_job}
 use Rattle.server_core.specs.Serving.{may_accept, may_turn}
 use Rattle.server_core.specs.declared.faults.ServerFault.{ServerFault}
-use Rattle.effects.specs.Effects.{Reply, Done, Bytes}
+use Rattle.effects.specs.Effects.{Reply, Done, Bytes, the_reply}
+use Rattle.effects.specs.declared.vocabulary.Answer.{Answer}
+use Rattle.effects.specs.declared.vocabulary.Answer.TheVariants as answer
 use Rattle.services.specs.declared.stages.Stage.{Stage}
-use Rattle.services.specs.Sessions.{State, Brings, Serves, StaysOn, Hears, Rests, Stands, due, due_at, left as gone}
-use Rattle.services.specs.Serving.{Talk, Traffic, heard_more, GoesOnWith, IsBreak, IsBroken, may_leave, HasBroken, IsOfTurn, Served, begins, accepts, refuses, works, breaks, leaves, closes, loses, IsServing, IsAt, IsFree, is_over, no_traffic, passed}
+use Rattle.services.specs.Sessions.{State, Brings, Serves, StaysOn, Hears, due, due_at, left as gone}
+use Rattle.services.specs.Serving.{Talk, Traffic, heard_more, GoesOnWith, IsBreak, may_leave, IsOfTurn, Served, begins, accepts, refuses, works, breaks, leaves, closes, loses, IsServing, IsAt, IsFree, is_over, no_traffic, passed}
 use Rattle.tool_rack.specs.Setups.{SetupValue}
 
 -- ---- a turn leaves the connection as it was: on or off, and with its number
@@ -341,7 +343,7 @@ pub unheard_lost : (t u : Talk) (piece : List ℕ) → u.end ≡ serving_left t.
     → Hears true t piece u
 unheard_lost t u piece end answers number = λ on setup f s. unheard setup t u f piece end answers number on s
 
--- the connection goes on after a whole turn, or has broken off
+-- the connection continues after a whole turn, or has broken off
 pub moved_goes : (t u : Talk) (piece : List ℕ) (from left sent taken : Option (List ℕ)) (moved : Moved)
     → ServerMoved (simulated t.shifts) (length piece) t.end u.end from left sent taken moved → GoesOnWith t piece u
 moved_goes t u piece from left sent taken moved m = λ on.
@@ -515,57 +517,31 @@ sent_serves over s t is same = λ stands setup f h.
     })))
 
 -- a connection is taken, or refused
-pub accepted_serves : (over : Bool) (s t : State) → s.stage ≡ Stage.Accepting → (s.talk.number < 2 ^ 32 → t.talk.number ≡ suc s.talk.number)
+accepted_brings : (s t : State) → s.stage ≡ Stage.Accepting → (s.talk.number < 2 ^ 32 → t.talk.number ≡ suc s.talk.number)
     → may_accept t.talk.number s.talk.end.server ≡ true → t.talk.end ≡ serving_accepted t.talk.number s.talk.end
-    → t.talk.shifts ≡ s.talk.shifts → t.talk.out ≡ [] → Brings over s Done t
-accepted_serves over s t is number may end answers out = λ stands setup f h.
+    → t.talk.shifts ≡ s.talk.shifts → t.talk.out ≡ [] → Brings false s Done t
+accepted_brings s t is number may end answers out = λ stands setup f h.
     let free : IsFree s.talk = subst (λ (x : Stage). IsAt (due_at x s.next) s.talk) is stands in
-    subst (λ (x : Stage). IsServing setup over t.talk (passed x s.talk.out Done f)) (sym is)
-    (any_serving setup over t.talk (record { heard = [] ∷ f.heard; sent = [] })
-    (accepted setup s.talk t.talk f (number free.1) may end (ap simulated answers) out (not_over setup s Stage.Accepting f is (λ next. refl) h)))
+    subst (λ (x : Stage). IsServing setup false t.talk (passed x s.talk.out Done f)) (sym is)
+    (accepted setup s.talk t.talk f (number free.1) may end (ap simulated answers) out (not_over setup s Stage.Accepting f is (λ next. refl) h))
 
-pub refused_serves : (over : Bool) (s t : State) → s.stage ≡ Stage.Accepting → (s.talk.number < 2 ^ 32 → t.talk.number ≡ suc s.talk.number)
-    → may_accept t.talk.number s.talk.end.server ≡ false → t.talk.end ≡ s.talk.end → t.talk.shifts ≡ s.talk.shifts → Brings over s Done t
-refused_serves over s t is number may end answers = λ stands setup f h.
+pub accepted_serves : (v s t : State) → v ≡ s → s.stage ≡ Stage.Accepting → (v.talk.number < 2 ^ 32 → t.talk.number ≡ suc v.talk.number)
+    → may_accept t.talk.number v.talk.end.server ≡ true → t.talk.end ≡ serving_accepted t.talk.number v.talk.end
+    → t.talk.shifts ≡ v.talk.shifts → t.talk.out ≡ [] → Brings false s Done t
+accepted_serves v s t now is number may end answers out = subst (λ (x : State). Brings false x Done t) now
+    (accepted_brings v t (ap (λ (x : State). x.stage) now ∙ is) number may end answers out)
+
+refused_brings : (s t : State) → s.stage ≡ Stage.Accepting → (s.talk.number < 2 ^ 32 → t.talk.number ≡ suc s.talk.number)
+    → may_accept t.talk.number s.talk.end.server ≡ false → t.talk.end ≡ s.talk.end → t.talk.shifts ≡ s.talk.shifts → Brings false s Done t
+refused_brings s t is number may end answers = λ stands setup f h.
     let free : IsFree s.talk = subst (λ (x : Stage). IsAt (due_at x s.next) s.talk) is stands in
-    subst (λ (x : Stage). IsServing setup over t.talk (passed x s.talk.out Done f)) (sym is)
-    (any_serving setup over t.talk (record { heard = [] ∷ f.heard; sent = [] })
-    (refused setup s.talk t.talk f (number free.1) may end (ap simulated answers) free.0 (not_over setup s Stage.Accepting f is (λ next. refl) h)))
+    subst (λ (x : Stage). IsServing setup false t.talk (passed x s.talk.out Done f)) (sym is)
+    (refused setup s.talk t.talk f (number free.1) may end (ap simulated answers) free.0 (not_over setup s Stage.Accepting f is (λ next. refl) h))
 
--- likewise, as a step has it
-pub left_now : (setup : SetupValue) (over : Bool) (t u : Talk) (f : Traffic) → IsServing setup over t f
-    → u ≡ record t { end = serving_left t.end } → IsServing setup over u f
-left_now setup over t u f s same = left_serving setup over t u f (ap (λ (x : Talk). x.end) same)
-    (ap (λ (x : Talk). simulated x.shifts) same) (ap (λ (x : Talk). x.number) same) s
-
-pub lost_now : (setup : SetupValue) (t u : Talk) (f : Traffic) → IsServing setup false t f → u ≡ record t { end = serving_left t.end }
-    → IsServing setup true u f
-lost_now setup t u f s same = left_now setup true t u f (any_serving setup true t f s) same
-
-pub unheard_now : (setup : SetupValue) (t u : Talk) (f : Traffic) (piece : List ℕ) → IsServing setup false t f → t.end.server.on ≡ true
-    → u ≡ record t { end = serving_left t.end } → IsServing setup true u (record f { heard = heard_more piece f.heard })
-unheard_now setup t u f piece s on same = unheard setup t u f piece (ap (λ (x : Talk). x.end) same)
-    (ap (λ (x : Talk). simulated x.shifts) same) (ap (λ (x : Talk). x.number) same) on s
-
-pub sent_now : (setup : SetupValue) (t u : Talk) (f : Traffic) → IsServing setup false t f → u ≡ record t { out = [] }
-    → IsServing setup false u (record f { sent = f.sent ++ t.out })
-sent_now setup t u f s same = subst (λ (x : Talk). IsServing setup false x (record f { sent = f.sent ++ t.out })) (sym same) (record {
-  machine = s.machine;
-  number = s.number;
-  written = s.written;
-  served = s.served;
-  said = λ on. append-nil (f.sent ++ t.out) ∙ s.said on;
-})
-
-pub accepted_now : (setup : SetupValue) (t u : Talk) (f : Traffic) → IsServing setup false t f → u.number ≡ suc t.number
-    → may_accept u.number t.end.server ≡ true → u.end ≡ serving_accepted u.number t.end → u.shifts ≡ t.shifts → u.out ≡ []
-    → IsServing setup false u (record { heard = [] ∷ f.heard; sent = [] })
-accepted_now setup t u f s number may end shifts out = accepted setup t u f number may end (ap simulated shifts) out s
-
-pub refused_now : (setup : SetupValue) (t u : Talk) (f : Traffic) → IsServing setup false t f → u.number ≡ suc t.number
-    → may_accept u.number t.end.server ≡ false → t.end.server.on ≡ false → u.end ≡ t.end → u.shifts ≡ t.shifts
-    → IsServing setup false u (record { heard = [] ∷ f.heard; sent = [] })
-refused_now setup t u f s number may off end shifts = refused setup t u f number may end (ap simulated shifts) off s
+pub refused_serves : (v s t : State) → v ≡ s → s.stage ≡ Stage.Accepting → (v.talk.number < 2 ^ 32 → t.talk.number ≡ suc v.talk.number)
+    → may_accept t.talk.number v.talk.end.server ≡ false → t.talk.end ≡ v.talk.end → t.talk.shifts ≡ v.talk.shifts → Brings false s Done t
+refused_serves v s t now is number may end answers = subst (λ (x : State). Brings false x Done t) now
+    (refused_brings v t (ap (λ (x : State). x.stage) now ∙ is) number may end answers)
 
 -- ---- the stages of a step
 
@@ -633,15 +609,6 @@ pub heard_lost : {A E : Type 0} (r : Result A E) (s t : State) (piece : List ℕ
 heard_lost (Ok a) s t piece is h = tt
 heard_lost (Err e) s t piece is h = heard_serves true s t piece is h
 
--- the stages at which no connection is there
-abbrev pub RestsAt : Stage → Type 0
-RestsAt st = (next : Stage) (t : Talk) → IsAt (due_at st next) t → IsFree t
-
-pub rest_stands : {A E : Type 0} (r : Result A E) (v s t : State) → v ≡ s → RestsAt v.stage → OnOk r (Rests s.talk t)
-    → OnOk r (Stands s → Stands t)
-rest_stands r v s t is rest rests = on_ok r (Rests s.talk t) (Stands s → Stands t)
-    (λ h stands. h (subst (λ (x : State). RestsAt x.stage) is rest s.next s.talk stands)) rests
-
 -- ---- a connection is left only where it may be
 
 pub goes_ok : {A E : Type 0} (r : Result A E) (t u v : Talk) (piece : List ℕ) → GoesOnWith t piece u → v ≡ u → OnOk r (GoesOnWith t piece v)
@@ -649,9 +616,6 @@ goes_ok r t u v piece goes same = all_ok r (GoesOnWith t piece v) (subst (λ (x 
 
 pub end_stays : {A E : Type 0} (r : Result A E) (s t : State) (reply : Reply) → t.talk.end ≡ s.talk.end → OnOk r (StaysOn s reply t)
 end_stays r s t reply same = all_ok r (StaysOn s reply t) (λ on. inl (ap (λ (e : ServerEnd). e.server.on) same ∙ on))
-
-pub talk_stays : {A E : Type 0} (r : Result A E) (s t : State) (reply : Reply) → t.talk ≡ s.talk → OnOk r (StaysOn s reply t)
-talk_stays r s t reply same = end_stays r s t reply (ap (λ (x : Talk). x.end) same)
 
 pub on_stays : {A E : Type 0} (r : Result A E) (s t : State) (reply : Reply)
     → OnOk r (s.talk.end.server.on ≡ true → t.talk.end.server.on ≡ true) → OnOk r (StaysOn s reply t)
@@ -668,3 +632,89 @@ heard_stays r s t piece = on_ok r (GoesOnWith s.talk piece t.talk) (StaysOn s (B
 
 pub over_stays : (s t : State) (reply : Reply) → is_over (due t) ≡ true → StaysOn s reply t
 over_stays s t reply over = λ on. inr (inr (inr over))
+
+-- ---- the parts of a step
+
+-- a connection is taken, or all was sent, only if that is done
+pub untaken : (a : Answer) → (a ≡ answer.Done → ⊥) → BringsNone Stage.Accepting (the_reply a)
+untaken answer.Done not_done = absurd (not_done refl)
+untaken (answer.Bytes bytes) not_done = λ out f. refl
+untaken answer.End not_done = λ out f. refl
+untaken answer.Missing not_done = λ out f. refl
+untaken answer.Found not_done = λ out f. refl
+untaken answer.Nothing not_done = λ out f. refl
+untaken (answer.At ms) not_done = λ out f. refl
+untaken (answer.Took count) not_done = λ out f. refl
+untaken (answer.Failed why) not_done = λ out f. refl
+untaken answer.Short not_done = λ out f. refl
+
+-- an answer after which a connection is left
+abbrev pub Loses : Stage → Reply → Type 0
+Loses st reply = BringsNone st reply × (may_leave st reply ≡ true)
+
+pub unsent : (a : Answer) → (a ≡ answer.Done → ⊥) → Loses Stage.Sending (the_reply a)
+unsent answer.Done not_done = absurd (not_done refl)
+unsent (answer.Bytes bytes) not_done = (λ out f. refl, refl)
+unsent answer.End not_done = (λ out f. refl, refl)
+unsent answer.Missing not_done = (λ out f. refl, refl)
+unsent answer.Found not_done = (λ out f. refl, refl)
+unsent answer.Nothing not_done = (λ out f. refl, refl)
+unsent (answer.At ms) not_done = (λ out f. refl, refl)
+unsent (answer.Took count) not_done = (λ out f. refl, refl)
+unsent (answer.Failed why) not_done = (λ out f. refl, refl)
+unsent answer.Short not_done = (λ out f. refl, refl)
+
+pub unreceived : (a : Answer) → ((bytes : Bor (List ℕ)) → a ≡ answer.Bytes bytes → ⊥) → (a ≡ answer.Nothing → ⊥) → Loses Stage.Receiving (the_reply a)
+unreceived answer.Done not_bytes not_nothing = (λ out f. refl, refl)
+unreceived (answer.Bytes bytes) not_bytes not_nothing = absurd (not_bytes bytes refl)
+unreceived answer.End not_bytes not_nothing = (λ out f. refl, refl)
+unreceived answer.Missing not_bytes not_nothing = (λ out f. refl, refl)
+unreceived answer.Found not_bytes not_nothing = (λ out f. refl, refl)
+unreceived answer.Nothing not_bytes not_nothing = absurd (not_nothing refl)
+unreceived (answer.At ms) not_bytes not_nothing = (λ out f. refl, refl)
+unreceived (answer.Took count) not_bytes not_nothing = (λ out f. refl, refl)
+unreceived (answer.Failed why) not_bytes not_nothing = (λ out f. refl, refl)
+unreceived answer.Short not_bytes not_nothing = (λ out f. refl, refl)
+
+-- at a stage at which the service is not over, an answer that brings nothing
+pub open_serves : {A E : Type 0} (r : Result A E) (v s t : State) (reply : Reply) → v ≡ s → BringsNone v.stage reply × IsOpen v.stage
+    → t.talk ≡ s.talk → OnOk r (Serves s reply t)
+open_serves r v s t reply is quiet same =
+    let now = subst (λ (x : State). BringsNone x.stage reply × IsOpen x.stage) is quiet in
+    all_ok r (Serves s reply t) (same_serves (is_over (due t)) s t s.stage reply refl now.0 now.1 same)
+
+-- a service that is over stays so, and one that is not may
+pub over_goes : {A E : Type 0} (r : Result A E) (s t : State) → due s ≡ s.stage → (is_over s.stage ≡ true → OnOk r (is_over (due t) ≡ true))
+    → OnOk r (is_over (due s) ≡ true → is_over (due t) ≡ true)
+over_goes r s t plain over = cases (is_over s.stage) refl
+  where
+    cases : (b : Bool) → is_over s.stage ≡ b → OnOk r (is_over (due s) ≡ true → is_over (due t) ≡ true)
+    cases true is = on_ok r (is_over (due t) ≡ true) (is_over (due s) ≡ true → is_over (due t) ≡ true) (λ now was. now) (over is)
+    cases false is = all_ok r (is_over (due s) ≡ true → is_over (due t) ≡ true)
+        (λ was. absurd (true≢false (sym was ∙ (ap is_over plain ∙ is))))
+
+-- a step that has failed, or has not
+pub of_err : {A E : Type 0} (r : Result A E) (P : Type 0) → is_err r ≡ true → OnErr r P → P
+of_err (Ok a) P is p = absurd (true≢false (sym is))
+of_err (Err e) P is p = p
+
+pub of_ok : {A E : Type 0} (r : Result A E) (P : Type 0) → is_err r ≡ false → OnOk r P → P
+of_ok (Ok a) P is p = p
+of_ok (Err e) P is p = absurd (true≢false is)
+
+-- memory has run out before a piece was given to the server
+pub unheard_short : {A E : Type 0} (r : Result A E) (v s : State) (piece : List ℕ) → v ≡ s → OnErr r (Hears true s.talk piece (gone v).talk)
+unheard_short r v s piece is = on_err r (Hears true s.talk piece (gone v).talk) (subst (λ (x : State). Hears true x.talk piece (gone v).talk) is
+    (unheard_lost v.talk (gone v).talk piece refl refl refl))
+
+-- likewise for the values that a session is opened with
+pub gone_serves : (over : Bool) (v s t : State) (at : Stage) (reply : Reply) → v ≡ s → v.stage ≡ at → BringsNone at reply → IsOpen at
+    → t.talk ≡ (gone v).talk → Brings over s reply t
+gone_serves over v s t at reply now is none opens same = subst (λ (x : State). Brings over x reply t) now
+    (left_serves over v t at reply is none opens same)
+
+pub over_serves : (v s t : State) (reply : Reply) → v ≡ s → BringsNone v.stage reply → t.talk ≡ v.talk → Brings true s reply t
+over_serves v s t reply now none same = subst (λ (x : State). Brings true x reply t) now (stays_serves true v t reply none same (λ was. refl))
+
+pub may_go : (s t : State) (at : Stage) (reply : Reply) → s.stage ≡ at → may_leave at reply ≡ true → StaysOn s reply t
+may_go s t at reply is may = λ on. inr (inl (ap (λ (x : Stage). may_leave x reply) is ∙ may))

@@ -1,9 +1,9 @@
 -- What a turn of the server appends to its ledger.
-use Rattle.std.proofs.Common.{◌≡◌, refl, sym, ap, ◌∙◌, ℕ, Option, None, Some, List, [], ◌∷◌, ◌++◌, append-nil}
+use Rattle.std.proofs.Common.{◌≡◌, sym, ap, ◌∙◌, ℕ, Option, None, Some, List, [], ◌∷◌, ◌++◌, append-nil}
 use Rattle.std.proofs.lemmas.List.{append_assoc}
 use Rattle.contact_ledger.specs.Ledgers.{contact_count}
 use Rattle.contact_ledger.specs.declared.acts.Act.{Act}
-use Rattle.protocol_model.specs.Ends.{ServerEnd, serving_fed, serving_read, serving_turned, serving_machined, serving_taken, serving_left}
+use Rattle.protocol_model.specs.Ends.{ServerEnd, serving_read, serving_turned, serving_machined}
 use Rattle.protocol_model.specs.declared.machine.Job.{Job}
 use Rattle.protocol_model.specs.declared.machine.Outcome.{Outcome}
 use Rattle.link_world.specs.Pumps.{Stage}

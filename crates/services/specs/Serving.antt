@@ -42,7 +42,7 @@ passed stage.Receiving out (Bytes piece) f = record f { heard = heard_more piece
 passed stage.Sending out Done f = record f { sent = f.sent ++ out }
 passed s out reply f = f
 
--- why a server leaves its connection within a turn that began with n unread bytes, and the service goes on: it refuses, or it has made
+-- why a server leaves its connection within a turn that began with n unread bytes, and the service continues: it refuses, or it has made
 -- 2^64 - 1 steps
 abbrev pub IsBreak : PumpFault ServerFault → (n written : ℕ) → ServerEnd → Type 0
 IsBreak (fault.Core why) n written e = IsServerRefusal e why
@@ -62,7 +62,7 @@ pub record IsBroken (t : Talk) (piece : List ℕ) (u : Talk) : Type 0 where
   pub is : IsBreak why (length read + length t.end.input.rest) (length more) last
   pub leaves : u.end ≡ serving_left last
 
--- the connection goes on with this piece, unless that has broken it off
+-- the connection continues with this piece, unless that has broken it off
 abbrev pub GoesOnWith : Talk → List ℕ → Talk → Type 0
 GoesOnWith t piece u = t.end.server.on ≡ true → (u.end.server.on ≡ true) ⊎ IsBroken t piece u
 

@@ -1,5 +1,5 @@
 -- What the session of `serve` knows and may ask next, as far as its promises speak of it (this profile).
-use Rattle.std.specs.Prelude.{◌≡◌, ◌⊎◌, ⊤, ℕ, Bool, true, false, List, [], ◌∷◌, ◌++◌, length, drop, map}
+use Rattle.std.specs.Prelude.{◌≡◌, ◌⊎◌, ⊤, ℕ, Bool, true, false, List, [], ◌++◌, length, drop, map}
 use Rattle.contact_ledger.specs.Lines.{text_of}
 use Rattle.contact_ledger.specs.ContactTexts.{act_line, contacts_text}
 use Rattle.contact_ledger.specs.declared.acts.Act.{Act}

@@ -23,10 +23,10 @@ pub fn servers_of_sessions_have_worked()
         → (may_turn e.server ≡ false) × (running_job e.server ≡ None) }
 {}
 
-/// What is received joins what was before on the connection, of which nothing is on the next one; nothing is received while something is to
-/// be sent, or on no connection; no connection is taken before the last is left; the first has the number 1; what is to be sent is just
-/// what the server has written; no connection is left at bytes, nor once all was sent; and a connection is not broken off for memory, unless the service is over, which takes no other, receives
-/// nothing and sends nothing.
+/// What is received joins what was before on the connection, of which nothing is on the next one; nothing is received while something is
+/// to be sent, or on no connection; no connection is taken before the last is left; the first has the number 1; what is to be sent is just
+/// what the server has written; no connection is left at bytes, nor once all was sent; and a connection is not broken off for memory,
+/// unless the service is over, which takes no other, receives nothing and sends nothing.
 pub fn serving_rows()
     ensures received { passed stage.Receiving [] (Bytes (7 ∷ []))
         (record { heard = (5 ∷ []) ∷ (3 ∷ []) ∷ []; sent = [] })

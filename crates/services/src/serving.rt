@@ -59,7 +59,7 @@ impl Session {
         }
     }
 
-    /// The connection is left.
+    /// The server leaves its connection.
     fn leave(&mut self)
         ensures { self.new ≡ spec.left self.old }
     {
@@ -75,7 +75,7 @@ impl Session {
         self.leave();
     }
 
-    #[tactic(auto, using(crate::proofs::Served::left_now, crate::proofs::Served::lost_now, crate::proofs::Served::end_stays, crate::proofs::Served::may_stay, crate::proofs::Served::heard_stays))]
+    #[tactic(auto, using(crate::proofs::Served::end_stays, crate::proofs::Served::may_stay))]
     pub(crate) fn receive(&mut self, answer: Answer<'_>) -> Result<(), AllocError>
         requires { spec.is_receiving self.old.stage ≡ true }
         ensures goes { OnOk result (spec.GoesOn self.old (the_reply answer.entry) self.new) }
@@ -94,10 +94,28 @@ impl Session {
                 None => self.stage = Stage::Receiving,
             },
             (Stage::Timing, _) => self.stage = Stage::Receiving,
-            (_, Answer::Bytes(piece)) => return self.came(piece),
-            (_, Answer::End) => self.leave(),
-            (_, Answer::Nothing) => self.stage = self.await_bytes(),
-            (_, Answer::Short) => return Err(AllocError),
+            _ => return self.received(answer),
+        }
+        Ok(())
+    }
+
+    /// Bytes may have come.
+    #[tactic(auto, using(crate::proofs::Served::end_stays, crate::proofs::Served::may_stay, crate::proofs::Served::heard_stays))]
+    fn received(&mut self, answer: Answer<'_>) -> Result<(), AllocError>
+        requires { self.old.stage ≡ Stage.Receiving }
+        ensures goes { OnOk result (spec.GoesOn self.old (the_reply answer.entry) self.new) }
+        ensures served { OnOk result
+            (spec.Brings false self.old (the_reply answer.entry) self.new) }
+        ensures stays { OnOk result (spec.StaysOn self.old (the_reply answer.entry) self.new) }
+        ensures lost { OnErr result
+            (spec.Brings true self.old (the_reply answer.entry) (spec.left self.new)) }
+        ensures stands { OnOk result (spec.Stands self.old → spec.Stands self.new) }
+    {
+        match answer {
+            Answer::Bytes(piece) => return self.came(piece),
+            Answer::End => self.leave(),
+            Answer::Nothing => self.stage = self.await_bytes(),
+            Answer::Short => return Err(AllocError),
             _ => self.fail(Break::Fault(PumpFault::ReadFailed)),
         }
         Ok(())
@@ -134,7 +152,7 @@ impl Session {
     }
 
     /// Bytes have come.
-    #[tactic(auto, using(crate::proofs::Served::lost_now, crate::proofs::Served::unheard_now, crate::proofs::Served::on_err, crate::proofs::Served::goes_ok))]
+    #[tactic(auto, using(crate::proofs::Served::goes_ok))]
     fn came(&mut self, piece: &[u8]) -> Result<(), AllocError>
         ensures kept { OnOk result ((o : spec.Outside) → spec.IsKept self.old.core o
             → spec.Ready (spec.due self.new) self.new.core o) }
@@ -254,7 +272,7 @@ impl Session {
         Ok(())
     }
 
-    #[tactic(auto, using(crate::proofs::Served::left_now, crate::proofs::Served::sent_now, crate::proofs::Served::end_stays, crate::proofs::Served::may_stay))]
+    #[tactic(auto, using(crate::proofs::Served::end_stays))]
     pub(crate) fn answer(&mut self, answer: Answer<'_>) -> Result<(), AllocError>
         requires { spec.is_answering self.old.stage ≡ true }
         ensures goes { OnOk result (spec.GoesOn self.old (the_reply answer.entry) self.new) }
@@ -265,10 +283,25 @@ impl Session {
         match (self.stage, answer) {
             (Stage::Keeping, Answer::Done) => self.settle(),
             (Stage::Keeping, _) => return self.lose_contacts(answer),
-            (Stage::Sending, Answer::Done) => return self.sent(),
-            (Stage::Sending, Answer::Nothing) => self.fail(Break::Lapsed(Lapse::Taken)),
-            (Stage::Sending, _) => self.fail(Break::Fault(PumpFault::WriteFailed)),
+            (Stage::Sending, _) => return self.went(answer),
             _ => return self.left(),
+        }
+        Ok(())
+    }
+
+    /// The answers went, or the connection is broken off.
+    #[tactic(auto, using(crate::proofs::Served::end_stays))]
+    fn went(&mut self, answer: Answer<'_>) -> Result<(), AllocError>
+        requires { self.old.stage ≡ Stage.Sending }
+        ensures goes { OnOk result (spec.GoesOn self.old (the_reply answer.entry) self.new) }
+        ensures served { spec.Brings false self.old (the_reply answer.entry) self.new }
+        ensures stays { OnOk result (spec.StaysOn self.old (the_reply answer.entry) self.new) }
+        ensures stands { OnOk result (spec.Stands self.old → spec.Stands self.new) }
+    {
+        match answer {
+            Answer::Done => return self.sent(),
+            Answer::Nothing => self.fail(Break::Lapsed(Lapse::Taken)),
+            _ => self.fail(Break::Fault(PumpFault::WriteFailed)),
         }
         Ok(())
     }
@@ -288,7 +321,9 @@ impl Session {
         Ok(())
     }
 
+    /// The connection is left.
     fn left(&mut self) -> Result<(), AllocError>
+        requires { self.old.stage ≡ Stage.Leaving }
         ensures goes { OnOk result (spec.Continues self.old self.new) }
         ensures talk { self.new.talk ≡ self.old.talk }
         ensures stands { OnOk result (self.old.talk.end.server.on ≡ false

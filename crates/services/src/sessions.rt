@@ -92,7 +92,6 @@ impl Model for Session {
 
 impl Session {
     /// A session of this service, whose machine has this setup. Fails only if out of memory.
-    #[tactic(auto, using(crate::proofs::Served::new_served))]
     pub fn new(alloc: Global, service: Service, setup: Setup) -> Result<Session, AllocError>
         ensures ready { IfOk result (λ s. spec.Ready (spec.due s) s.core spec.untouched) }
         ensures served { IfOk result (λ s. serving.IsServing setup false s.talk serving.no_traffic) }
@@ -206,7 +205,7 @@ impl Session {
     }
 
     /// What came of it. If memory runs out meanwhile, the connection is left, and the service ends.
-    #[tactic(auto, using(crate::proofs::Served::short_serves, crate::proofs::Served::over_stays))]
+    #[tactic(auto, using(crate::proofs::Served::over_stays))]
     pub fn take(&mut self, answer: Answer<'_>)
         ensures goes { spec.GoesOn self.old (the_reply answer.entry) self.new }
         ensures served { spec.Serves self.old (the_reply answer.entry) self.new }

@@ -43,7 +43,7 @@ impl Session {
         Ok(())
     }
 
-    #[tactic(auto, using(crate::proofs::Served::end_stays, crate::proofs::Served::on_stays))]
+    #[tactic(auto, using(crate::proofs::Served::end_stays))]
     pub(crate) fn take_next(&mut self, answer: Answer<'_>) -> Result<(), AllocError>
         requires { spec.is_taking self.old.stage ≡ true }
         ensures goes { OnOk result (spec.Continues self.old self.new) }
@@ -55,10 +55,37 @@ impl Session {
             (Stage::Peeking, Answer::Found) => return self.close(),
             (Stage::Peeking, _) => self.stage = Stage::Accepting,
             (Stage::Pausing, _) => self.stage = self.await_next(),
-            (_, Answer::Done) => return self.taken(),
-            (_, Answer::Nothing) => self.stage = Stage::Pausing,
-            (_, Answer::Short) => return Err(AllocError),
-            (_, Answer::Failed(Cause::Interrupted)) => self.stage = self.await_next(),
+            _ => return self.accepted(answer),
+        }
+        Ok(())
+    }
+
+    /// A connection may have come.
+    #[tactic(auto, using(crate::proofs::Served::end_stays, crate::proofs::Served::on_stays))]
+    fn accepted(&mut self, answer: Answer<'_>) -> Result<(), AllocError>
+        requires { self.old.stage ≡ Stage.Accepting }
+        ensures goes { OnOk result (spec.Continues self.old self.new) }
+        ensures served { spec.Brings false self.old (the_reply answer.entry) self.new }
+        ensures stays { OnOk result (spec.StaysOn self.old (the_reply answer.entry) self.new) }
+        ensures stands { OnOk result (spec.Stands self.old → spec.Stands self.new) }
+    {
+        match answer {
+            Answer::Done => self.taken(),
+            _ => self.untaken(answer),
+        }
+    }
+
+    /// No connection has come yet, or one cannot be taken: that is said once.
+    fn untaken(&mut self, answer: Answer<'_>) -> Result<(), AllocError>
+        requires { self.old.stage ≡ Stage.Accepting }
+        ensures goes { OnOk result (spec.Continues self.old self.new) }
+        ensures talk { self.new.talk ≡ self.old.talk }
+        ensures stands { OnOk result (spec.Stands self.old → spec.Stands self.new) }
+    {
+        match answer {
+            Answer::Nothing => self.stage = Stage::Pausing,
+            Answer::Short => return Err(AllocError),
+            Answer::Failed(Cause::Interrupted) => self.stage = self.await_next(),
             _ if self.is_told => self.stage = Stage::Pausing,
             _ => {
                 self.is_told = true;
@@ -70,7 +97,6 @@ impl Session {
     }
 
     /// A connection is taken: the server comes to it.
-    #[tactic(auto, using(crate::proofs::Served::accepted_now, crate::proofs::Served::refused_now))]
     fn taken(&mut self) -> Result<(), AllocError>
         requires { self.old.stage ≡ Stage.Accepting }
         ensures goes { OnOk result (spec.Continues self.old self.new) }

@@ -1,4 +1,5 @@
 use Rattle.run_opening.proofs.Names.{State, subst, sym}
+use Rattle.std.proofs.Common.{refl}
 use Rattle.run_opening.specs.Naming.{AreNone}
 use Rattle.run_opening.specs.Openings.{IsComparing}
 use Rattle.run_opening.proofs.Comparing.{all_compared, on_next}
@@ -12,5 +13,5 @@ pub returns-in-None : goal.returns-in-None
 returns-in-None c = λ run o h. c.hold_record.ensures run o (
   h.fresh,
   all_compared run c.args.from _ _ o.answered h
-      (subst (λ (s : State). AreNone c.args.from 7 s.core.order) c.self.view_is (c.in-None.ensures.none tt)),
+      (subst (λ (s : State). AreNone c.args.from 7 s.core.order) c.self.view_is (c.in-None.ensures.none refl)),
 )

@@ -1,4 +1,4 @@
-use Rattle.run_opening.proofs.Names.{[], ◌≡◌, false, is_some, IsLookedAt, Leads, None, rules, Some, State, subst}
+use Rattle.run_opening.proofs.Names.{◌≡◌, false, is_some, IsLookedAt, Leads, None, rules, Some, State, subst}
 use Rattle.std.proofs.Common.{map}
 use Rattle.run_opening.specs.Naming.{seen_of}
 use Rattle.run_opening.proofs.Beginnings.{none_leads, on_ok, some_leads}

@@ -1,4 +1,4 @@
-use Rattle.std.proofs.Common.{rules, ap, sym, ◌∙◌}
+use Rattle.std.proofs.Common.{ap}
 use Rattle.services.specs.Sessions.{State}
 use Rattle.services.proofs.Keeping.{said_due, said_ready}
 use Rattle.services.proofs.sessions.Session.go_to_next.Goals as goal

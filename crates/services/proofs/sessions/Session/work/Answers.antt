@@ -1,4 +1,4 @@
-use Rattle.std.proofs.Common.{refl, rules, subst, ◌≡◌, ◌++◌, ap, ◌∙◌, List, ℕ, OnOk, Some}
+use Rattle.std.proofs.Common.{refl, rules, subst, ◌++◌, ap, ◌∙◌, false, true, List, ℕ, OnOk, Some}
 use Rattle.services.specs.Sessions.{Hears, State}
 use Rattle.services.specs.Serving.{GoesOnWith, Talk}
 use Rattle.protocol_model.specs.Ends.{serving_left}
