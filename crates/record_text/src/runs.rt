@@ -3,7 +3,7 @@
 ghost use Rattle.std.specs.Prelude.{◌≡◌, ◌↔◌, ◌≤◌, ◌∷◌, ℕ, List, drop, IsTrue, IfOk};
 ghost use Rattle.record_text.specs.Names.{Finds, Act, contacts, Serves, last_frame, IsServedBy};
 
-use crate::comparing::same_name;
+use crate::comparing::{same_dir, same_frame, same_name, same_point};
 use crate::telling::is_contact;
 use contact_ledger::{Act, Points};
 use dmis_program::Touch;
@@ -53,10 +53,10 @@ fn is_asked(touch: &Touch, target: Point, dir: Option<Dir>, tool: &Name, frame: 
     ensures { IsTrue result ↔ ((target ≡ touch.now.target) × (dir ≡ touch.now.dir)
         × (tool.now ≡ touch.now.tool) × (frame ≡ touch.now.frame)) }
 {
-    target == touch.target
-        && dir == touch.dir
+    same_point(target, touch.target)
+        && same_dir(dir, touch.dir)
         && same_name(tool, &touch.tool)
-        && frame == touch.frame
+        && same_frame(frame, touch.frame)
 }
 
 fn served_point(connection: u64, touch: &Touch, on: u64, act: &Act) -> Option<Point>

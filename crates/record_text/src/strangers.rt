@@ -4,7 +4,7 @@ ghost use Rattle.std.specs.Prelude.{◌≡◌, ◌↔◌, IsTrue, IsNone, IfSome
 ghost use Rattle.record_text.specs.Strangers.{IsFirstOther};
 
 use crate::asked::Asked;
-use crate::comparing::same_name;
+use crate::comparing::{same_dir, same_frame, same_name, same_point};
 use crate::records::Record;
 use dmis_program::{Program, Touch, Wanted};
 use fixed_um::Name;
@@ -12,10 +12,10 @@ use fixed_um::Name;
 fn same_touch(one: &Touch, other: &Touch) -> bool
     ensures { IsTrue result ↔ (one.now ≡ other.now) }
 {
-    one.target == other.target
-        && one.dir == other.dir
+    same_point(one.target, other.target)
+        && same_dir(one.dir, other.dir)
         && same_name(&one.tool, &other.tool)
-        && one.frame == other.frame
+        && same_frame(one.frame, other.frame)
 }
 
 fn same_touches(one: &[Touch], other: &[Touch]) -> bool
