@@ -21,35 +21,21 @@ fn client_read(
     program: &[u8],
     features: &[u8],
     window: u8,
-) -> Result<Client, NotMade>
-    ensures client { IfOk result (IsClientOf setup.now program.now features.now window) }
+) -> Result<Box<Client>, NotMade>
+    ensures client { IfOk result (λ core.
+        IsClientOf setup.now program.now features.now window core.value) }
     ensures refused { IfErr result (IsWhy setup.now program.now features.now window) }
 {
     let setup = setup_read(alloc, setup)?;
     let program = program_read(alloc, setup.frames(), program)?;
     let features = features_read(alloc, features)?;
     match Client::new(alloc, program, features, window) {
-        Ok(client) => Ok(client),
+        Ok(client) => match Box::new(alloc, client) {
+            Ok(core) => Ok(core),
+            Err(_) => Err(NotMade::Memory),
+        },
         Err((NewFault::BadWindow, _, _)) => Err(NotMade::BadWindow),
         Err((NewFault::NotOurs, _, _)) => Err(NotMade::NotOurs),
-    }
-}
-
-fn client_boxed(
-    alloc: Global,
-    setup: &[u8],
-    program: &[u8],
-    features: &[u8],
-    window: u8,
-) -> Result<Box<Client>, NotMade>
-    ensures client { IfOk result (λ core.
-        IsClientOf setup.now program.now features.now window core.value) }
-    ensures refused { IfErr result (IsWhy setup.now program.now features.now window) }
-{
-    let core = client_read(alloc, setup, program, features, window)?;
-    match Box::new(alloc, core) {
-        Ok(core) => Ok(core),
-        Err(_) => Err(NotMade::Memory),
     }
 }
 
@@ -85,7 +71,7 @@ pub extern "C" fn dme_client_new(
     ensures number { (result ≡ 0) ⊎ ((3 ≤ result) × (result ≤ 8)) }
 {
     features_are_read_in_one_way();
-    match client_boxed(alloc, setup, program, features, window) {
+    match client_read(alloc, setup, program, features, window) {
         Ok(core) => {
             client.put(core);
             0

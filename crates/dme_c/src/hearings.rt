@@ -26,22 +26,16 @@ pub struct Heard {
 fn kind_about(about: Option<Sent>) -> u32
     ensures { result ≡ kind_about about }
 {
-    match about {
-        Some(sent) => kind_number(sent.kind),
-        None => 0,
-    }
+    about.map_or(0, |sent| kind_number(sent.kind))
 }
 
 fn touch_about(about: Option<Sent>) -> u64
     ensures { result ≡ touch_about about }
 {
-    let Some(sent) = about else {
-        return 0;
-    };
-    match sent.kind {
+    about.map_or(0, |sent| match sent.kind {
         Kind::PtMeas => sent.touches,
         _ => 0,
-    }
+    })
 }
 
 /// What follows the connections of a client.
@@ -93,13 +87,10 @@ impl Hearing {
         if !self.follows {
             return Err(ClientFault::NotNow);
         }
-        match self.dialogue.send(alloc, bytes) {
-            Ok(()) => Ok(()),
-            Err(_) => {
-                self.follows = false;
-                Err(ClientFault::Memory)
-            }
-        }
+        self.follows = false;
+        self.dialogue.send(alloc, bytes)?;
+        self.follows = true;
+        Ok(())
     }
 
     /// Bytes of the server went by.
@@ -111,37 +102,18 @@ impl Hearing {
         if !self.follows {
             return Err(ClientFault::NotNow);
         }
-        let Ok(reports) = self.dialogue.hear(alloc, bytes) else {
-            self.follows = false;
-            return Err(ClientFault::Memory);
-        };
-        let mut heard = VecDeque::from_vec(reports);
-        match self.waiting.append(&mut heard) {
-            Ok(()) => Ok(()),
-            Err(_) => {
-                self.follows = false;
-                Err(ClientFault::Memory)
-            }
-        }
-    }
-
-    fn first(&self) -> Option<&Report>
-        ensures { option_map (λ r. r.now) result ≡ slice_get self.now.waiting 0 }
-    {
-        self.waiting.front()
-    }
-
-    fn pass(&mut self)
-        ensures { self.new ≡ record (self.old) { waiting = drop 1 self.old.waiting } }
-    {
-        self.waiting.pop_front();
+        self.follows = false;
+        let mut heard = VecDeque::from_vec(self.dialogue.hear(alloc, bytes)?);
+        self.waiting.append(&mut heard)?;
+        self.follows = true;
+        Ok(())
     }
 
     /// Copies the text of the first error into the room if it fits, and the error then waits no more.
     pub(crate) fn take(&mut self, room: &mut [u8]) -> Heard
         ensures { TakesError room.old room.new self.old self.new result }
     {
-        let Some(report) = self.first() else {
+        let Some(report) = self.waiting.front() else {
             return Heard {
                 number: 1,
                 command: 0,
@@ -152,7 +124,7 @@ impl Hearing {
         let about = report.about();
         let length = copy_whole(report.text(), room);
         if length <= room.len() {
-            self.pass();
+            self.waiting.pop_front();
         }
         Heard {
             number: 0,

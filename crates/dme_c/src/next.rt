@@ -56,22 +56,14 @@ fn command_of(client: &Client) -> u32
     }
 }
 
-fn place_of(client: &Client) -> Option<Point>
-    ensures { result ≡ command_place (planned_command (due client.now.client)) }
+fn target_of(client: &Client) -> (Option<Point>, Option<Dir>)
+    ensures place { result.0 ≡ command_place (planned_command (due client.now.client)) }
+    ensures normal { result.1 ≡ command_normal (planned_command (due client.now.client)) }
 {
     match client.due() {
-        Some(Command::GoTo(place)) => Some(*place),
-        Some(Command::PtMeas(place, _)) => Some(*place),
-        _ => None,
-    }
-}
-
-fn normal_of(client: &Client) -> Option<Dir>
-    ensures { result ≡ command_normal (planned_command (due client.now.client)) }
-{
-    match client.due() {
-        Some(Command::PtMeas(_, normal)) => *normal,
-        _ => None,
+        Some(Command::GoTo(place)) => (Some(*place), None),
+        Some(Command::PtMeas(place, normal)) => (Some(*place), *normal),
+        _ => (None, None),
     }
 }
 
@@ -98,41 +90,6 @@ pub(crate) fn components(normal: Dir) -> (i64, i64, i64)
     )
 }
 
-/// What this client sends and measures next.
-fn shown(client: &Client) -> Next
-    ensures command { result.command
-        ≡ command_number (planned_command (due client.now.client)) }
-    ensures feature { result.feature ≡ next_feature client.now.client }
-    ensures place { IfSome (command_place (planned_command (due client.now.client))) (λ at.
-        (result.x ≡ at.x) × (result.y ≡ at.y) × (result.z ≡ at.z)) }
-    ensures normal { IfSome (command_normal (planned_command (due client.now.client))) (λ at.
-        (result.i ≡ at.i) × (result.j ≡ at.j) × (result.k ≡ at.k)) }
-    ensures no_place { command_place (planned_command (due client.now.client)) ≡ None
-        → AreZero result.x result.y result.z }
-    ensures no_normal { command_normal (planned_command (due client.now.client)) ≡ None
-        → AreZero result.i result.j result.k }
-{
-    let command = command_of(client);
-    let (x, y, z) = match place_of(client) {
-        Some(at) => (at.x.get(), at.y.get(), at.z.get()),
-        None => (0, 0, 0),
-    };
-    let (i, j, k) = match normal_of(client) {
-        Some(at) => components(at),
-        None => (0, 0, 0),
-    };
-    Next {
-        command,
-        feature: feature_of(client),
-        x,
-        y,
-        z,
-        i,
-        j,
-        k,
-    }
-}
-
 /// What the client sends and measures next. Nothing changes.
 #[unsafe(no_mangle)]
 pub extern "C" fn dme_client_next(client: &mut ClientHandle, alloc: Global) -> Next
@@ -155,7 +112,26 @@ pub extern "C" fn dme_client_next(client: &mut ClientHandle, alloc: Global) -> N
         → AreZero result.i result.j result.k) }
 {
     let core = client.take(alloc);
-    let next = shown(&core);
+    let command = command_of(&core);
+    let feature = feature_of(&core);
+    let (place, normal) = target_of(&core);
+    let (x, y, z) = match place {
+        Some(at) => (at.x.get(), at.y.get(), at.z.get()),
+        None => (0, 0, 0),
+    };
+    let (i, j, k) = match normal {
+        Some(at) => components(at),
+        None => (0, 0, 0),
+    };
     client.put(core);
-    next
+    Next {
+        command,
+        feature,
+        x,
+        y,
+        z,
+        i,
+        j,
+        k,
+    }
 }

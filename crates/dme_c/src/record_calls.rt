@@ -8,7 +8,6 @@ ghost use Rattle.dme_c.specs.Recordings.{CalledBoth, Connects, Follows, Resumes,
 use crate::client_handles::ClientHandle;
 use crate::codes::call_number;
 use crate::record_handles::RecordHandle;
-use crate::room::copy_front;
 use std::alloc::Global;
 
 /// Drops the record.
@@ -89,8 +88,7 @@ pub extern "C" fn dme_record_take(kept: &mut RecordHandle, alloc: Global, room: 
         (λ old new count. Takes room.old room.new count old new) }
 {
     let mut recording = kept.take(alloc);
-    let count = copy_front(recording.waiting(), room);
-    recording.taken(count);
+    let count = recording.take(room);
     kept.put(recording);
     count
 }

@@ -10,7 +10,7 @@ ghost use Rattle.client_core.specs.Clients.{is_window};
 ghost use Rattle.dme_c.specs.Beginning.{Asks, IsBadPart, IsBegun, IsLabel, IsNoWindow, IsNumberOf, IsOfRecord, IsWhyNot};
 ghost use Rattle.dme_c.specs.Beginning.{RefusesRecord, label_in, line_in, not_begun_number, part_of};
 ghost use Rattle.dme_c.specs.Continuing.{ContinuesBytes, IsDue, IsDueFor, IsOfTexts, RefusesBytes};
-ghost use Rattle.dme_c.specs.Making.{AnswersJust, IsBadSetup, IsBadProgram, Means};
+ghost use Rattle.dme_c.specs.Making.{AnswersJust, IsBadSetup, IsBadProgram};
 ghost use Rattle.dme_c.specs.Recordings.{next_number};
 ghost use Rattle.record_text.specs.Beginnings.{BeginsWith};
 ghost use Rattle.record_text.specs.declared.opening.RecordRefusal.TheVariants as refusal;
@@ -56,27 +56,9 @@ impl From<AllocError> for NotBegun {
 /// A client with its record, and how many bytes of the record the caller's file has.
 #[derive(Drop)]
 pub(crate) struct Begun {
-    pub client: Client,
-    pub recording: Recording,
+    pub client: Box<Client>,
+    pub recording: Box<Recording>,
     pub held: usize,
-}
-
-fn program_of_texts(alloc: Global, setup: &[u8], program: &[u8]) -> Result<Program, NotBegun>
-    ensures read { IfOk result (Means setup.now program.now) }
-    ensures refused { (part : List ℕ) (window : ℕ)
-        → IfErr result (IsWhyNot setup.now program.now part window) }
-    ensures texts { IfErr result IsOfTexts }
-{
-    let setup = match setup_read(alloc, setup) {
-        Ok(setup) => setup,
-        Err(NotMade::Memory) => return Err(NotBegun::Memory),
-        Err(_) => return Err(NotBegun::BadSetup),
-    };
-    match program_read(alloc, setup.frames(), program) {
-        Ok(program) => Ok(program),
-        Err(NotMade::Memory) => Err(NotBegun::Memory),
-        Err(_) => Err(NotBegun::BadProgram),
-    }
 }
 
 /// The part that a text names; none if it is empty.
@@ -84,12 +66,6 @@ fn part_in(text: &[u8]) -> Option<&[u8]>
     ensures { option_map (λ p. p.now) result ≡ part_of text.now }
 {
     if text.is_empty() { None } else { Some(text) }
-}
-
-fn may_be(text: &[u8]) -> bool
-    ensures { IsTrue result ↔ IsPartGiven (part_of text.now) }
-{
-    text.is_empty() || is_part(text)
 }
 
 /// The program of the texts, if nothing but the record may be refused.
@@ -105,11 +81,17 @@ fn asked(
     ensures refused { IfErr result (IsWhyNot setup.now program.now part.now window) }
     ensures texts { IfErr result IsOfTexts }
 {
-    let program = match program_of_texts(alloc, setup, program) {
-        Ok(program) => program,
-        Err(why) => return Err(why),
+    let setup = match setup_read(alloc, setup) {
+        Ok(setup) => setup,
+        Err(NotMade::Memory) => return Err(NotBegun::Memory),
+        Err(_) => return Err(NotBegun::BadSetup),
     };
-    if !may_be(part) {
+    let program = match program_read(alloc, setup.frames(), program) {
+        Ok(program) => program,
+        Err(NotMade::Memory) => return Err(NotBegun::Memory),
+        Err(_) => return Err(NotBegun::BadProgram),
+    };
+    if !part.is_empty() && !is_part(part) {
         return Err(NotBegun::BadPart);
     }
     if window < 1 || window > 16 {
@@ -184,10 +166,10 @@ fn begun_of(
 ) -> Result<Begun, NotBegun>
     requires window { is_window window ≡ true }
     ensures begun { (setup text : List ℕ) → Asks setup text part.now program → IfOk result (λ b.
-        IsBegun setup text part.now window b.held b.client b.recording) }
+        IsBegun setup text part.now window b.held b.client.value b.recording.value) }
     ensures continues { (setup text : List ℕ) → Asks setup text part.now program
-        → IfOk result (λ b. ContinuesBytes setup text part.now bytes.now window b.held b.client
-        b.recording) }
+        → IfOk result (λ b. ContinuesBytes setup text part.now bytes.now window b.held b.client.value
+        b.recording.value) }
     ensures refused { IfErr result IsOfRecord }
     ensures due { IfErr result (IsDueFor (part_of part.now) program.features bytes.now) }
 {
@@ -201,6 +183,12 @@ fn begun_of(
     let last = begun.connection.saturating_sub(1);
     let recording = Recording::new(last, begun.features.list().len(), waiting);
     let client = continued(alloc, program, begun.features, &begun.told, window);
+    let Ok(client) = Box::new(alloc, client) else {
+        return Err(NotBegun::Memory);
+    };
+    let Ok(recording) = Box::new(alloc, recording) else {
+        return Err(NotBegun::Memory);
+    };
     Ok(Begun {
         client,
         recording,
@@ -218,9 +206,9 @@ fn begun_read(
     window: u8,
 ) -> Result<Begun, NotBegun>
     ensures begun { IfOk result (λ b.
-        IsBegun setup.now program.now part.now window b.held b.client b.recording) }
+        IsBegun setup.now program.now part.now window b.held b.client.value b.recording.value) }
     ensures continues { IfOk result (λ b. ContinuesBytes setup.now program.now part.now bytes.now
-        window b.held b.client b.recording) }
+        window b.held b.client.value b.recording.value) }
     ensures refused { IfErr result (IsWhyNot setup.now program.now part.now window) }
     ensures due { IfErr result (IsDue setup.now program.now part.now bytes.now) }
 {
@@ -299,35 +287,6 @@ fn refused(why: NotBegun, room: &mut [u8]) -> Started
     }
 }
 
-/// A client and its record, boxed.
-fn begun_boxed(
-    alloc: Global,
-    setup: &[u8],
-    program: &[u8],
-    part: &[u8],
-    bytes: &[u8],
-    window: u8,
-) -> Result<(Box<Client>, Box<Recording>, usize), NotBegun>
-    ensures begun { IfOk result (λ b.
-        IsBegun setup.now program.now part.now window b.2 b.0.value b.1.value) }
-    ensures continues { IfOk result (λ b. ContinuesBytes setup.now program.now part.now bytes.now
-        window b.2 b.0.value b.1.value) }
-    ensures refused { IfErr result (IsWhyNot setup.now program.now part.now window) }
-    ensures due { IfErr result (IsDue setup.now program.now part.now bytes.now) }
-{
-    let begun = match begun_read(alloc, setup, program, part, bytes, window) {
-        Ok(begun) => begun,
-        Err(why) => return Err(why),
-    };
-    let Ok(client) = Box::new(alloc, begun.client) else {
-        return Err(NotBegun::Memory);
-    };
-    let Ok(recording) = Box::new(alloc, begun.recording) else {
-        return Err(NotBegun::Memory);
-    };
-    Ok((client, recording, begun.held))
-}
-
 /// Makes a client that continues the record of a run, and its record, of the texts of a setup and a program, the name of the part (none if
 /// it is empty) and the bytes of the record. If it answers a number other than 0, neither is held.
 #[unsafe(no_mangle)]
@@ -377,16 +336,16 @@ pub extern "C" fn dme_record_begin(
     ensures long { length room.old < result.label → room.new ≡ room.old }
     ensures number { IsNumberOf result.number }
 {
-    match begun_boxed(alloc, setup, program, part, bytes, window) {
-        Ok((core, recording, held)) => {
-            let connection = recording.next_connection();
-            client.put(core);
-            kept.put(recording);
+    match begun_read(alloc, setup, program, part, bytes, window) {
+        Ok(begun) => {
+            let connection = begun.recording.next_connection();
+            client.put(begun.client);
+            kept.put(begun.recording);
             Started {
                 number: 0,
                 line: 0,
                 connection,
-                held,
+                held: begun.held,
                 label: 0,
             }
         }

@@ -1,13 +1,14 @@
 // The record of a run, in memory: what of it has its lines, and the lines that a caller has not taken yet.
 
-ghost use Rattle.std.specs.Prelude.{◌≡◌, ◌⊎◌, ◌≤◌, ◌++◌, true, drop, length, OnOk, OnErr, IfErr};
+ghost use Rattle.std.specs.Prelude.{◌≡◌, ◌⊎◌, ◌++◌, true, OnOk, OnErr, IfErr};
 ghost use Rattle.fixed_um.specs.Calls.{Leads};
 ghost use Rattle.protocol_model.specs.Client.{may_resume};
 ghost use Rattle.protocol_model.specs.Ends.{end_connected, end_resumed};
 ghost use Rattle.client_core.specs.Clients.{may_connect};
 ghost use Rattle.client_core.specs.Refusals.{IsRefused};
-ghost use Rattle.dme_c.specs.Recordings.{IsKept, connected, followed, next_number, resumed};
+ghost use Rattle.dme_c.specs.Recordings.{IsKept, Takes, connected, followed, next_number, resumed};
 
+use crate::room::copy_front;
 use client_core::{Client, ClientFault};
 use line_framing::ByteQueue;
 use record_text::Telling;
@@ -72,16 +73,10 @@ impl Recording {
         let acts = client.counted();
         let from = self.told.min(acts.len());
         let (_, untold) = acts.split_at(from);
-        let told = self
-            .telling
-            .tell(self.waiting.as_mut_vec(), client.program(), untold);
-        match told {
-            Ok(()) => {
-                self.told = acts.len();
-                Ok(())
-            }
-            Err(_) => Err(ClientFault::Memory),
-        }
+        self.telling
+            .tell(self.waiting.as_mut_vec(), client.program(), untold)?;
+        self.told = acts.len();
+        Ok(())
     }
 
     /// A plan begins on the connection of this number, with this many features.
@@ -130,18 +125,12 @@ impl Recording {
         Ok(())
     }
 
-    /// The bytes that were not taken yet.
-    pub(crate) fn waiting(&self) -> &[u8]
-        ensures { result.now ≡ self.now.waiting }
+    /// Copies a prefix of the bytes that wait into the room, as much as fits, and answers how many; they then wait no more.
+    pub(crate) fn take(&mut self, room: &mut [u8]) -> usize
+        ensures { Takes room.old room.new result self.old self.new }
     {
-        self.waiting.waiting()
-    }
-
-    /// The first bytes were taken.
-    pub(crate) fn taken(&mut self, count: usize)
-        requires { count ≤ length self.old.waiting }
-        ensures { self.new ≡ record (self.old) { waiting = drop count self.old.waiting } }
-    {
+        let count = copy_front(self.waiting.waiting(), room);
         self.waiting.take(count);
+        count
     }
 }

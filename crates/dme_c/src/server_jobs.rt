@@ -37,54 +37,14 @@ fn number_of(server: &Server) -> u32
     }
 }
 
-fn place_of(server: &Server) -> Option<Point>
-    ensures { result ≡ job_place (running_job server.now.end.server) }
+fn target_of(server: &Server) -> (Option<Point>, Option<Dir>)
+    ensures place { result.0 ≡ job_place (running_job server.now.end.server) }
+    ensures normal { result.1 ≡ job_normal (running_job server.now.end.server) }
 {
     match server.running() {
-        Some(Job::Move(place)) => Some(*place),
-        Some(Job::Touch(place, _)) => Some(*place),
-        _ => None,
-    }
-}
-
-fn normal_of(server: &Server) -> Option<Dir>
-    ensures { result ≡ job_normal (running_job server.now.end.server) }
-{
-    match server.running() {
-        Some(Job::Touch(_, normal)) => *normal,
-        _ => None,
-    }
-}
-
-/// What runs on the machine of this server.
-fn shown(server: &Server) -> Running
-    ensures number { result.number ≡ job_number (running_job server.now.end.server) }
-    ensures place { IfSome (job_place (running_job server.now.end.server)) (λ at.
-        (result.x ≡ at.x) × (result.y ≡ at.y) × (result.z ≡ at.z)) }
-    ensures normal { IfSome (job_normal (running_job server.now.end.server)) (λ at.
-        (result.i ≡ at.i) × (result.j ≡ at.j) × (result.k ≡ at.k)) }
-    ensures no_place { job_place (running_job server.now.end.server) ≡ None
-        → AreZero result.x result.y result.z }
-    ensures no_normal { job_normal (running_job server.now.end.server) ≡ None
-        → AreZero result.i result.j result.k }
-{
-    let number = number_of(server);
-    let (x, y, z) = match place_of(server) {
-        Some(at) => (at.x.get(), at.y.get(), at.z.get()),
-        None => (0, 0, 0),
-    };
-    let (i, j, k) = match normal_of(server) {
-        Some(at) => components(at),
-        None => (0, 0, 0),
-    };
-    Running {
-        number,
-        x,
-        y,
-        z,
-        i,
-        j,
-        k,
+        Some(Job::Move(place)) => (Some(*place), None),
+        Some(Job::Touch(place, normal)) => (Some(*place), *normal),
+        _ => (None, None),
     }
 }
 
@@ -105,9 +65,26 @@ pub extern "C" fn dme_server_job(server: &mut ServerHandle, alloc: Global) -> Ru
         job_normal (running_job s.end.server) ≡ None → AreZero result.i result.j result.k) }
 {
     let core = server.take(alloc);
-    let running = shown(&core);
+    let number = number_of(&core);
+    let (place, normal) = target_of(&core);
+    let (x, y, z) = match place {
+        Some(at) => (at.x.get(), at.y.get(), at.z.get()),
+        None => (0, 0, 0),
+    };
+    let (i, j, k) = match normal {
+        Some(at) => components(at),
+        None => (0, 0, 0),
+    };
     server.put(core);
-    running
+    Running {
+        number,
+        x,
+        y,
+        z,
+        i,
+        j,
+        k,
+    }
 }
 
 /// The name of the tool that is changed to; empty if no tool change runs.

@@ -44,24 +44,13 @@ pub(crate) struct Place<'a> {
 }
 
 /// Whether the closing parenthesis is all that is left, with spaces next to it or without.
-#[inline(never)]
-fn is_closed_with_spaces(bytes: &[u8]) -> bool
-    ensures { IsTrue result ↔ (tokens bytes.now ≡ Close ∷ []) }
-{
-    match take_mark(bytes, b')') {
-        Some(rest) => is_end(rest),
-        None => false,
-    }
-}
-
-/// Whether the closing parenthesis is all that is left.
 #[inline(always)]
 pub(crate) fn is_closed(bytes: &[u8]) -> bool
     ensures { IsTrue result ↔ (tokens bytes.now ≡ Close ∷ []) }
 {
     match bytes {
         [b')'] => true,
-        _ => is_closed_with_spaces(bytes),
+        _ => take_mark(bytes, b')').is_some_and(is_end),
     }
 }
 
@@ -109,10 +98,7 @@ pub(crate) fn read_place(bytes: &[u8]) -> Option<Place<'_>>
 pub(crate) fn is_empty_list(bytes: &[u8]) -> bool
     ensures { IsTrue result ↔ (tokens bytes.now ≡ enclosed []) }
 {
-    match take_mark(bytes, b'(') {
-        Some(rest) => is_closed(rest),
-        None => false,
-    }
+    take_mark(bytes, b'(').is_some_and(is_closed)
 }
 
 pub(crate) fn read_word(bytes: &[u8]) -> Option<&[u8]>
@@ -121,10 +107,7 @@ pub(crate) fn read_word(bytes: &[u8]) -> Option<&[u8]>
         (λ word. IsOneWord (tokens bytes.now) word.now) }
 {
     let (word, rest) = take_word(take_mark(bytes, b'(')?)?;
-    if !is_closed(rest) {
-        return None;
-    }
-    Some(word)
+    is_closed(rest).then_some(word)
 }
 
 /// The words of a transformation.

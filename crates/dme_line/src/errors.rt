@@ -133,10 +133,7 @@ fn error_name(kind: Option<Kind>) -> &'static [u8]
     ensures name { result.now ≡ error_name kind }
     ensures short { length result.now ≤ 20 }
 {
-    match kind {
-        Some(kind) => kind.name(),
-        None => b"",
-    }
+    kind.map_or(b"", Kind::name)
 }
 
 fn write_quoted_next_reserved(out: &mut Vec<u8>, text: &[u8])

@@ -19,7 +19,7 @@ impl<'a> Argument<'a> {
         ensures { option_copied result ≡ single_of name.now (the_argument self.now) }
     {
         match *self {
-            Argument::Single(own, word) => { if is_word(name, own) { Some(word) } else { None } }
+            Argument::Single(own, word) => is_word(name, own).then_some(word),
             Argument::Triple(_, _, _, _) => None,
         }
     }
@@ -30,13 +30,7 @@ impl<'a> Argument<'a> {
     {
         match *self {
             Argument::Single(_, _) => None,
-            Argument::Triple(own, i, j, k) => {
-                if is_word(name, own) {
-                    Some((i, j, k))
-                } else {
-                    None
-                }
-            }
+            Argument::Triple(own, i, j, k) => is_word(name, own).then_some((i, j, k)),
         }
     }
 }
@@ -46,10 +40,7 @@ impl<'a> Place<'a> {
     fn single(&self, name: &[u8]) -> Option<&'a [u8]>
         ensures { option_copied result ≡ single_named name.now (the_list self.now) }
     {
-        let fourth = match self.fourth {
-            Some(argument) => argument.single(name),
-            None => None,
-        };
+        let fourth = self.fourth.and_then(|argument| argument.single(name));
         self.first.single(name).or(
             self.second
                 .single(name)
@@ -61,10 +52,7 @@ impl<'a> Place<'a> {
     fn triple(&self, name: &[u8]) -> Option<(&'a [u8], &'a [u8], &'a [u8])>
         ensures { option_map the_words result ≡ triple_named name.now (the_list self.now) }
     {
-        let fourth = match self.fourth {
-            Some(argument) => argument.triple(name),
-            None => None,
-        };
+        let fourth = self.fourth.and_then(|argument| argument.triple(name));
         self.first.triple(name).or(
             self.second
                 .triple(name)

@@ -37,10 +37,7 @@ fn cut_numbered_tag(line: &[u8]) -> Option<(Tag, &[u8])>
         (λ p. IsTagged line.now p.0 p.1.now) }
 {
     let (tag, text) = cut_tag(line)?;
-    if !tag.is_numbered() {
-        return None;
-    }
-    Some((tag, text))
+    tag.is_numbered().then_some((tag, text))
 }
 
 fn name_len(text: &[u8]) -> usize

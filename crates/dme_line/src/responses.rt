@@ -238,13 +238,9 @@ fn cut_mark(text: &[u8]) -> Option<MarkSlice<'_>>
 pub fn cut_response(line: &[u8]) -> Result<ResponseSlice<'_>, NotResponse>
     ensures { ReadsResponse line.now (the_reading result) }
 {
-    let Some((tag, text)) = cut_tag(line) else {
-        return Err(NotResponse);
-    };
-    match cut_mark(text) {
-        Some(mark) => Ok(ResponseSlice { tag, mark }),
-        None => Err(NotResponse),
-    }
+    let (tag, text) = cut_tag(line).ok_or(NotResponse)?;
+    let mark = cut_mark(text).ok_or(NotResponse)?;
+    Ok(ResponseSlice { tag, mark })
 }
 
 /// A mark with a text of its own. Fails only if out of memory.

@@ -38,10 +38,7 @@ pub(crate) fn read_report(bytes: &[u8]) -> Option<()>
     let rest = take_empty_axis(take_mark(bytes, b'(')?, b"X")?;
     let rest = take_empty_axis(take_mark(rest, b',')?, b"Y")?;
     let rest = take_empty_axis(take_mark(rest, b',')?, b"Z")?;
-    if !is_closed(rest) {
-        return None;
-    }
-    Some(())
+    is_closed(rest).then_some(())
 }
 
 /// A coordinate system by its name.
@@ -103,8 +100,5 @@ pub(crate) fn read_zero_point(bytes: &[u8]) -> Option<Point>
 {
     let words = read_transformation(bytes)?;
     let lengths = words.lengths()?;
-    if !is_word(b"PartCsy", words.system) || !words.is_straight() {
-        return None;
-    }
-    Some(lengths)
+    (is_word(b"PartCsy", words.system) && words.is_straight()).then_some(lengths)
 }

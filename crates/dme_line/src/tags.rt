@@ -107,10 +107,7 @@ impl Tag {
     pub(crate) fn is_event(self) -> bool
         ensures { result ≡ is_event_tag self }
     {
-        match self {
-            Tag::Std(_) => false,
-            Tag::Event(_) => true,
-        }
+        matches!(self, Tag::Event(_))
     }
 
     /// Whether a command can have this tag: its number is not 0.
