@@ -1,5 +1,6 @@
 -- What the page of a record's part leaves (this profile).
-use Rattle.std.specs.Prelude.{◌⊎◌, ◌==◌, ℕ, List, codes, Option, Some, None, unwrap_or, Result}
+use Rattle.std.specs.Prelude.{◌⊎◌, ◌==◌, ℕ, List, codes, Option, Some, None, unwrap_or, Result, if◌then◌else◌}
+use Rattle.std.specs.Str.{bytes_eq}
 use Rattle.std.specs.List.{AllZip, flat_map}
 use Rattle.contact_ledger.specs.declared.acts.Act.{Act}
 use Rattle.contact_ledger.specs.declared.features.Feature.{Feature}
@@ -23,6 +24,10 @@ use Rattle.order_parts.specs.declared.faults.FilesFault.{FilesFault}
 abbrev pub part_in : Option Recorded → List ℕ
 part_in None = codes "(not named)"
 part_in (Some held) = unwrap_or held.part (codes "(not named)")
+
+-- how it names a program: `-` is standard input
+abbrev pub shown_name : List ℕ → List ℕ
+shown_name name = if bytes_eq name (codes "-") then codes "standard input" else name
 
 -- what a page says besides its points, of a part, the name of its program, the lines of the server's errors, and the status and the line of
 -- the audit
@@ -48,7 +53,7 @@ pub record IsPageOf (part name errors : List ℕ) (limits : Option (List Limit))
 -- the record is of the program, this is the page of its part, and these features are missing
 pub record LeavesPage (name : List ℕ) (read : Limited RecordInput) (missing : Missing) (text : List ℕ) : Type 0 where
   pub same : IsOfProgram read.input.held read.input.program
-  pub is : IsPageOf (part_in read.input.held) name (flat_map error_line (errors_in read.input.held)) read.limits read.input.program
+  pub is : IsPageOf (part_in read.input.held) (shown_name name) (flat_map error_line (errors_in read.input.held)) read.limits read.input.program
       (features_in read.input.held) (told_in read.input.held) text
   pub lacks : IsMissing read.input.program.features (features_in read.input.held) missing
 

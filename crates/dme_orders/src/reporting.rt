@@ -8,7 +8,7 @@ ghost use Rattle.dme_orders.specs.Input.{named};
 ghost use Rattle.dme_orders.specs.Missing.{IsMissing};
 ghost use Rattle.dme_orders.specs.Orders.{went};
 ghost use Rattle.dme_orders.specs.Reading.{came};
-ghost use Rattle.dme_orders.specs.Reporting.{facts_of, part_in, IsPageOf, ReportsRecord};
+ghost use Rattle.dme_orders.specs.Reporting.{facts_of, part_in, shown_name, IsPageOf, ReportsRecord};
 ghost use Rattle.dme_orders.specs.RunErrors.{errors_in, error_line};
 
 use crate::auditing::verdict_line;
@@ -35,6 +35,13 @@ fn part_of(held: &Option<Record>) -> &[u8]
         Some(held) => held.part().unwrap_or(NOT_NAMED),
         None => NOT_NAMED,
     }
+}
+
+/// How a page names a program.
+fn shown_name(name: &str) -> &str
+    ensures { result.now ≡ shown_name name.now }
+{
+    if name == "-" { "standard input" } else { name }
 }
 
 /// What a page has of a record besides its points: its part, and the lines of the errors that its server reported.
@@ -117,7 +124,7 @@ fn page_of(
 
 /// Reads limits if they are named, then a setup if one is named, then a record, then a program under the setup's frames, each to the end of
 /// its text and understood before the next is read; and writes the page of the record's part. The answer is which features of the program
-/// are missing. A record of another program is `OtherProgram`.
+/// are missing. A record of another program is `OtherProgram`. The program's name is that on the command line: `-` is standard input.
 ///
 /// It writes only once the whole page is there. A file is blamed only for its own first refusal, or because it could not be read.
 pub fn report_record<L: Source, S: Source, J: Source, R: Source, W: Sink>(
@@ -139,7 +146,7 @@ pub fn report_record<L: Source, S: Source, J: Source, R: Source, W: Sink>(
     let (features, ledger) = parts_of(alloc, held);
     let (missing, text) = page_of(
         alloc,
-        name,
+        shown_name(name),
         &texts,
         &ranges,
         &program,

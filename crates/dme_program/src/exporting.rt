@@ -93,11 +93,6 @@ pub fn export_of_record(rt: HostRuntime, order: RecordExport) -> u8 {
     export_end(rt, exported, files, order.explain)
 }
 
-/// How a page names a file.
-fn shown_name(name: &str) -> &str {
-    if name == "-" { "standard input" } else { name }
-}
-
 /// The order `report`: its exit status.
 #[inline(never)]
 pub fn report_of_record(rt: HostRuntime, order: PartReport) -> Result<u8, AllocError> {
@@ -110,7 +105,7 @@ pub fn report_of_record(rt: HostRuntime, order: PartReport) -> Result<u8, AllocE
     };
     let mut limits = sources.maybe(order.limits);
     let mut sink = Writing::new(io::writer(&rt));
-    let name = shown_name(name.as_str());
+    let name = name.as_str();
     let reported = report_record(rt.alloc(), name, &mut limits, &mut sought, &mut sink);
     let files = InputFiles {
         limits: file_of(rt, limits),
