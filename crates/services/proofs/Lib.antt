@@ -1,3 +1,5 @@
+pub mod Courses
 pub mod Keeping
+pub mod Relayed
 pub mod Served
 pub mod Working

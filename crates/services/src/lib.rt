@@ -6,7 +6,7 @@
 //! - `contacts`: its contacts file
 //! - `relaying`: the session of `watch`; `relay_stages`: where it is; `relays`: what it is to do; `relay_files`: its files; `relay_turns`: its
 //!   turns; `relay_ends`: the end of a connection; `recordings`: the files of its bytes
-//! - `running`: the session with hands that carry its effects out; `laws`: what its server was given
+//! - `running`: the session with hands that carry its effects out; `laws`: what its server was given; `relay_laws`: what relays keep
 #![tactic(auto)]
 
 mod closing;
@@ -16,6 +16,7 @@ mod preparing;
 mod recordings;
 mod relay_ends;
 mod relay_files;
+pub mod relay_laws;
 mod relay_stages;
 mod relay_turns;
 mod relaying;

@@ -39,6 +39,18 @@ impl Recording {
     }
 }
 
+/// That of a connection, if a folder is named.
+pub fn recording_in(
+    alloc: Global,
+    folder: Option<&str>,
+    number: u64,
+) -> Result<Option<Recording>, AllocError> {
+    match folder {
+        Some(folder) => Ok(Some(Recording::new(alloc, folder, number)?)),
+        None => Ok(None),
+    }
+}
+
 /// The file that is made after that many of a recording.
 pub fn slot_after(made: u8) -> Slot {
     match made {

@@ -1,6 +1,9 @@
 // The end of a relayed connection.
 
-use crate::recordings::slot_after;
+ghost use Rattle.std.specs.Prelude.{◌≡◌, ◌⊎◌, true};
+ghost use Rattle.effects.specs.Effects.{the_reply, Done, Reply};
+ghost use Rattle.services.specs.Relays as spec;
+
 use crate::relay_stages::RelayStage as Stage;
 use crate::relaying::{Ended, RelaySession};
 use effects::{Answer, Cause};
@@ -10,8 +13,10 @@ use std::alloc::AllocError;
 
 impl RelaySession {
     /// The connection is no longer relayed: what is kept of it is forced to the device, and it is left.
-    pub(crate) fn finish(&mut self, ended: Ended) {
-        self.ended = ended;
+    pub(crate) fn finish(&mut self)
+        ensures turns { spec.Turns self.old self.new }
+        ensures off { spec.is_off (spec.phase self.new) ≡ true }
+    {
         self.stage = if self.is_told {
             Stage::Forcing
         } else {
@@ -19,8 +24,21 @@ impl RelaySession {
         };
     }
 
+    /// Likewise if it could not be relayed to its end.
+    pub(crate) fn fail(&mut self, ended: Ended)
+        ensures turns { spec.Turns (spec.failing self.old) self.new }
+        ensures off { spec.is_off (spec.phase self.new) ≡ true }
+    {
+        self.ended = ended;
+        self.status = 1;
+        self.finish();
+    }
+
     /// What comes after the told file was forced.
-    fn after_forcing(&mut self) -> Stage {
+    fn after_forcing(&mut self) -> Stage
+        ensures next { (result ≡ Stage.Settling) ⊎ (result ≡ Stage.Leaving) }
+        ensures same { self.new ≡ self.old }
+    {
         match &mut self.recording {
             Some(recording) => {
                 recording.made = 0;
@@ -30,7 +48,11 @@ impl RelaySession {
         }
     }
 
-    pub(crate) fn end_on(&mut self, answer: Answer<'_>) -> Result<(), AllocError> {
+    #[tactic(auto, using(crate::proofs::Relayed::rest_steps, crate::proofs::Relayed::forced_steps, crate::proofs::Relayed::forced_stops))]
+    pub(crate) fn end_on(&mut self, answer: Answer<'_>) -> Result<(), AllocError>
+        requires { spec.is_ending self.old.stage ≡ true }
+        ensures { spec.Takes result self.old (the_reply answer.entry) self.new }
+    {
         match (self.stage, answer) {
             (Stage::Forcing, Answer::Done) => self.stage = self.after_forcing(),
             (Stage::Forcing, _) => {
@@ -45,7 +67,11 @@ impl RelaySession {
     }
 
     /// A file of the recording is on the device.
-    fn settled(&mut self) {
+    #[tactic(auto, using(crate::proofs::Relayed::rest_steps))]
+    fn settled(&mut self)
+        requires { self.old.stage ≡ Stage.Settling }
+        ensures { spec.Steps self.old Done self.new }
+    {
         if let Some(recording) = &mut self.recording {
             recording.made = recording.made.saturating_add(1);
             if recording.made < 3 {
@@ -56,13 +82,13 @@ impl RelaySession {
     }
 
     /// A file of the recording could not be forced to the device.
-    fn lose_settling(&mut self) -> Result<(), AllocError> {
-        self.has_failed = true;
-        let made = match &self.recording {
-            Some(recording) => recording.made,
-            None => 0,
-        };
-        let message = self.unwritten(slot_after(made))?;
+    #[tactic(auto, using(crate::proofs::Relayed::rest_fails, crate::proofs::Relayed::quiet_stops))]
+    fn lose_settling(&mut self) -> Result<(), AllocError>
+        requires { self.old.stage ≡ Stage.Settling }
+        ensures { (reply : Reply) → spec.Takes result self.old reply self.new }
+    {
+        self.status = 1;
+        let message = self.unmade()?;
         self.recording = None;
         self.say(message, Stage::Leaving);
         Ok(())
@@ -94,10 +120,13 @@ impl RelaySession {
     }
 
     /// The connection was left: what broke it off is said, and whether it counts.
-    fn left(&mut self) -> Result<(), AllocError> {
+    #[tactic(auto, using(crate::proofs::Relayed::left_steps, crate::proofs::Relayed::quiet_stops))]
+    fn left(&mut self) -> Result<(), AllocError>
+        requires { self.old.stage ≡ Stage.Leaving }
+        ensures { (reply : Reply) → spec.Takes result self.old reply self.new }
+    {
         let fault = self.fault()?;
         let number = self.number;
-        self.has_failed = self.has_failed || !fault.is_empty();
         let message = if self.is_bare {
             format!(in self.alloc; "{fault}dme: connection {number} sent no whole line\n")?
         } else {
@@ -105,7 +134,6 @@ impl RelaySession {
             fault
         };
         let next = if self.left == 0 {
-            self.status = if self.has_failed { 1 } else { 0 };
             Stage::Exiting
         } else {
             Stage::Accepting

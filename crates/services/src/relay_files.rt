@@ -1,6 +1,10 @@
 // The files of a relay.
 
-use crate::recordings::{Recording, hold_recording, slot_after};
+ghost use Rattle.std.specs.Prelude.{◌≡◌, ◌⊎◌, true, OnOk, OnErr};
+ghost use Rattle.effects.specs.Effects.{the_reply, Reply};
+ghost use Rattle.services.specs.Relays as spec;
+
+use crate::recordings::{hold_recording, recording_in, slot_after};
 use crate::relay_stages::RelayStage as Stage;
 use crate::relaying::RelaySession;
 use effects::{Answer, Peer, Slot};
@@ -19,39 +23,41 @@ fn side_of(peer: Peer) -> Side {
 
 impl RelaySession {
     /// A message ends the relay before its first connection, and all files are as they were.
-    fn refuse(&mut self, message: String) {
+    fn refuse(&mut self, message: String)
+        ensures { self.new ≡ spec.refusing self.old }
+    {
         self.said = message;
         self.status = 1;
         self.stage = Stage::Discarding;
     }
 
     /// The told file cannot be written.
-    fn refuse_told(&mut self) -> Result<(), AllocError> {
+    fn refuse_told(&mut self) -> Result<(), AllocError>
+        ensures ok { OnOk result (self.new ≡ spec.refusing self.old) }
+        ensures err { OnErr result (self.new ≡ self.old) }
+    {
         let name = self.names.name.as_str();
         let message = format!(in self.alloc; "dme: cannot write {name}\n")?;
         self.refuse(message);
         Ok(())
     }
 
-    /// What comes once the port is listened on.
-    fn after_listening(&self) -> Stage {
-        if self.recording.is_some() {
-            Stage::Listing
-        } else {
-            self.after_recording()
-        }
-    }
-
     /// What comes once the files of a recording are made.
-    fn after_recording(&self) -> Stage {
-        match (self.number, self.has_more) {
+    fn after_recording(&mut self)
+        ensures { spec.Opens self.old self.new }
+    {
+        self.stage = match (self.number, self.has_more) {
             (0, true) => Stage::SettingAside,
             (0, false) => Stage::Beginning,
             _ => Stage::Connecting,
-        }
+        };
     }
 
-    pub(crate) fn prepare(&mut self, answer: Answer<'_>) -> Result<(), AllocError> {
+    #[tactic(auto, using(crate::proofs::Relayed::made_steps, crate::proofs::Relayed::refused_steps, crate::proofs::Relayed::opens_steps, crate::proofs::Relayed::opening_steps, crate::proofs::Relayed::quiet_stops))]
+    pub(crate) fn prepare(&mut self, answer: Answer<'_>) -> Result<(), AllocError>
+        requires { spec.is_preparing self.old.stage ≡ true }
+        ensures { spec.Takes result self.old (the_reply answer.entry) self.new }
+    {
         match (self.stage, answer) {
             (Stage::Making, Answer::Done) => self.stage = Stage::Listening,
             (Stage::Making, Answer::Found) => {
@@ -59,8 +65,11 @@ impl RelaySession {
                 self.stage = Stage::Listening;
             }
             (Stage::Making, Answer::Short) => return Err(AllocError),
-            (Stage::Making, _) => return self.refuse_told(),
-            (Stage::Listening, Answer::Done) => self.stage = self.after_listening(),
+            (Stage::Making, _) => self.refuse_told()?,
+            (Stage::Listening, Answer::Done) if self.recording.is_some() => {
+                self.stage = Stage::Listing;
+            }
+            (Stage::Listening, Answer::Done) => self.after_recording(),
             (Stage::Listening, _) => {
                 let why = why_unconnected(cause_of(answer));
                 let message = format!(in self.alloc; "dme: connection failed\n{why}")?;
@@ -74,14 +83,17 @@ impl RelaySession {
                 self.refuse(message);
             }
             (Stage::Listing, Answer::Short) => return Err(AllocError),
-            (Stage::Listing, _) => self.stage = Stage::Creating,
-            _ => self.discarded(),
+            _ => self.stage = Stage::Creating,
         }
         Ok(())
     }
 
     /// The told file is as it was: the recording is, too, and then the relay ends.
-    fn discarded(&mut self) {
+    #[tactic(auto, using(crate::proofs::Relayed::closing_steps))]
+    pub(crate) fn discarded(&mut self)
+        requires { self.old.stage ≡ Stage.Discarding }
+        ensures { (reply : Reply) → spec.Steps self.old reply self.new }
+    {
         self.next = Stage::Exiting;
         self.stage = match &self.recording {
             Some(recording) if recording.made > 0 => Stage::Removing,
@@ -89,8 +101,27 @@ impl RelaySession {
         };
     }
 
-    /// The last message of a relay that has not begun.
-    fn last_words(&self) -> Stage {
+    /// A file of a recording is removed.
+    #[tactic(auto, using(crate::proofs::Relayed::closing_steps, crate::proofs::Relayed::due_steps))]
+    pub(crate) fn removed(&mut self)
+        requires { self.old.stage ≡ Stage.Removing }
+        ensures { (reply : Reply) → spec.Steps self.old reply self.new }
+    {
+        if let Some(recording) = &mut self.recording {
+            recording.made = recording.made.saturating_sub(1);
+            if recording.made > 0 {
+                return;
+            }
+        }
+        self.recording = None;
+        self.stage = self.last_words();
+    }
+
+    /// The last message of a relay that has not begun; or that files of a recording could not be made.
+    fn last_words(&self) -> Stage
+        ensures { (result ≡ Stage.Saying)
+            ⊎ ((result ≡ Stage.Parting) × (self.now.end.status ≡ 4)) }
+    {
         if self.status == 4 {
             Stage::Parting
         } else {
@@ -98,7 +129,11 @@ impl RelaySession {
         }
     }
 
-    pub(crate) fn begin(&mut self, answer: Answer<'_>) -> Result<(), AllocError> {
+    #[tactic(auto, using(crate::proofs::Relayed::refused_steps, crate::proofs::Relayed::opening_steps, crate::proofs::Relayed::begins_steps, crate::proofs::Relayed::rest_steps, crate::proofs::Relayed::quiet_stops))]
+    pub(crate) fn begin(&mut self, answer: Answer<'_>) -> Result<(), AllocError>
+        requires { spec.is_beginning self.old.stage ≡ true }
+        ensures { spec.Takes result self.old (the_reply answer.entry) self.new }
+    {
         match (self.stage, answer) {
             (Stage::SettingAside, Answer::Done) => {
                 let (name, old) = (self.names.name.as_str(), self.names.old.as_str());
@@ -117,91 +152,81 @@ impl RelaySession {
                     Stage::Accepting
                 };
             }
-            (Stage::Beginning, _) => return self.refuse_told(),
+            (Stage::Beginning, _) => self.refuse_told()?,
             (_, Answer::Done) => self.stage = Stage::Accepting,
-            _ => return self.lose_log(Stage::Accepting),
+            _ => {
+                let message = self.lose_log()?;
+                self.say(message, Stage::Accepting);
+            }
         }
         Ok(())
     }
 
     /// The log cannot be written, and is left alone.
-    fn lose_log(&mut self, next: Stage) -> Result<(), AllocError> {
+    fn lose_log(&mut self) -> Result<String, AllocError>
+        ensures { self.new ≡ self.old }
+    {
         self.is_logged = false;
         if !self.order.trace {
             self.lines.stop();
         }
         let name = self.order.log.as_deref().unwrap_or("");
-        let message = format!(in self.alloc; "dme: cannot write {name}\n")?;
-        self.say(message, next);
-        Ok(())
+        format!(in self.alloc; "dme: cannot write {name}\n")
     }
 
     /// A file of the recording of the next connection is made, or those that were are removed.
-    pub(crate) fn record(&mut self, answer: Answer<'_>) -> Result<(), AllocError> {
-        let Some(recording) = &mut self.recording else {
-            self.stage = Stage::Connecting;
-            return Ok(());
+    #[tactic(auto, using(crate::proofs::Relayed::opening_steps, crate::proofs::Relayed::opens_steps, crate::proofs::Relayed::quiet_stops))]
+    pub(crate) fn record(&mut self, answer: Answer<'_>) -> Result<(), AllocError>
+        requires { spec.is_creating self.old.stage ≡ true }
+        ensures { spec.Takes result self.old (the_reply answer.entry) self.new }
+    {
+        let Answer::Done = answer else {
+            return self.lose_recording();
         };
-        match (self.stage, answer) {
-            (Stage::Creating, Answer::Done) => {
-                self.stage = if recording.made == 2 {
-                    Stage::Heading
-                } else {
-                    recording.made = recording.made.saturating_add(1);
-                    Stage::Creating
-                };
-            }
-            (Stage::Heading, Answer::Done) => {
-                recording.made = 3;
-                self.stage = self.after_recording();
-            }
-            (Stage::Removing, _) => {
-                recording.made = recording.made.saturating_sub(1);
-                if recording.made == 0 {
-                    self.recording = None;
-                    self.stage = self.last_words();
+        if let Stage::Creating = self.stage {
+            if let Some(recording) = &mut self.recording {
+                recording.made = recording.made.saturating_add(1);
+                if recording.made > 2 {
+                    self.stage = Stage::Heading;
                 }
+                return Ok(());
             }
-            _ => return self.lose_recording(),
         }
+        self.after_recording();
         Ok(())
     }
 
     /// A file of a recording cannot be made: those that were are removed.
-    fn lose_recording(&mut self) -> Result<(), AllocError> {
-        let Some(recording) = &mut self.recording else {
-            return Ok(());
-        };
-        let name = recording.name(slot_after(recording.made));
-        let message = format!(in self.alloc; "dme: cannot write {name}\n")?;
-        if let Stage::Heading = self.stage {
-            recording.made = 3;
-        }
+    #[tactic(auto, using(crate::proofs::Relayed::refused_steps, crate::proofs::Relayed::opening_fails, crate::proofs::Relayed::quiet_stops))]
+    fn lose_recording(&mut self) -> Result<(), AllocError>
+        requires { spec.is_creating self.old.stage ≡ true }
+        ensures { (reply : Reply) → spec.Takes result self.old reply self.new }
+    {
+        let message = self.unmade()?;
         if self.number == 0 {
             self.refuse(message);
             return Ok(());
         }
-        self.has_failed = true;
-        let is_made = recording.made > 0;
+        self.status = 1;
         self.say(message, Stage::Connecting);
-        if is_made {
-            self.stage = Stage::Removing;
-        } else {
-            self.recording = None;
+        match &self.recording {
+            Some(recording) if recording.made > 0 => self.stage = Stage::Removing,
+            _ => self.recording = None,
         }
         Ok(())
     }
 
     /// A recording of the connection of this number is begun, if a folder is named.
-    pub(crate) fn begin_recording(&mut self) -> Result<(), AllocError> {
+    pub(crate) fn begin_recording(&mut self) -> Result<(), AllocError>
+        ensures ok { OnOk result (spec.Turns self.old self.new) }
+        ensures err { OnErr result (self.new ≡ self.old) }
+    {
         if self.number == 1 {
             self.stage = Stage::Connecting;
             return Ok(());
         }
-        self.recording = match &self.order.folder {
-            Some(folder) => Some(Recording::new(self.alloc, folder.as_str(), self.number)?),
-            None => None,
-        };
+        let folder = self.order.folder.as_deref();
+        self.recording = recording_in(self.alloc, folder, self.number)?;
         self.stage = if self.recording.is_some() {
             Stage::Creating
         } else {
@@ -210,45 +235,66 @@ impl RelaySession {
         Ok(())
     }
 
-    /// Lines that have ended are shown, and then the bytes that came are kept, and then this is next.
-    pub(crate) fn show(&mut self, then: Stage) {
-        self.shown = self.lines.take();
-        self.then = then;
-        self.stage = if self.shown.is_empty() {
-            self.after_showing()
-        } else if self.order.trace {
-            Stage::Tracing
-        } else {
-            Stage::Stamping
-        };
-    }
-
-    /// What comes after the lines were shown.
-    fn after_showing(&self) -> Stage {
-        if self.piece.is_empty() {
-            self.then
-        } else {
-            Stage::Saving
+    /// That the next file of the recording cannot be written.
+    pub(crate) fn unmade(&self) -> Result<String, AllocError> {
+        match &self.recording {
+            Some(recording) => self.unwritten(slot_after(recording.made)),
+            None => Ok(String::new(self.alloc)),
         }
     }
 
-    pub(crate) fn show_on(&mut self, answer: Answer<'_>) -> Result<(), AllocError> {
+    /// Lines that have ended are shown, and then the bytes that came are kept.
+    pub(crate) fn show(&mut self)
+        ensures { spec.Turns self.old self.new }
+    {
+        self.shown = self.lines.take();
+        if self.shown.is_empty() {
+            self.after_showing();
+        } else if self.order.trace {
+            self.stage = Stage::Tracing;
+        } else {
+            self.stage = Stage::Stamping;
+        }
+    }
+
+    /// What comes after the lines were shown.
+    fn after_showing(&mut self)
+        ensures { spec.Turns self.old self.new }
+    {
+        if self.piece.is_empty() {
+            self.after(self.from);
+        } else {
+            self.stage = Stage::Saving;
+        }
+    }
+
+    #[tactic(auto, using(crate::proofs::Relayed::stage_steps, crate::proofs::Relayed::turn_steps, crate::proofs::Relayed::quiet_stops))]
+    pub(crate) fn show_on(&mut self, answer: Answer<'_>) -> Result<(), AllocError>
+        requires { spec.is_showing self.old.stage ≡ true }
+        ensures { spec.Takes result self.old (the_reply answer.entry) self.new }
+    {
         match (self.stage, answer) {
             (Stage::Tracing, _) if self.is_logged => self.stage = Stage::Stamping,
             (Stage::Stamping, Answer::Bytes(time)) => {
                 self.text = stamped(self.alloc, time, self.shown.as_str())?;
                 self.stage = Stage::Logging;
             }
-            (Stage::Tracing, _) | (Stage::Logging, Answer::Done) => {
-                self.stage = self.after_showing();
+            (Stage::Tracing, _) | (Stage::Logging, Answer::Done) => self.after_showing(),
+            _ => {
+                let message = self.lose_log()?;
+                self.after_showing();
+                self.say(message, self.stage);
             }
-            _ => return self.lose_log(self.after_showing()),
         }
         Ok(())
     }
 
     /// The bytes that came are kept, and which end they came from.
-    pub(crate) fn save_on(&mut self, answer: Answer<'_>) -> Result<(), AllocError> {
+    #[tactic(auto, using(crate::proofs::Relayed::stage_steps, crate::proofs::Relayed::turn_steps, crate::proofs::Relayed::quiet_stops))]
+    pub(crate) fn save_on(&mut self, answer: Answer<'_>) -> Result<(), AllocError>
+        requires { spec.is_saving self.old.stage ≡ true }
+        ensures { spec.Takes result self.old (the_reply answer.entry) self.new }
+    {
         match (self.stage, answer) {
             (Stage::Saving, Answer::Done) => {
                 self.text.clear();
@@ -258,7 +304,7 @@ impl RelaySession {
             }
             (Stage::Noting, Answer::Done) => {
                 self.piece.clear();
-                self.stage = self.then;
+                self.after(self.from);
             }
             _ => return self.lose_bytes(),
         }
@@ -277,9 +323,13 @@ impl RelaySession {
     }
 
     /// The bytes cannot be kept: that is said, and no more of this connection are.
-    fn lose_bytes(&mut self) -> Result<(), AllocError> {
+    #[tactic(auto, using(crate::proofs::Relayed::stage_fails, crate::proofs::Relayed::quiet_stops))]
+    fn lose_bytes(&mut self) -> Result<(), AllocError>
+        requires { spec.is_saving self.old.stage ≡ true }
+        ensures { (reply : Reply) → spec.Takes result self.old reply self.new }
+    {
         self.piece.clear();
-        self.has_failed = true;
+        self.status = 1;
         let slot = match (self.stage, self.from) {
             (Stage::Noting, _) => Slot::Order,
             (_, Peer::Client) => Slot::Up,
@@ -287,14 +337,18 @@ impl RelaySession {
         };
         let message = self.unwritten(slot)?;
         self.recording = None;
-        self.say(message, self.then);
+        self.after(self.from);
+        self.say(message, self.stage);
         Ok(())
     }
 
     /// The told file cannot be kept: that is said, and it is not written any more.
-    pub(crate) fn lose_told(&mut self, answer: Answer<'_>, next: Stage) -> Result<(), AllocError> {
+    pub(crate) fn lose_told(&mut self, answer: Answer<'_>, next: Stage) -> Result<(), AllocError>
+        ensures ok { OnOk result (self.new ≡ spec.saying next (spec.untold self.old)) }
+        ensures err { OnErr result (self.new ≡ spec.untold self.old) }
+    {
         self.is_told = false;
-        self.has_failed = true;
+        self.status = 1;
         let why = why_unwritten(cause_of(answer));
         let name = self.names.name.as_str();
         let message = format!(in self.alloc; "dme: cannot write {name}{why}\n")?;

@@ -1,7 +1,8 @@
 // The turns of a relay.
 
-ghost use Rattle.std.specs.Prelude.{◌≡◌, min, length, OnOk};
-ghost use Rattle.watched_ends.specs.Limits.{up_of, up_sent};
+ghost use Rattle.std.specs.Prelude.{◌≡◌, true, min, length, OnOk};
+ghost use Rattle.effects.specs.Effects.{the_reply, Bytes, Done, Took};
+ghost use Rattle.watched_ends.specs.Limits.{IsTold, down_of, down_sent};
 ghost use Rattle.services.specs.Relays as spec;
 
 use crate::relay_stages::RelayStage as Stage;
@@ -17,32 +18,50 @@ const UNTAKEN: &str = "dme: a connection cannot be taken\n";
 const LEFT_SECONDS: u32 = 5;
 
 impl RelaySession {
-    pub(crate) fn join(&mut self, answer: Answer<'_>) -> Result<(), AllocError> {
+    #[tactic(auto, using(crate::proofs::Relayed::rest_steps, crate::proofs::Relayed::quiet_stops))]
+    pub(crate) fn accept(&mut self, answer: Answer<'_>) -> Result<(), AllocError>
+        requires { spec.is_accepting self.old.stage ≡ true }
+        ensures { spec.Takes result self.old (the_reply answer.entry) self.new }
+    {
         match (self.stage, answer) {
             (Stage::Pausing, _) => self.stage = Stage::Accepting,
-            (Stage::Accepting, Answer::Done) => return self.taken(),
-            (Stage::Accepting, Answer::Nothing) => self.stage = Stage::Pausing,
-            (Stage::Accepting, Answer::Short) => return Err(AllocError),
-            (Stage::Accepting, Answer::Failed(Cause::Interrupted)) => {}
-            (Stage::Accepting, _) if self.is_untaken => self.stage = Stage::Pausing,
-            (Stage::Accepting, _) => {
+            (_, Answer::Done) => return self.taken(),
+            (_, Answer::Nothing) => self.stage = Stage::Pausing,
+            (_, Answer::Short) => return Err(AllocError),
+            (_, Answer::Failed(Cause::Interrupted)) => {}
+            _ if self.is_untaken => self.stage = Stage::Pausing,
+            _ => {
                 self.is_untaken = true;
                 let message = String::from_str(self.alloc, UNTAKEN)?;
                 self.say(message, Stage::Pausing);
             }
+        }
+        Ok(())
+    }
+
+    /// The server is reached, or not; both ends are waited for together, or cannot be.
+    #[tactic(auto, using(crate::proofs::Relayed::stage_steps, crate::proofs::Relayed::turn_steps, crate::proofs::Relayed::turn_fails))]
+    pub(crate) fn join(&mut self, answer: Answer<'_>) -> Result<(), AllocError>
+        requires { spec.is_joining self.old.stage ≡ true }
+        ensures { spec.Takes result self.old (the_reply answer.entry) self.new }
+    {
+        match (self.stage, answer) {
             (Stage::Connecting, Answer::Done) => {
                 self.is_bare = true;
                 self.stage = Stage::Joining;
             }
-            (Stage::Connecting, _) => self.finish(Ended::Unreached(cause_of(answer))),
+            (Stage::Connecting, _) => self.fail(Ended::Unreached(cause_of(answer))),
             (_, Answer::Done) => self.begin_turn(),
-            _ => self.finish(Ended::Broken(cause_of(answer))),
+            _ => self.fail(Ended::Broken(cause_of(answer))),
         }
         Ok(())
     }
 
     /// A client is taken.
-    fn taken(&mut self) -> Result<(), AllocError> {
+    fn taken(&mut self) -> Result<(), AllocError>
+        requires { self.old.stage ≡ Stage.Accepting }
+        ensures { spec.Takes result self.old Done self.new }
+    {
         self.number = self.number.saturating_add(1);
         self.is_untaken = false;
         self.is_bare = false;
@@ -50,72 +69,90 @@ impl RelaySession {
         self.relay = LimitedRelay::new(self.alloc, self.number);
         self.ends = Ends::new();
         self.wait = Wait::new(self.order.timeout);
+        self.ended = Ended::Left;
         self.piece.clear();
-        self.begin_recording()
+        self.begin_recording()?;
+        Ok(())
     }
 
     /// What has come is read, told and sent on, as far as that is possible.
-    fn begin_turn(&mut self) {
+    fn begin_turn(&mut self)
+        ensures { spec.Turns self.old self.new }
+    {
         self.has_moved = false;
-        self.stage = if self.ends.client || !self.relay.to_server().is_empty() {
-            self.after_client()
+        if self.ends.client || !self.relay.to_server().is_empty() {
+            self.after_client();
         } else {
-            Stage::HearingClient
-        };
+            self.stage = Stage::HearingClient;
+        }
     }
 
     /// What comes after the client was heard.
-    fn after_client(&self) -> Stage {
+    fn after_client(&mut self)
+        ensures { spec.Turns self.old self.new }
+    {
         let is_sent = self.relay.is_all_told() && self.to_client().is_empty();
         if self.ends.server || !is_sent {
-            self.after_server()
+            self.after_server();
         } else {
-            Stage::HearingServer
+            self.stage = Stage::HearingServer;
         }
     }
 
     /// What comes after the server was heard: what it told is to be written, or bytes are sent on.
-    fn after_server(&self) -> Stage {
-        if self.relay.due().is_empty() {
+    fn after_server(&mut self)
+        ensures { spec.Turns self.old self.new }
+    {
+        self.stage = if self.relay.due().is_empty() {
             Stage::PassingUp
         } else {
             Stage::Telling
-        }
+        };
     }
 
     /// What comes after an end was heard.
-    fn after(&self, peer: Peer) -> Stage {
+    pub(crate) fn after(&mut self, peer: Peer)
+        ensures { spec.Turns self.old self.new }
+    {
         match peer {
             Peer::Client => self.after_client(),
             Peer::Server => self.after_server(),
         }
     }
 
-    pub(crate) fn hear(&mut self, answer: Answer<'_>) -> Result<(), AllocError> {
-        let peer = match self.stage {
-            Stage::HearingClient => Peer::Client,
-            _ => Peer::Server,
-        };
+    #[tactic(auto, using(crate::proofs::Relayed::hears_quiet, crate::proofs::Relayed::turn_steps, crate::proofs::Relayed::turn_fails, crate::proofs::Relayed::quiet_stops))]
+    pub(crate) fn hear(&mut self, peer: Peer, answer: Answer<'_>) -> Result<(), AllocError>
+        requires { self.old.stage ≡ spec.hearing peer }
+        ensures { spec.Takes result self.old (the_reply answer.entry) self.new }
+    {
         match answer {
             Answer::Bytes(piece) => return self.came(peer, piece),
-            Answer::End => {
-                self.has_moved = true;
-                match peer {
-                    Peer::Client => self.ends.client = true,
-                    Peer::Server => self.ends.server = true,
-                }
-                self.stage = self.after(peer);
-            }
-            Answer::Nothing | Answer::Failed(Cause::Interrupted) => self.stage = self.after(peer),
+            Answer::End => self.ended_by(peer),
+            Answer::Nothing | Answer::Failed(Cause::Interrupted) => self.after(peer),
             Answer::Short => return Err(AllocError),
-            _ => self.finish(Ended::Broken(cause_of(answer))),
+            _ => self.fail(Ended::Broken(cause_of(answer))),
         }
         Ok(())
     }
 
+    /// An end sends nothing more.
+    fn ended_by(&mut self, peer: Peer)
+        ensures { spec.Turns self.old self.new }
+    {
+        self.has_moved = true;
+        match peer {
+            Peer::Client => self.ends.client = true,
+            Peer::Server => self.ends.server = true,
+        }
+        self.after(peer);
+    }
+
     /// The relay is given bytes of an end, and reads what it can.
     fn give(&mut self, peer: Peer, piece: &[u8]) -> Result<(), AllocError>
-        ensures { OnOk result (spec.IsGiven self.old peer piece.now self.new) }
+        ensures given { OnOk result (spec.IsGiven self.old.talk peer piece.now self.new.talk) }
+        ensures same { self.new ≡ record self.old {
+          talk = record (self.old.talk) { relay = self.new.talk.relay };
+        } }
     {
         match peer {
             Peer::Client => self.relay.from_client(piece)?,
@@ -128,8 +165,10 @@ impl RelaySession {
         Ok(())
     }
 
-    /// Bytes have come from an end.
-    fn came(&mut self, peer: Peer, piece: &[u8]) -> Result<(), AllocError> {
+    /// Bytes that have come are to be shown and kept.
+    fn note(&mut self, peer: Peer, piece: &[u8]) -> Result<(), AllocError>
+        ensures { self.new ≡ self.old }
+    {
         self.has_moved = true;
         let side = match peer {
             Peer::Client => Side::Client,
@@ -139,45 +178,71 @@ impl RelaySession {
             self.is_bare = false;
         }
         self.lines.went(side, piece)?;
-        self.give(peer, piece)?;
+        self.from = peer;
         if self.recording.is_some() {
-            self.from = peer;
             self.piece.extend_from_slice(piece)?;
         }
-        let then = self.after(peer);
-        self.show(then);
         Ok(())
     }
 
-    pub(crate) fn pass(&mut self, answer: Answer<'_>) -> Result<(), AllocError> {
+    /// Bytes have come from an end.
+    #[tactic(auto, using(crate::proofs::Relayed::came_stops))]
+    fn came(&mut self, peer: Peer, piece: &[u8]) -> Result<(), AllocError>
+        requires { self.old.stage ≡ spec.hearing peer }
+        ensures { spec.Takes result self.old (Bytes piece.now) self.new }
+    {
+        self.note(peer, piece)?;
+        self.give(peer, piece)?;
+        self.show();
+        Ok(())
+    }
+
+    /// What the server has told was written, or cannot be.
+    #[tactic(auto, using(crate::proofs::Relayed::untold_steps, crate::proofs::Relayed::untold_stops))]
+    pub(crate) fn told(&mut self, answer: Answer<'_>) -> Result<(), AllocError>
+        requires { self.old.stage ≡ Stage.Telling }
+        ensures { spec.Takes result self.old (the_reply answer.entry) self.new }
+    {
+        self.relay.clear_due();
+        if let Answer::Done = answer {
+            self.stage = Stage::PassingUp;
+            return Ok(());
+        }
+        self.lose_told(answer, Stage::PassingUp)
+    }
+
+    /// An end took some bytes, or none.
+    #[tactic(auto, using(crate::proofs::Relayed::turn_steps, crate::proofs::Relayed::turn_fails))]
+    pub(crate) fn pass(&mut self, answer: Answer<'_>) -> Result<(), AllocError>
+        requires { spec.is_passing self.old.stage ≡ true }
+        ensures { spec.Takes result self.old (the_reply answer.entry) self.new }
+    {
         match (self.stage, answer) {
-            (Stage::Telling, _) => {
-                self.relay.clear_due();
-                match answer {
-                    Answer::Done => self.stage = Stage::PassingUp,
-                    _ => return self.lose_told(answer, Stage::PassingUp),
-                }
-            }
             (Stage::PassingUp, Answer::Took(count)) => self.passed_up(count),
             (Stage::PassingUp, Answer::Nothing) => self.after_up(),
             (Stage::PassingDown, Answer::Took(count)) => self.passed_down(count),
             (Stage::PassingDown, Answer::Nothing) => self.after_down(),
             (Stage::PassingUp, Answer::Failed(Cause::Interrupted)) => self.after_up(),
             (Stage::PassingDown, Answer::Failed(Cause::Interrupted)) => self.after_down(),
-            _ => self.finish(Ended::Broken(cause_of(answer))),
+            _ => self.fail(Ended::Broken(cause_of(answer))),
         }
         Ok(())
     }
 
     /// The server took that many bytes.
-    fn passed_up(&mut self, count: usize) {
+    fn passed_up(&mut self, count: usize)
+        requires { self.old.stage ≡ Stage.PassingUp }
+        ensures { spec.Steps self.old (Took count) self.new }
+    {
         let count = count.min(self.relay.to_server().len());
         self.relay.sent_to_server(count);
         self.has_moved = self.has_moved || count > 0;
         self.after_up();
     }
 
-    fn after_up(&mut self) {
+    fn after_up(&mut self)
+        ensures { spec.Turns self.old self.new }
+    {
         if self.ends.client && !self.ends.up && self.relay.to_server().is_empty() {
             self.ends.up = true;
             self.stage = Stage::ClosingUp;
@@ -187,7 +252,9 @@ impl RelaySession {
     }
 
     /// What came from the server is sent on, once all that it told was written.
-    fn down(&mut self) {
+    fn down(&mut self)
+        ensures { spec.Turns self.old self.new }
+    {
         if self.to_client().is_empty() {
             self.after_down();
         } else {
@@ -196,16 +263,31 @@ impl RelaySession {
     }
 
     /// The client took that many bytes.
-    fn passed_down(&mut self, count: usize) {
+    fn passed_down(&mut self, count: usize)
+        requires { self.old.stage ≡ Stage.PassingDown }
+        ensures { spec.Steps self.old (Took count) self.new }
+    {
+        self.sent_down(count);
+        self.after_down();
+    }
+
+    fn sent_down(&mut self, count: usize)
+        ensures same { self.new ≡ record self.old {
+          talk = record (self.old.talk) { relay = self.new.talk.relay };
+        } }
+        ensures sent { IsTold self.old.talk.relay → self.new.talk.relay
+            ≡ down_sent (min count (length (down_of self.old.talk.relay))) self.old.talk.relay }
+    {
         if self.relay.is_all_told() {
             let count = count.min(self.relay.to_client().len());
             self.relay.sent_to_client(count);
             self.has_moved = self.has_moved || count > 0;
         }
-        self.after_down();
     }
 
-    fn after_down(&mut self) {
+    fn after_down(&mut self)
+        ensures { spec.Turns self.old self.new }
+    {
         let is_sent = self.relay.is_all_told() && self.to_client().is_empty();
         if self.ends.server && !self.ends.down && is_sent {
             self.ends.down = true;
@@ -215,17 +297,12 @@ impl RelaySession {
         }
     }
 
-    pub(crate) fn close_on(&mut self) {
-        match self.stage {
-            Stage::ClosingUp => self.down(),
-            _ => self.end_turn(),
-        }
-    }
-
     /// The next turn begins, at once if anything has moved.
-    fn end_turn(&mut self) {
+    fn end_turn(&mut self)
+        ensures { spec.Turns self.old self.new }
+    {
         if self.ends.up && self.ends.down {
-            self.finish(Ended::Left);
+            self.finish();
         } else if self.has_moved {
             self.wait = Wait::new(self.order.timeout);
             self.begin_turn();
@@ -247,22 +324,30 @@ impl RelaySession {
         }
     }
 
-    pub(crate) fn wait_on(&mut self, answer: Answer<'_>) {
+    /// An end was closed, the time is known, or something may have moved.
+    #[tactic(auto, using(crate::proofs::Relayed::stage_steps, crate::proofs::Relayed::turn_steps, crate::proofs::Relayed::turn_fails))]
+    pub(crate) fn wait_on(&mut self, answer: Answer<'_>) -> Result<(), AllocError>
+        requires { spec.is_waiting self.old.stage ≡ true }
+        ensures { spec.Takes result self.old (the_reply answer.entry) self.new }
+    {
         match (self.stage, answer) {
+            (Stage::ClosingUp, _) => self.down(),
+            (Stage::ClosingDown, _) => self.end_turn(),
             (Stage::Timing, Answer::At(now)) => {
                 self.wait.limit = self.limit();
                 if self.wait.lapse(now).is_none() {
                     self.stage = Stage::Waiting;
                 } else if self.ends.up {
-                    self.finish(Ended::Left);
+                    self.finish();
                 } else {
-                    self.finish(Ended::Silent);
+                    self.fail(Ended::Silent);
                 }
             }
             (Stage::Timing, _) => self.stage = Stage::Waiting,
             (_, Answer::Failed(Cause::Interrupted)) => self.begin_turn(),
-            (_, Answer::Failed(why)) => self.finish(Ended::Broken(why)),
+            (_, Answer::Failed(why)) => self.fail(Ended::Broken(why)),
             _ => self.begin_turn(),
         }
+        Ok(())
     }
 }

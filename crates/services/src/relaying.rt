@@ -1,11 +1,11 @@
 // The relay: what it asks, and what it does with an answer.
 
-ghost use Rattle.std.specs.Prelude.{◌≡◌, ◌⊎◌, []};
-ghost use Rattle.effects.specs.Effects.{the_ask};
+ghost use Rattle.std.specs.Prelude.{◌≡◌, ◌⊎◌, [], true, IfOk};
+ghost use Rattle.effects.specs.Effects.{the_ask, the_reply, Reply};
 ghost use Rattle.watched_ends.specs.Limits.{IsTold, down_of};
 ghost use Rattle.services.specs.Relays as spec;
 
-use crate::recordings::{Recording, slot_after};
+use crate::recordings::{Recording, recording_in, slot_after};
 use crate::relay_stages::RelayStage as Stage;
 use crate::relays::Relay;
 use effects::{Answer, Cause, Effect, Growth, Peer, Slot};
@@ -86,8 +86,6 @@ pub struct RelaySession {
     pub(crate) stage: Stage,
     /// What comes after what is said.
     pub(crate) next: Stage,
-    /// What comes after what came was shown and kept.
-    pub(crate) then: Stage,
     pub(crate) relay: LimitedRelay,
     pub(crate) ends: Ends,
     pub(crate) wait: Wait,
@@ -99,7 +97,7 @@ pub struct RelaySession {
     /// Whether the told file is kept.
     pub(crate) is_told: bool,
     pub(crate) recording: Option<Recording>,
-    /// The bytes that are kept, which end they came from, and what is added to the order for them.
+    /// The bytes that are kept, and which end has sent bytes last.
     pub(crate) piece: Vec<u8>,
     pub(crate) from: Peer,
     /// What is added to a file.
@@ -116,7 +114,7 @@ pub struct RelaySession {
     pub(crate) ended: Ended,
     pub(crate) said: String,
     pub(crate) last: &'static str,
-    pub(crate) has_failed: bool,
+    /// The status of the exit: 0 as long as all that was asked for was done.
     pub(crate) status: u8,
 }
 
@@ -125,17 +123,21 @@ impl Model for RelaySession {
 
     ghost Value = { RelayState };
 
-    ghost view = { λ s. record { relay = s.relay; is_told = s.is_told } };
+    ghost view = { λ s. record {
+      stage = s.stage;
+      next = s.next;
+      talk = record { relay = s.relay; number = s.number; is_told = s.is_told };
+      end = record { status = s.status; left = s.left };
+    } };
 }
 
 impl RelaySession {
     /// A session that carries out this relay. Fails only if out of memory.
-    pub fn new(alloc: Global, order: Relay) -> Result<RelaySession, AllocError> {
+    pub fn new(alloc: Global, order: Relay) -> Result<RelaySession, AllocError>
+        ensures { IfOk result (λ s. spec.Begins order.connections s) }
+    {
         let names = ToldNames::new(alloc, order.told.as_str())?;
-        let recording = match &order.folder {
-            Some(folder) => Some(Recording::new(alloc, folder.as_str(), 1)?),
-            None => None,
-        };
+        let recording = recording_in(alloc, order.folder.as_deref(), 1)?;
         let is_shown = order.trace || order.log.is_some();
         let is_logged = order.log.is_some();
         let left = order.connections;
@@ -146,8 +148,7 @@ impl RelaySession {
             names,
             stage: Stage::Making,
             next: Stage::Making,
-            then: Stage::Making,
-            relay: LimitedRelay::new(alloc, 1),
+            relay: LimitedRelay::new(alloc, 0),
             ends: Ends::new(),
             lines: Lines::new(alloc, is_shown),
             shown: String::new(alloc),
@@ -166,13 +167,13 @@ impl RelaySession {
             ended: Ended::Left,
             said: String::new(alloc),
             last: "",
-            has_failed: false,
             status: 0,
         })
     }
 
     fn asks_of_recording(&self) -> Effect<'_>
-        ensures { spec.Sends self.now.relay (the_ask result) }
+        requires { spec.is_recording self.now.stage ≡ true }
+        ensures { spec.Asks self.now (the_ask result) }
     {
         let Some(recording) = &self.recording else {
             return Effect::Say("");
@@ -192,7 +193,8 @@ impl RelaySession {
     }
 
     fn asks_before(&self) -> Effect<'_>
-        ensures { spec.Sends self.now.relay (the_ask result) }
+        requires { spec.is_before self.now.stage ≡ true }
+        ensures { spec.Asks self.now (the_ask result) }
     {
         match self.stage {
             Stage::Making => Effect::Make(
@@ -211,7 +213,8 @@ impl RelaySession {
     }
 
     fn asks_of_ends(&self) -> Effect<'_>
-        ensures { spec.Sends self.now.relay (the_ask result) }
+        requires { spec.is_of_ends self.now.stage ≡ true }
+        ensures { spec.Asks self.now (the_ask result) }
     {
         match self.stage {
             Stage::Accepting => Effect::Accept(None, None),
@@ -234,8 +237,9 @@ impl RelaySession {
 
     /// What came from the server and may be sent on: nothing until all that it told was written.
     pub(crate) fn to_client(&self) -> &[u8]
-        ensures { (result.now ≡ []) ⊎ (IsTold self.now.relay
-            × (result.now ≡ down_of self.now.relay)) }
+        ensures held { (result.now ≡ []) ⊎ (IsTold self.now.talk.relay
+            × (result.now ≡ down_of self.now.talk.relay)) }
+        ensures told { IsTold self.now.talk.relay → result.now ≡ down_of self.now.talk.relay }
     {
         if self.relay.is_all_told() {
             self.relay.to_client()
@@ -246,7 +250,7 @@ impl RelaySession {
 
     /// What is to be done next.
     pub fn asks(&self) -> Effect<'_>
-        ensures { spec.Sends self.now.relay (the_ask result) }
+        ensures { spec.Asks self.now (the_ask result) }
     {
         match self.stage {
             Stage::Making | Stage::Listening | Stage::Listing | Stage::Discarding => {
@@ -269,57 +273,74 @@ impl RelaySession {
         }
     }
 
-    /// What came of it. If memory runs out meanwhile, the connection is left.
-    pub fn take(&mut self, answer: Answer<'_>) {
+    /// What came of it. If memory runs out meanwhile, the connection is left; outside one, the relay ends. After the exit nothing changes.
+    #[tactic(auto, using(crate::proofs::Relayed::short_steps, crate::proofs::Relayed::same_steps))]
+    pub fn take(&mut self, answer: Answer<'_>)
+        ensures steps { spec.Steps self.old (the_reply answer.entry) self.new }
+        ensures last { self.old.stage ≡ Stage.Exiting → self.new ≡ self.old }
+    {
+        if let Stage::Exiting = self.stage {
+            return;
+        }
         if self.step(answer).is_err() {
             self.run_short();
         }
     }
 
     /// The session after an answer.
-    fn step(&mut self, answer: Answer<'_>) -> Result<(), AllocError> {
+    fn step(&mut self, answer: Answer<'_>) -> Result<(), AllocError>
+        ensures { spec.Takes result self.old (the_reply answer.entry) self.new }
+    {
         match self.stage {
-            Stage::Making | Stage::Listening | Stage::Listing | Stage::Discarding => {
-                self.prepare(answer)
-            }
+            Stage::Making | Stage::Listening | Stage::Listing => self.prepare(answer),
             Stage::SettingAside | Stage::Beginning | Stage::Logged => self.begin(answer),
-            Stage::Creating | Stage::Heading | Stage::Removing => self.record(answer),
-            Stage::Accepting | Stage::Pausing | Stage::Connecting | Stage::Joining => {
-                self.join(answer)
-            }
-            Stage::HearingClient | Stage::HearingServer => self.hear(answer),
+            Stage::Creating | Stage::Heading => self.record(answer),
+            Stage::Pausing | Stage::Accepting => self.accept(answer),
+            Stage::Connecting | Stage::Joining => self.join(answer),
+            Stage::HearingClient => self.hear(Peer::Client, answer),
+            Stage::HearingServer => self.hear(Peer::Server, answer),
             Stage::Tracing | Stage::Stamping | Stage::Logging => self.show_on(answer),
             Stage::Saving | Stage::Noting => self.save_on(answer),
-            Stage::Telling | Stage::PassingUp | Stage::PassingDown => self.pass(answer),
-            Stage::ClosingUp | Stage::ClosingDown => {
-                self.close_on();
-                Ok(())
-            }
-            Stage::Timing | Stage::Waiting => {
-                self.wait_on(answer);
-                Ok(())
-            }
+            Stage::Telling => self.told(answer),
+            Stage::PassingUp | Stage::PassingDown => self.pass(answer),
+            Stage::ClosingUp | Stage::ClosingDown => self.wait_on(answer),
+            Stage::Timing | Stage::Waiting => self.wait_on(answer),
             Stage::Forcing | Stage::Settling | Stage::Leaving => self.end_on(answer),
-            Stage::Saying => {
-                self.stage = self.next;
-                Ok(())
-            }
-            Stage::Parting | Stage::Exiting => {
-                self.stage = Stage::Exiting;
+            _ => {
+                self.close_on();
                 Ok(())
             }
         }
     }
 
+    /// Likewise at the end, or after what was said.
+    #[tactic(auto, using(crate::proofs::Relayed::closing_steps, crate::proofs::Relayed::due_steps, crate::proofs::Relayed::same_due))]
+    fn close_on(&mut self)
+        requires { spec.is_closing self.old.stage ≡ true }
+        ensures { (reply : Reply) → spec.Steps self.old reply self.new }
+    {
+        match self.stage {
+            Stage::Discarding => self.discarded(),
+            Stage::Removing => self.removed(),
+            Stage::Saying => self.stage = self.next,
+            _ => self.stage = Stage::Exiting,
+        }
+    }
+
     /// A message is to be said, and then this is next.
-    pub(crate) fn say(&mut self, message: String, next: Stage) {
+    pub(crate) fn say(&mut self, message: String, next: Stage)
+        ensures { self.new ≡ spec.saying next self.old }
+    {
         self.said = message;
         self.stage = Stage::Saying;
         self.next = next;
     }
 
     /// Memory has run out outside a connection: the relay ends, and before its first connection all files are as they were.
-    fn give_up(&mut self) {
+    #[tactic(auto, using(crate::proofs::Relayed::gives_short))]
+    fn give_up(&mut self)
+        ensures { spec.IsShort self.old self.new }
+    {
         self.last = OUT_OF_MEMORY;
         self.status = 4;
         self.stage = if self.number == 0 {
@@ -330,22 +351,18 @@ impl RelaySession {
     }
 
     /// Memory has run out: a connection is left; outside one, the relay ends.
-    fn run_short(&mut self) {
+    #[tactic(auto, using(crate::proofs::Relayed::fails_short))]
+    fn run_short(&mut self)
+        ensures { spec.IsShort self.old self.new }
+    {
         match self.stage {
-            Stage::Connecting
-            | Stage::Joining
-            | Stage::HearingClient
+            Stage::HearingClient
             | Stage::HearingServer
-            | Stage::Tracing
             | Stage::Stamping
             | Stage::Logging
             | Stage::Saving
             | Stage::Noting
-            | Stage::Telling
-            | Stage::PassingUp
-            | Stage::PassingDown
-            | Stage::Timing
-            | Stage::Waiting => self.finish(Ended::Memory),
+            | Stage::Telling => self.fail(Ended::Memory),
             _ => self.give_up(),
         }
     }

@@ -1,0 +1,95 @@
+// What follows from the definitions of a relay. Each function has laws for its contract and does nothing.
+
+ghost use Rattle.std.specs.Prelude.{◌≡◌, ◌++◌, ℕ, Bool, [], ◌∷◌, true, false};
+ghost use Rattle.effects.specs.declared.vocabulary.Cause.TheVariants.{Full, Interrupted};
+ghost use Rattle.effects.specs.declared.vocabulary.Growth.TheVariants.{Told};
+ghost use Rattle.effects.specs.declared.vocabulary.Peer.TheVariants.{Client, Server};
+ghost use Rattle.effects.specs.Effects.{Append, Bytes, Done, Exit, Failed, Keep, Pass, Short, Took};
+ghost use Rattle.watched_ends.specs.Limits.{Past, Within, Limited, up_of, down_of};
+ghost use Rattle.witness.specs.Relaying.{Relaying};
+ghost use Rattle.services.specs.Relays.{RelayEnd, RelayOutside, RelayState, RelayTalk, RelayTraffic, AsksAt, Sends, IsVerdict, must_fail, Fails, Counts, Numbers, ReadyAt, phase_of, event_of, passed, nothing_passed, Relayed, HasCourse, IsAt, Keeps};
+ghost use Rattle.services.specs.declared.relay_stages.RelayStage.TheVariants as stage;
+
+/// Whatever is answered, on each connection:
+///
+/// - `up`, `down`: what an end was sent, and what waits for it, is all that came from the other, in its order;
+/// - `course`: as long as the told file is kept, and the relay is within its limit, it has a course with just this traffic: what was reported, it has
+///   written, and nothing else (`witness::laws::what_is_written_was_reported`).
+pub fn relays_pass_on_what_came()
+    ensures up { (number : ℕ) (is_told : Bool) (f : RelayTraffic) (r : Limited)
+        → Relayed number is_told f r → f.from_client ≡ f.to_server ++ up_of r }
+    ensures down { (number : ℕ) (is_told : Bool) (f : RelayTraffic) (r : Limited)
+        → Relayed number is_told f r → f.from_server ≡ f.to_client ++ down_of r }
+    ensures course { (number : ℕ) (f : RelayTraffic) (r : Relaying)
+        → Relayed number true f (Within r) → HasCourse number f r }
+{}
+
+/// What a stage asks for alone: the exit has the status, and all that is due is written, and sent on only where nothing is.
+pub fn asking_rows()
+    ensures exited { (s : RelayState) → AsksAt stage.Leaving s (Exit 0) → ⊥ }
+    ensures status { (s : RelayState) → s.end.status ≡ 1 → AsksAt stage.Exiting s (Exit 0) → ⊥ }
+    ensures kept { (s : RelayState) → AsksAt stage.Timing s (Keep Told []) → ⊥ }
+    ensures turned { (s : RelayState) → AsksAt stage.PassingUp s (Pass Client []) → ⊥ }
+    ensures whole { (s : RelayState) → s.talk.relay ≡ Past (5 ∷ 7 ∷ []) [] []
+        → AsksAt stage.PassingUp s (Pass Server (5 ∷ [])) → ⊥ }
+    ensures due { (s : RelayState) → s.talk.relay ≡ Past [] [] (9 ∷ [])
+        → AsksAt stage.Telling s (Append Told []) → ⊥ }
+    ensures held { Sends (Past [] (7 ∷ []) (9 ∷ [])) (Pass Client (7 ∷ [])) → ⊥ }
+    ensures first { IsAt stage.PassingUp (Past (5 ∷ []) [] (9 ∷ []))
+        (record { status = 0; left = 1 }) → ⊥ }
+    ensures down { IsAt stage.PassingDown (Past [] (7 ∷ []) (9 ∷ []))
+        (record { status = 0; left = 1 }) → ⊥ }
+{}
+
+/// A status of 0 is refused after a failure, and while a connection is to come; what fails is the told file, the port and an end, but neither the
+/// log nor a signal; and a connection counts only when it was left.
+pub fn ending_rows()
+    ensures early { IsVerdict (record { status = 0; left = 1 }) → ⊥ }
+    ensures told { must_fail stage.Telling (Failed Full) ≡ true }
+    ensures unlistened { must_fail stage.Listening (Failed Full) ≡ true }
+    ensures broken { must_fail stage.HearingServer (Failed Full) ≡ true }
+    ensures signal { must_fail stage.HearingServer (Failed Interrupted) ≡ false }
+    ensures log { must_fail stage.Logging (Failed Full) ≡ false }
+    ensures kept { (s t : RelayState) → s.end.status ≡ 1 → t.end.status ≡ 0
+        → Fails s Done t → ⊥ }
+    ensures uncounted { (e f : RelayEnd) → e.left ≡ 2 → f.left ≡ 1
+        → Counts stage.Accepting e f → ⊥ }
+    ensures counted { (e f : RelayEnd) → e.left ≡ 2 → f.left ≡ 0
+        → Counts stage.Leaving e f → ⊥ }
+{}
+
+/// The second connection has the number 2, and no number changes unless a client is taken; nothing is listened for before the told file was made, and
+/// no client is taken before it has begun.
+pub fn beginning_rows()
+    ensures second { (t u : RelayTalk) → t.number ≡ 1 → u.number ≡ 1
+        → Numbers stage.Accepting Done t u → ⊥ }
+    ensures untaken { (t u : RelayTalk) → t.number ≡ 1 → u.number ≡ 2
+        → Numbers stage.Accepting Short t u → ⊥ }
+    ensures unmade { (o : RelayOutside) → o.is_made ≡ false
+        → ReadyAt (phase_of stage.Listening) 0 o → ⊥ }
+    ensures unbegun { (o : RelayOutside) → o.is_begun ≡ false
+        → ReadyAt (phase_of stage.Accepting) 0 o → ⊥ }
+    ensures recorded { (o : RelayOutside) → o.is_begun ≡ false
+        → ReadyAt (phase_of stage.Creating) 1 o → ⊥ }
+{}
+
+/// What is received joins what came before from that end, and what is sent what was sent to the other; text counts as told once it was added; a new
+/// connection has no traffic; and the told file is discarded only if it cannot be written, which counts.
+pub fn passing_rows()
+    ensures received { (f : RelayTraffic) → f.from_client ≡ 5 ∷ []
+        → (passed (event_of stage.HearingClient (Bytes (7 ∷ []))) (Past [] [] []) f).from_client
+        ≡ 5 ∷ 7 ∷ [] }
+    ensures sent { (f : RelayTraffic) → f.to_server ≡ 3 ∷ []
+        → (passed (event_of stage.PassingUp (Took 1)) (Past (5 ∷ 7 ∷ []) [] []) f).to_server
+        ≡ 3 ∷ 5 ∷ [] }
+    ensures told { (f : RelayTraffic) → f.told ≡ []
+        → (passed (event_of stage.Telling Done) (Past [] [] (9 ∷ [])) f).told ≡ 9 ∷ [] }
+    ensures untold { (f : RelayTraffic)
+        → passed (event_of stage.Telling (Failed Full)) (Past [] [] (9 ∷ [])) f ≡ f }
+    ensures taken { (f : RelayTraffic)
+        → passed (event_of stage.Accepting Done) (Past [] [] []) f ≡ nothing_passed }
+    ensures lost { (s t : RelayState) → s.talk.is_told ≡ true → t.talk.is_told ≡ false
+        → s.stage ≡ stage.Telling → Keeps s Done t → ⊥ }
+    ensures unsaid { (s t : RelayState) → s.talk.is_told ≡ true → t.talk.is_told ≡ false
+        → t.end.status ≡ 0 → Keeps s (Failed Full) t → ⊥ }
+{}
