@@ -1,5 +1,6 @@
 pub mod Courses
 pub mod Keeping
+pub mod Leading
 pub mod Relayed
 pub mod Served
 pub mod Working
