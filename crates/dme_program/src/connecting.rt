@@ -103,13 +103,7 @@ pub fn loop_program(rt: HostRuntime, order: Loop) -> Result<u8, Fault>
         Err(fault) => return Ok(refused(rt, fault, files, order.explain)),
     };
     let text = files.program.text.as_slice();
-    let lacking = lacking_lines(
-        rt.alloc(),
-        &program,
-        text,
-        &setup,
-        files.setup.name.as_str(),
-    )?;
+    let lacking = lacking_lines(rt.alloc(), text, &setup, files.setup.name.as_str())?;
     let _ = eprint!(rt; "{lacking}");
     let task = LoopTask {
         setup,

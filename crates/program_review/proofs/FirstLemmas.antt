@@ -37,30 +37,14 @@ too_few_same (Some count) n = grind (arith, nat_tests)
 
 misplaced_same : (keyword : Keyword) (wanted : Option ℕ) (n : ℕ) → misplaced keyword (lacks wanted n) ≡ misplaced keyword wanted
 misplaced_same keyword None n = refl
-misplaced_same Keyword.Dmismn (Some count) n = refl
-misplaced_same Keyword.Goto (Some count) n = refl
-misplaced_same Keyword.Meas (Some count) n = refl
-misplaced_same Keyword.Ptmeas (Some count) n = refl
-misplaced_same Keyword.Endmes (Some count) n = refl
-misplaced_same Keyword.Snslct (Some count) n = refl
 misplaced_same Keyword.Recall (Some count) n = refl
-misplaced_same Keyword.Endfil (Some count) n = refl
-misplaced_same Keyword.Units (Some count) n = refl
-misplaced_same Keyword.Mode (Some count) n = refl
-misplaced_same Keyword.Definition (Some count) n = refl
-misplaced_same Keyword.Passed (Some count) n = refl
-misplaced_same Keyword.Unknown (Some count) n = refl
+misplaced_same keyword (Some count) n = refl
 
 settled_same : (frames : List (List ℕ × Point)) (t u : Option (List ℕ)) (wanted : Option ℕ) (n : ℕ) (m : StatementMeaning)
     → is_none t ≡ is_none u → settled frames t (lacks wanted n) 0 m ≡ settled frames u wanted n m
-settled_same frames t u wanted n (StatementMeaning.Goes target) h = refl
-settled_same frames t u wanted n (StatementMeaning.Begins name count) h = refl
 settled_same frames t u wanted n (StatementMeaning.Touches target direction) h = rw h refl
 settled_same frames t u wanted n StatementMeaning.Ends h = rw (too_few_same wanted n) refl
-settled_same frames t u wanted n (StatementMeaning.Selects name) h = refl
-settled_same frames t u wanted n (StatementMeaning.Recalls name) h = refl
-settled_same frames t u wanted n StatementMeaning.Closes h = refl
-settled_same frames t u wanted n StatementMeaning.Passes h = refl
+settled_same frames t u wanted n m h = refl
 
 bind_same : (frames : List (List ℕ × Point)) (t u : Option (List ℕ)) (wanted : Option ℕ) (n : ℕ) (r : Result StatementMeaning Refusal)
     → is_none t ≡ is_none u → (r >>= settled frames t (lacks wanted n) 0) ≡ (r >>= settled frames u wanted n)
@@ -124,31 +108,14 @@ unfolding said_of said_by
 end_closes s t h = no_parameters_close s.params t (unless_badly (is_badly_formed Keyword.Endfil s) _ _ t h)
 
 closing_ends : (keyword : Keyword) (t : StatementMeaning) → SaidBy keyword t → closes t ≡ true → keyword ≡ Keyword.Endfil
-closing_ends keyword (StatementMeaning.Goes target) h e = absurd cc
-closing_ends keyword (StatementMeaning.Begins name n) h e = absurd cc
-closing_ends keyword (StatementMeaning.Touches target direction) h e = absurd cc
-closing_ends keyword StatementMeaning.Ends h e = absurd cc
-closing_ends keyword (StatementMeaning.Selects name) h e = absurd cc
-closing_ends keyword (StatementMeaning.Recalls name) h e = absurd cc
 closing_ends keyword StatementMeaning.Closes h e = h
-closing_ends keyword StatementMeaning.Passes h e = absurd cc
+closing_ends keyword t h e = absurd cc
 
 both_same : (keyword : Keyword) (t : StatementMeaning) (b : Bool) → closes t ≡ b → (closes t ≡ true → keyword ≡ Keyword.Endfil)
     → (keyword ≡ Keyword.Endfil → closes t ≡ true) → is_end keyword ≡ b
 both_same keyword t true h f g = rw (f h) refl
 both_same Keyword.Endfil t false h f g = let e = g refl in cc
-both_same Keyword.Dmismn t false h f g = refl
-both_same Keyword.Goto t false h f g = refl
-both_same Keyword.Meas t false h f g = refl
-both_same Keyword.Ptmeas t false h f g = refl
-both_same Keyword.Endmes t false h f g = refl
-both_same Keyword.Snslct t false h f g = refl
-both_same Keyword.Recall t false h f g = refl
-both_same Keyword.Units t false h f g = refl
-both_same Keyword.Mode t false h f g = refl
-both_same Keyword.Definition t false h f g = refl
-both_same Keyword.Passed t false h f g = refl
-both_same Keyword.Unknown t false h f g = refl
+both_same keyword t false h f g = refl
 
 pub end_is : (s : Statement) (t : StatementMeaning) → saying s ≡ Ok t → is_end (keyword_of s.word) ≡ closes t
 end_is s t h =
@@ -179,14 +146,10 @@ nothing_less count = let e : count - 0 ≡ count = omega arith in rw e refl
 lacking_after : (lacking : Option ℕ) (m : StatementMeaning) (bound : Option (Option ℕ)) (n : ℕ)
     → lacking ≡ lacks (bound_count bound) n
     → lacking_said m lacking ≡ lacks (bound_count (or_else (bound_said (Ok m)) bound)) (touched_with (Ok m) n)
-lacking_after lacking (StatementMeaning.Goes target) bound n h = h
 lacking_after lacking (StatementMeaning.Begins name count) bound n h = nothing_less count
 lacking_after lacking (StatementMeaning.Touches target direction) bound n h = rw h (one_less_lacks (bound_count bound) n)
 lacking_after lacking StatementMeaning.Ends bound n h = refl
-lacking_after lacking (StatementMeaning.Selects name) bound n h = h
-lacking_after lacking (StatementMeaning.Recalls name) bound n h = h
-lacking_after lacking StatementMeaning.Closes bound n h = h
-lacking_after lacking StatementMeaning.Passes bound n h = h
+lacking_after lacking m bound n h = h
 
 one_more_is : (n : ℕ) → n < 10000 → one_more n ≡ n + 1
 one_more_is n h = let few : nat_lt 10000 n ≡ false = grind (arith, nat_tests, h) in rw few refl
@@ -240,7 +203,7 @@ meant_keeps : (r : Result (List Step) (Refusal × ℕ)) → fault_of (meant r) �
 meant_keeps (Ok steps) = refl
 meant_keeps (Err e) = refl
 
-pub first_is : (frames : List (List ℕ × Point)) (text : List ℕ) → first_of (refusals_of frames text) ≡ fault_of (program_of frames text)
+first_is : (frames : List (List ℕ × Point)) (text : List ℕ) → first_of (refusals_of frames text) ≡ fault_of (program_of frames text)
 unfolding meaning_of
 first_is frames text =
     agrees frames (text_reading text).fault (length (lines text)) [] (text_reading text).statements [] at_start (record {
@@ -252,7 +215,11 @@ first_is frames text =
     })
     ∙ sym (meant_keeps (steps_from frames (text_reading text).fault (length (lines text)) [] (text_reading text).statements))
 
--- there is a reason exactly if the program is refused
-pub fault_is : {A : Type 0} (r : Result A (Refusal × ℕ)) (o : Option (Refusal × ℕ)) → o ≡ fault_of r → is_some o ≡ is_err r
+-- there is a first one exactly if the program is refused
+fault_is : {A : Type 0} (r : Result A (Refusal × ℕ)) (o : Option (Refusal × ℕ)) → o ≡ fault_of r → is_some o ≡ is_err r
 fault_is (Ok x) o is = ap is_some is
 fault_is (Err e) o is = ap is_some is
+
+pub refused_is : (frames : List (List ℕ × Point)) (text : List ℕ) (found : List Remark) → found ≡ refusals_of frames text
+    → is_some (first_of found) ≡ is_err (program_of frames text)
+refused_is frames text found is = fault_is (program_of frames text) (first_of found) (ap first_of is ∙ first_is frames text)

@@ -22,17 +22,13 @@ pub use Rattle.fixed_um.specs.declared.lengths.Point.{Point}
 pub use Rattle.program_review.specs.Findings.{remarks_in}
 pub use Rattle.program_review.specs.PlanLines.{HaveLines, IsCarriedBy, IsOn, statement_commands}
 pub use Rattle.program_review.specs.Printed.{array_tokens, finding_lines, findings_tokens, names_of}
-pub use Rattle.program_review.specs.Refusals.{after, after_said, at_start, context_of, due, fault_of, first_of, is_end, is_selection, lacking_said}
-pub use Rattle.program_review.specs.Refusals.{listed, number_at, one_less, one_more, refusals_from, refusals_of, some_tool}
-pub use Rattle.program_review.specs.Remarks.{above, merged, not_above, travel_remark, with_counts}
-pub use Rattle.program_review.specs.StepLacks.{lacks_some}
+pub use Rattle.program_review.specs.Refusals.{after, after_said, at_start, context_of, due, fault_of, first_of, is_selection, lacking_said, listed}
+pub use Rattle.program_review.specs.Refusals.{number_at, one_less, one_more, refusals_from, refusals_of, some_tool}
 pub use Rattle.program_review.specs.TaskLines.{after_touch, command_lines_of, frame_again, frame_line, last_line, lines_of, task_lines_of, task_on}
 pub use Rattle.program_review.specs.TaskLines.{task_said, tool_again, tool_line, touches_left, up_to_touch}
 pub use Rattle.order_parts.specs.Pauses.{Held, place_seen}
-pub use Rattle.program_review.specs.Texts.{place_on, places_below, places_of, text_seen, texts_from}
-pub use Rattle.program_review.specs.Texts.{texts_of}
-pub use Rattle.program_review.specs.Travels.{at_home, is_above, legs_from, travels_in}
-pub use Rattle.program_review.specs.UnderSetup.{is_outside, lack_of, lack_on, lacks_from, recalled, recalls_other, selected_after, when}
+pub use Rattle.program_review.specs.Texts.{place_on, places_below, places_of, text_seen, texts_from, texts_of}
+pub use Rattle.program_review.specs.UnderSetup.{is_end, lacks_from, recalls_other}
 pub use Rattle.program_review.specs.UnusedFrames.{names_recalled, unused_from}
 pub use Rattle.program_review.specs.Variables.{is_fault, is_named, is_no_length, names_by, names_in}
 pub use Rattle.program_review.specs.declared.remarks.Remark.{Remark}

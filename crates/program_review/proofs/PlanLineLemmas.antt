@@ -26,16 +26,11 @@ tool_on : (frames : List (List ℕ × Point)) (all : List Statement) (ss : List 
     → ToolIsOn frames all (tool_behind tool ss) (tool_line line ts)
 tool_on frames all [] [] tool line h is = is
 tool_on frames all [] (t ∷ ts) tool line h is = absurd h
-tool_on frames all (Step.Goto p ∷ ss) [] tool line h is = absurd h
-tool_on frames all (Step.Goto p ∷ ss) (t ∷ ts) tool line h is = rw h.0 (tool_on frames all ss ts tool line h.1.1 is)
 tool_on frames all (Step.Begin l ∷ ss) ts tool line h is = tool_on frames all ss ts tool line h is
-tool_on frames all (Step.Touch x ∷ ss) [] tool line h is = absurd h
-tool_on frames all (Step.Touch x ∷ ss) (t ∷ ts) tool line h is = rw h.0 (tool_on frames all ss ts tool line h.1.1 is)
-tool_on frames all (Step.Tool n ∷ ss) [] tool line h is = absurd h
-tool_on frames all (Step.Tool n ∷ ss) (t ∷ ts) tool line h is = rw h.0 (tool_on frames all ss ts (Some n) (Some t.line) h.1.1 h.1.0)
-tool_on frames all (Step.Recall p ∷ ss) [] tool line h is = absurd h
-tool_on frames all (Step.Recall p ∷ ss) (t ∷ ts) tool line h is = rw h.0 (tool_on frames all ss ts tool line h.1.1 is)
 tool_on frames all (Step.End ∷ ss) ts tool line h is = tool_on frames all ss ts tool line h is
+tool_on frames all (Step.Tool n ∷ ss) (t ∷ ts) tool line h is = rw h.0 (tool_on frames all ss ts (Some n) (Some t.line) h.1.1 h.1.0)
+tool_on frames all (s ∷ ss) [] tool line h is = absurd h
+tool_on frames all (s ∷ ss) (t ∷ ts) tool line h is = rw h.0 (tool_on frames all ss ts tool line h.1.1 is)
 
 -- likewise the frame
 abbrev FrameIsOn : List (List ℕ × Point) → List Statement → Frame → Option ℕ → Type 0
@@ -49,16 +44,11 @@ frame_on : (frames : List (List ℕ × Point)) (all : List Statement) (ss : List
     → FrameIsOn frames all (frame_behind frame ss) (frame_line line ts)
 frame_on frames all [] [] frame line h is = is
 frame_on frames all [] (t ∷ ts) frame line h is = absurd h
-frame_on frames all (Step.Goto p ∷ ss) [] frame line h is = absurd h
-frame_on frames all (Step.Goto p ∷ ss) (t ∷ ts) frame line h is = rw h.0 (frame_on frames all ss ts frame line h.1.1 is)
 frame_on frames all (Step.Begin l ∷ ss) ts frame line h is = frame_on frames all ss ts frame line h is
-frame_on frames all (Step.Touch x ∷ ss) [] frame line h is = absurd h
-frame_on frames all (Step.Touch x ∷ ss) (t ∷ ts) frame line h is = rw h.0 (frame_on frames all ss ts frame line h.1.1 is)
-frame_on frames all (Step.Tool n ∷ ss) [] frame line h is = absurd h
-frame_on frames all (Step.Tool n ∷ ss) (t ∷ ts) frame line h is = rw h.0 (frame_on frames all ss ts frame line h.1.1 is)
-frame_on frames all (Step.Recall p ∷ ss) [] frame line h is = absurd h
-frame_on frames all (Step.Recall p ∷ ss) (t ∷ ts) frame line h is = rw h.0 (frame_on frames all ss ts (Part p) (Some t.line) h.1.1 h.1.0)
 frame_on frames all (Step.End ∷ ss) ts frame line h is = frame_on frames all ss ts frame line h is
+frame_on frames all (Step.Recall p ∷ ss) (t ∷ ts) frame line h is = rw h.0 (frame_on frames all ss ts (Part p) (Some t.line) h.1.1 h.1.0)
+frame_on frames all (s ∷ ss) [] frame line h is = absurd h
+frame_on frames all (s ∷ ss) (t ∷ ts) frame line h is = rw h.0 (frame_on frames all ss ts frame line h.1.1 is)
 
 -- the commands of each part of a plan
 tooling_lines : (frames : List (List ℕ × Point)) (all : List Statement) (tool : Option (List ℕ)) (line : Option ℕ) (ps : List Planned)
@@ -86,17 +76,12 @@ stepping_lines : (frames : List (List ℕ × Point)) (all : List Statement) (fra
     → HaveLines frames all (statement_commands (stepping frame ss ++ ending)) (flat_map lines_of ts)
 stepping_lines frames all frame [] [] h = tt
 stepping_lines frames all frame [] (t ∷ ts) h = absurd h
-stepping_lines frames all frame (Step.Goto p ∷ ss) [] h = absurd h
-stepping_lines frames all frame (Step.Goto p ∷ ss) (t ∷ ts) h = rw h.0 (h.1.0, stepping_lines frames all frame ss ts h.1.1)
 stepping_lines frames all frame (Step.Begin l ∷ ss) ts h = stepping_lines frames all frame ss ts h
-stepping_lines frames all frame (Step.Touch x ∷ ss) [] h = absurd h
-stepping_lines frames all frame (Step.Touch x ∷ ss) (t ∷ ts) h = rw h.0 (h.1.0, stepping_lines frames all frame ss ts h.1.1)
-stepping_lines frames all frame (Step.Tool n ∷ ss) [] h = absurd h
-stepping_lines frames all frame (Step.Tool n ∷ ss) (t ∷ ts) h = rw h.0 (h.1.0, stepping_lines frames all frame ss ts h.1.1)
-stepping_lines frames all frame (Step.Recall p ∷ ss) [] h = absurd h
+stepping_lines frames all frame (Step.End ∷ ss) ts h = stepping_lines frames all frame ss ts h
 stepping_lines frames all frame (Step.Recall p ∷ ss) (t ∷ ts) h =
     rw h.0 (h.1.0.0, (h.1.0.1, stepping_lines frames all (Part p) ss ts h.1.1))
-stepping_lines frames all frame (Step.End ∷ ss) ts h = stepping_lines frames all frame ss ts h
+stepping_lines frames all frame (s ∷ ss) [] h = absurd h
+stepping_lines frames all frame (s ∷ ss) (t ∷ ts) h = rw h.0 (h.1.0, stepping_lines frames all frame ss ts h.1.1)
 
 measuring_lines : (frames : List (List ℕ × Point)) (all : List Statement) (before after : List Step) (n : ℕ) (ts : List TaskLine)
     → AreTasks (StepIsOn frames all) before (up_to_touch n ts) → AreTasks (StepIsOn frames all) after (after_touch n ts)

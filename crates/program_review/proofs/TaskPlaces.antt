@@ -9,24 +9,16 @@ use Rattle.program_review.proofs.TaskSteps.{AreTasks}
 abbrev pub reaches : ℕ → List Step → Bool
 reaches zero ss = true
 reaches (suc k) [] = false
-reaches (suc k) (Step.Goto p ∷ ss) = reaches (suc k) ss
-reaches (suc k) (Step.Begin l ∷ ss) = reaches (suc k) ss
 reaches (suc k) (Step.Touch t ∷ ss) = cond (is_empty (block_touches ss)) (reaches k ss) (reaches (suc k) ss)
-reaches (suc k) (Step.Tool n ∷ ss) = reaches (suc k) ss
-reaches (suc k) (Step.Recall p ∷ ss) = reaches (suc k) ss
-reaches (suc k) (Step.End ∷ ss) = reaches (suc k) ss
+reaches (suc k) (s ∷ ss) = reaches (suc k) ss
 
 abbrev pub count_of : ℕ → List Step → ℕ
 count_of k ss = length (touches_of (up_to k ss))
 
 some_left : (k : ℕ) (ss : List Step) → reaches (suc k) ss ≡ true → 1 ≤ count_of (suc k) ss
 some_left k [] h = absurd cc
-some_left k (Step.Goto p ∷ ss) h = some_left k ss h
-some_left k (Step.Begin l ∷ ss) h = some_left k ss h
 some_left k (Step.Touch t ∷ ss) h = omega arith
-some_left k (Step.Tool n ∷ ss) h = some_left k ss h
-some_left k (Step.Recall p ∷ ss) h = some_left k ss h
-some_left k (Step.End ∷ ss) h = some_left k ss h
+some_left k (s ∷ ss) h = some_left k ss h
 
 abbrev pub Parts : (Step → ℕ → Type 0) → List Step → List Step → ℕ → List TaskLine → Type 0
 Parts on before after n ts = AreTasks on before (up_to_touch n ts) × AreTasks on after (after_touch n ts)
@@ -65,35 +57,20 @@ pub parts : (on : Step → ℕ → Type 0) (k : ℕ) (ss : List Step) (ts : List
     → Parts on (up_to k ss) (behind k ss) (count_of k ss) ts
 parts on zero ss ts r h = (tt, h)
 parts on (suc k) [] ts r h = absurd cc
-parts on (suc k) (Step.Goto p ∷ ss) [] r h = absurd h
-parts on (suc k) (Step.Goto p ∷ ss) (t ∷ ts) r h =
-    let some = some_left k ss r in
-    let same : touches_left t.task (count_of (suc k) ss) ≡ count_of (suc k) ss = rw h.0 refl in
-    let more = parts on (suc k) ss ts r h.1.1 in
-    rw (passed_before (count_of (suc k) ss) t ts some same, passed_after (count_of (suc k) ss) t ts some same)
-    ((h.0, (h.1.0, more.0)), more.1)
 parts on (suc k) (Step.Begin l ∷ ss) ts r h = parts on (suc k) ss ts r h
-parts on (suc k) (Step.Touch x ∷ ss) [] r h = absurd h
+parts on (suc k) (Step.End ∷ ss) ts r h = parts on (suc k) ss ts r h
 parts on (suc k) (Step.Touch x ∷ ss) (t ∷ ts) r h =
     touched on x (cond (is_empty (block_touches ss)) (up_to k ss) (up_to (suc k) ss))
     (cond (is_empty (block_touches ss)) (behind k ss) (behind (suc k) ss)) _ t ts h.0 h.1.0
     (either on (is_empty (block_touches ss)) (reaches k ss) (reaches (suc k) ss) (up_to k ss) (up_to (suc k) ss) (behind k ss)
     (behind (suc k) ss) ts r (λ e. parts on k ss ts e h.1.1) (λ e. parts on (suc k) ss ts e h.1.1))
-parts on (suc k) (Step.Tool n ∷ ss) [] r h = absurd h
-parts on (suc k) (Step.Tool n ∷ ss) (t ∷ ts) r h =
+parts on (suc k) (s ∷ ss) [] r h = absurd h
+parts on (suc k) (s ∷ ss) (t ∷ ts) r h =
     let some = some_left k ss r in
     let same : touches_left t.task (count_of (suc k) ss) ≡ count_of (suc k) ss = rw h.0 refl in
     let more = parts on (suc k) ss ts r h.1.1 in
     rw (passed_before (count_of (suc k) ss) t ts some same, passed_after (count_of (suc k) ss) t ts some same)
     ((h.0, (h.1.0, more.0)), more.1)
-parts on (suc k) (Step.Recall p ∷ ss) [] r h = absurd h
-parts on (suc k) (Step.Recall p ∷ ss) (t ∷ ts) r h =
-    let some = some_left k ss r in
-    let same : touches_left t.task (count_of (suc k) ss) ≡ count_of (suc k) ss = rw h.0 refl in
-    let more = parts on (suc k) ss ts r h.1.1 in
-    rw (passed_before (count_of (suc k) ss) t ts some same, passed_after (count_of (suc k) ss) t ts some same)
-    ((h.0, (h.1.0, more.0)), more.1)
-parts on (suc k) (Step.End ∷ ss) ts r h = parts on (suc k) ss ts r h
 
 -- where the features of a program are completed, that many touches are made
 pub record IsCounted (k : ℕ) (ss : List Step) (n : ℕ) : Type 0 where
@@ -115,12 +92,8 @@ IsNoTouch s = Unit {0}
 
 passed : (s : Step) (k : ℕ) (ss : List Step) (n : ℕ) → IsNoTouch s → IsCounted k ss n → IsCounted k (s ∷ ss) n
 passed s zero ss n quiet h = record { there = refl; count = h.count }
-passed (Step.Goto p) (suc k) ss n quiet h = record { there = h.there; count = h.count }
-passed (Step.Begin l) (suc k) ss n quiet h = record { there = h.there; count = h.count }
 passed (Step.Touch t) (suc k) ss n quiet h = absurd quiet
-passed (Step.Tool m) (suc k) ss n quiet h = record { there = h.there; count = h.count }
-passed (Step.Recall p) (suc k) ss n quiet h = record { there = h.there; count = h.count }
-passed Step.End (suc k) ss n quiet h = record { there = h.there; count = h.count }
+passed s (suc k) ss n quiet h = record { there = h.there; count = h.count }
 
 passed_within : (s : Step) (k : ℕ) (ss : List Step) (features : List Wanted) (rest : List Touch) → IsNoTouch s → Inner k ss features rest
     → Inner k (s ∷ ss) features rest
@@ -150,12 +123,10 @@ touch_counted n t ss h k (x ∷ rest) few e =
 -- a block that has no touch yet has one to come
 has_touch : (ss : List Step) → AreBlocks (Some 0) ss → block_touches ss ≡ [] → ⊥
 has_touch [] h e = absurd h
-has_touch (Step.Goto p ∷ ss) h e = has_touch ss h e
 has_touch (Step.Begin l ∷ ss) h e = absurd h
 has_touch (Step.Touch t ∷ ss) h e = absurd cc
-has_touch (Step.Tool n ∷ ss) h e = has_touch ss h e
-has_touch (Step.Recall p ∷ ss) h e = has_touch ss h e
 has_touch (Step.End ∷ ss) h e = absurd (omega (arith, h.0))
+has_touch (s ∷ ss) h e = has_touch ss h e
 
 begun : (l : List ℕ) (k : ℕ) (ss : List Step) (rest : List Touch) → AreBlocks (Some 0) ss → block_touches ss ≡ rest
     → Inner k ss (features_of ss) rest
@@ -181,16 +152,12 @@ none_counted (suc k) few = absurd (omega (arith, few))
 
 pub counted : (o : Option ℕ) (ss : List Step) → AreBlocks o ss → Counted o ss
 counted None [] h = none_counted
-counted None (Step.Goto p ∷ ss) h = λ k few. passed (Step.Goto p) k ss _ tt (counted None ss h k few)
 counted None (Step.Begin l ∷ ss) h = begin_counted l ss h (counted (Some 0) ss h)
 counted None (Step.Touch t ∷ ss) h = absurd h
-counted None (Step.Tool n ∷ ss) h = λ k few. passed (Step.Tool n) k ss _ tt (counted None ss h k few)
-counted None (Step.Recall p ∷ ss) h = λ k few. passed (Step.Recall p) k ss _ tt (counted None ss h k few)
 counted None (Step.End ∷ ss) h = absurd h
+counted None (s ∷ ss) h = λ k few. passed s k ss _ tt (counted None ss h k few)
 counted (Some n) [] h = absurd h
-counted (Some n) (Step.Goto p ∷ ss) h = λ k rest few e. passed_within (Step.Goto p) k ss _ rest tt (counted (Some n) ss h k rest few e)
 counted (Some n) (Step.Begin l ∷ ss) h = absurd h
 counted (Some n) (Step.Touch t ∷ ss) h = touch_counted n t ss (counted (Some (n + 1)) ss h)
-counted (Some n) (Step.Tool m ∷ ss) h = λ k rest few e. passed_within (Step.Tool m) k ss _ rest tt (counted (Some n) ss h k rest few e)
-counted (Some n) (Step.Recall p ∷ ss) h = λ k rest few e. passed_within (Step.Recall p) k ss _ rest tt (counted (Some n) ss h k rest few e)
 counted (Some n) (Step.End ∷ ss) h = end_counted n ss (counted None ss h.1)
+counted (Some n) (s ∷ ss) h = λ k rest few e. passed_within s k ss _ rest tt (counted (Some n) ss h k rest few e)

@@ -39,31 +39,20 @@ AreTasks on (Step.End ∷ ss) ts = AreTasks on ss ts
 -- with one statement more they still are
 step_stays : (frames : List (List ℕ × Point)) (s : Statement) (statements : List Statement) (one : Step) (line : ℕ)
     → StepIsOn frames statements one line → StepIsOn frames (s ∷ statements) one line
-step_stays frames s statements (Step.Goto p) line h = inr h
 step_stays frames s statements (Step.Begin l) line h = tt
-step_stays frames s statements (Step.Touch t) line h = inr h
-step_stays frames s statements (Step.Tool n) line h = inr h
 step_stays frames s statements (Step.Recall p) line h = (inr h.0, inr h.1)
 step_stays frames s statements Step.End line h = tt
+step_stays frames s statements one line h = inr h
 
 tasks_stay : (frames : List (List ℕ × Point)) (s : Statement) (statements : List Statement) (ss : List Step) (ts : List TaskLine)
     → AreTasks (StepIsOn frames statements) ss ts → AreTasks (StepIsOn frames (s ∷ statements)) ss ts
 tasks_stay frames s statements [] [] h = tt
 tasks_stay frames s statements [] (t ∷ ts) h = absurd h
-tasks_stay frames s statements (Step.Goto p ∷ ss) [] h = absurd h
-tasks_stay frames s statements (Step.Goto p ∷ ss) (t ∷ ts) h =
-    (h.0, (step_stays frames s statements (Step.Goto p) t.line h.1.0, tasks_stay frames s statements ss ts h.1.1))
 tasks_stay frames s statements (Step.Begin l ∷ ss) ts h = tasks_stay frames s statements ss ts h
-tasks_stay frames s statements (Step.Touch x ∷ ss) [] h = absurd h
-tasks_stay frames s statements (Step.Touch x ∷ ss) (t ∷ ts) h =
-    (h.0, (step_stays frames s statements (Step.Touch x) t.line h.1.0, tasks_stay frames s statements ss ts h.1.1))
-tasks_stay frames s statements (Step.Tool n ∷ ss) [] h = absurd h
-tasks_stay frames s statements (Step.Tool n ∷ ss) (t ∷ ts) h =
-    (h.0, (step_stays frames s statements (Step.Tool n) t.line h.1.0, tasks_stay frames s statements ss ts h.1.1))
-tasks_stay frames s statements (Step.Recall p ∷ ss) [] h = absurd h
-tasks_stay frames s statements (Step.Recall p ∷ ss) (t ∷ ts) h =
-    (h.0, (step_stays frames s statements (Step.Recall p) t.line h.1.0, tasks_stay frames s statements ss ts h.1.1))
 tasks_stay frames s statements (Step.End ∷ ss) ts h = tasks_stay frames s statements ss ts h
+tasks_stay frames s statements (one ∷ ss) [] h = absurd h
+tasks_stay frames s statements (one ∷ ss) (t ∷ ts) h =
+    (h.0, (step_stays frames s statements one t.line h.1.0, tasks_stay frames s statements ss ts h.1.1))
 
 -- the task of an accepted statement is its step
 carried : (frames : List (List ℕ × Point)) (s : Statement) (statements : List Statement) (m : StatementMeaning) (c : Command)
@@ -103,16 +92,13 @@ own_tasks : (frames : List (List ℕ × Point)) (c : Context) (s : Statement) (s
     → AreTasks (StepIsOn frames (s ∷ statements)) (steps_of frames c m ++ later) (task_on s.line (task_said (Some m)) ++ ts)
 own_tasks frames c s statements (StatementMeaning.Goes target) later ts found is h =
     (refl, (carried frames s statements (StatementMeaning.Goes target) _ is refl, h))
-own_tasks frames c s statements (StatementMeaning.Begins name n) later ts found is h = h
 own_tasks frames c s statements (StatementMeaning.Touches target direction) later ts found is h =
     touch_task frames s statements c.tool c target direction later ts found is h
-own_tasks frames c s statements StatementMeaning.Ends later ts found is h = h
 own_tasks frames c s statements (StatementMeaning.Selects name) later ts found is h =
     (refl, (carried frames s statements (StatementMeaning.Selects name) _ is refl, h))
 own_tasks frames c s statements (StatementMeaning.Recalls name) later ts found is h =
     recall_task frames s statements name (offset_of frames name) later ts refl found is h
-own_tasks frames c s statements StatementMeaning.Closes later ts found is h = h
-own_tasks frames c s statements StatementMeaning.Passes later ts found is h = h
+own_tasks frames c s statements m later ts found is h = h
 
 -- one statement, and those after it
 goes_on : (on : Step → ℕ → Type 0) (closed : Bool) (own : List Step) (behind : Result (List Step) (Refusal × ℕ)) (steps : List Step)

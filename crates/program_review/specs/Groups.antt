@@ -1,6 +1,6 @@
 -- What a refused statement is for: what deleting it would change (the words are those of ISO 22093; the groups are this profile's). One table:
--- coordinate systems are changed by `coordinates` and by each `RECALL` that is refused, motion by `moving`, what is measured by `measuring`,
--- `branching` and `calling`, lengths by `compensating`, and nothing of it by `identifying` and `reporting`. Of the statements that are passed
+-- coordinate systems are changed by `coordinates` and by each `RECALL` that is refused, motion by `moving`, what is measured by `measuring`
+-- and `deciding`, lengths by `compensating`, and nothing of it by `bookkeeping`. Of the statements that are passed
 -- over none changes a coordinate system (`Notices`). Any other word, as `DMESW`, `PSTHRU` or `DELETE`, may do anything.
 use Rattle.std.specs.Prelude.{ℕ, Bool, true, false, ◌||◌, ◌==◌, List, [], ◌∷◌, codes, if◌then◌else◌}
 use Rattle.dmis_program.specs.Keywords.{keyword_of, is_among}
@@ -11,16 +11,13 @@ use Rattle.dmis_program.specs.declared.keywords.Keyword.TheVariants as word
 use Rattle.program_review.specs.declared.groups.Group.{Group}
 use Rattle.program_review.specs.declared.groups.Group.TheVariants as group
 
--- words that identify; and those that print, keep or evaluate
-abbrev pub identifying : List (List ℕ)
-identifying = codes "CLMPID" ∷ (codes "CLMPSN" ∷ (codes "DMEID" ∷ (codes "FIXTID" ∷ (codes "FIXTSN" ∷ (codes "LOTID"
+-- words that identify, print, keep or evaluate
+abbrev pub bookkeeping : List (List ℕ)
+bookkeeping = codes "CLMPID" ∷ (codes "CLMPSN" ∷ (codes "DMEID" ∷ (codes "FIXTID" ∷ (codes "FIXTSN" ∷ (codes "LOTID"
     ∷ (codes "MFGDEV" ∷ (codes "OPERID" ∷ (codes "PARTID" ∷ (codes "PARTRV" ∷ (codes "PARTSN" ∷ (codes "PLANID"
-    ∷ (codes "PREVOP" ∷ (codes "PROCID" ∷ (codes "QISDEF" ∷ []))))))))))))))
-
-abbrev pub reporting : List (List ℕ)
-reporting = codes "BOUND" ∷ (codes "CLOSE" ∷ (codes "CONST" ∷ (codes "DECPL" ∷ (codes "DEVICE" ∷ (codes "EVAL"
-    ∷ (codes "GEOALG" ∷ (codes "KEYCHAR" ∷ (codes "OPEN" ∷ (codes "RAWDAT" ∷ (codes "REPORT" ∷ (codes "VFORM"
-    ∷ (codes "WRITE" ∷ []))))))))))))
+    ∷ (codes "PREVOP" ∷ (codes "PROCID" ∷ (codes "QISDEF" ∷ (codes "BOUND" ∷ (codes "CLOSE" ∷ (codes "CONST"
+    ∷ (codes "DECPL" ∷ (codes "DEVICE" ∷ (codes "EVAL" ∷ (codes "GEOALG" ∷ (codes "KEYCHAR" ∷ (codes "OPEN"
+    ∷ (codes "RAWDAT" ∷ (codes "REPORT" ∷ (codes "VFORM" ∷ (codes "WRITE" ∷ [])))))))))))))))))))))))))))
 
 -- words that set up, keep or change a coordinate system, or select another carriage, or turn the part
 abbrev pub coordinates : List (List ℕ)
@@ -35,15 +32,12 @@ measuring = codes "ALGDEF" ∷ (codes "CALIB" ∷ (codes "FILDEF" ∷ (codes "LI
     ∷ (codes "THLDEF" ∷ (codes "WINDEF" ∷ (codes "XTRACT" ∷ []))))))))))))))
 
 -- words that decide which statements come next, or compute what they need
-abbrev pub branching : List (List ℕ)
-branching = codes "BADTST" ∷ (codes "CASE" ∷ (codes "DFTCAS" ∷ (codes "DMIS" ∷ (codes "DO" ∷ (codes "ELSE"
+abbrev pub deciding : List (List ℕ)
+deciding = codes "BADTST" ∷ (codes "CASE" ∷ (codes "DFTCAS" ∷ (codes "DMIS" ∷ (codes "DO" ∷ (codes "ELSE"
     ∷ (codes "ENDCAS" ∷ (codes "ENDDO" ∷ (codes "ENDIF" ∷ (codes "ENDSEL" ∷ (codes "IF" ∷ (codes "JUMPTO"
-    ∷ (codes "RESUME" ∷ (codes "SELECT" ∷ [])))))))))))))
-
-abbrev pub calling : List (List ℕ)
-calling = codes "ASSIGN" ∷ (codes "CALL" ∷ (codes "DECL" ∷ (codes "DMISMD" ∷ (codes "ENDMAC" ∷ (codes "ENDXTN"
-    ∷ (codes "ERROR" ∷ (codes "EXTFIL" ∷ (codes "INCLUD" ∷ (codes "MACRO" ∷ (codes "OBTAIN" ∷ (codes "PROMPT"
-    ∷ (codes "READ" ∷ (codes "VALUE" ∷ (codes "XTERN" ∷ []))))))))))))))
+    ∷ (codes "RESUME" ∷ (codes "SELECT" ∷ (codes "ASSIGN" ∷ (codes "CALL" ∷ (codes "DECL" ∷ (codes "DMISMD"
+    ∷ (codes "ENDMAC" ∷ (codes "ENDXTN" ∷ (codes "ERROR" ∷ (codes "EXTFIL" ∷ (codes "INCLUD" ∷ (codes "MACRO"
+    ∷ (codes "OBTAIN" ∷ (codes "PROMPT" ∷ (codes "READ" ∷ (codes "VALUE" ∷ (codes "XTERN" ∷ []))))))))))))))))))))))))))))
 
 -- words that move the machine, or say how it moves
 abbrev pub moving : List (List ℕ)
@@ -63,10 +57,10 @@ is_jump_label (first ∷ rest) = first == 40
 -- the group of a word that this profile does not read
 unfoldable pub word_group : List ℕ → Group
 word_group text =
-    if is_among text identifying || is_among text reporting then group.Bookkeeping else
+    if is_among text bookkeeping then group.Bookkeeping else
     if is_among text coordinates then group.Coordinates else
     if is_among text measuring then group.Measuring else
-    if is_among text branching || (is_among text calling || is_jump_label text) then group.Flow else
+    if is_among text deciding || is_jump_label text then group.Flow else
     if is_among text moving then group.Motion else
     if is_among text compensating then group.Lengths else group.Other
 

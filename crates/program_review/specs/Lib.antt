@@ -5,7 +5,6 @@ pub mod Readings
 pub mod Refusals
 pub mod Notices
 pub mod UnderSetup
-pub mod StepLacks
 pub mod Groups
 pub mod Strays
 pub mod Travels

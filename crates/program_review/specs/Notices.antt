@@ -1,15 +1,17 @@
 -- Statements that a review notices although they are accepted: those that are passed over though they change how the machine moves, what nominal values
 -- mean or what an operator must do, and those that are probably not meant (ISO 22093; which they are is this profile's).
-use Rattle.std.specs.Prelude.{ℕ, Bool, false, ◌&&◌, ◌||◌, List, [], ◌∷◌, codes, Option, Some, None, if◌then◌else◌}
+use Rattle.std.specs.Prelude.{Bool, false, ◌||◌, ℕ, List, [], ◌∷◌, ◌++◌, codes, Option, Some, None, if◌then◌else◌}
 use Rattle.std.specs.Str.{bytes_eq}
 use Rattle.dmis_text.specs.declared.elements.Statement.{Statement}
 use Rattle.dmis_program.specs.Keywords.{keyword_of}
 use Rattle.dmis_program.specs.Sayings.{is_badly_formed}
-use Rattle.dmis_program.specs.declared.keywords.Keyword.{Keyword}
 use Rattle.dmis_program.specs.declared.keywords.Keyword.TheVariants as word
+use Rattle.program_review.specs.Remarks.{remark_on}
+use Rattle.program_review.specs.UnderSetup.{is_end}
 use Rattle.program_review.specs.declared.notices.Passed.{Passed}
 use Rattle.program_review.specs.declared.notices.Passed.TheVariants as passed
 use Rattle.program_review.specs.declared.remarks.Remark.{Remark}
+use Rattle.program_review.specs.declared.remarks.What.{What}
 use Rattle.program_review.specs.declared.remarks.What.TheVariants as what
 
 -- the first parameter is this word
@@ -47,21 +49,15 @@ passed_word text params =
     if bytes_eq text (codes "ACLRAT") then Some passed.Acceleration else
     if bytes_eq text (codes "TEXT") then text_meaning params else None
 
+abbrev pub as_what : Option Passed → Option What
+as_what None = None
+as_what (Some change) = Some (what.Passed change)
+
 -- what a statement changes that is passed over; none if it is refused for its form
-abbrev pub passed_over : Statement → Option Passed
-passed_over s = if is_badly_formed word.Passed s then None else passed_word s.word s.params
+abbrev pub passed_over : Statement → Option What
+passed_over s = if is_badly_formed word.Passed s then None else as_what (passed_word s.word s.params)
 
--- before what the statements after it give
-abbrev pub with_passed : Option Passed → ℕ → List Remark → List Remark
-with_passed None line behind = behind
-with_passed (Some change) line behind = record { what = what.Passed change; line = line } ∷ behind
-
--- nothing counts after `ENDFIL`
-abbrev pub noticed : Keyword → Option Passed → ℕ → List Remark → List Remark
-noticed word.Endfil what line behind = []
-noticed _ what line behind = with_passed what line behind
-
--- each statement that is passed over and changes something, with its line, in order
+-- each statement that is passed over and changes something, with its line, in order, up to the first `ENDFIL`
 abbrev pub notices_of : List Statement → List Remark
 notices_of [] = []
-notices_of (s ∷ statements) = noticed (keyword_of s.word) (passed_over s) s.line (notices_of statements)
+notices_of (s ∷ statements) = if is_end (keyword_of s.word) then [] else remark_on s.line (passed_over s) ++ notices_of statements

@@ -1,12 +1,10 @@
 -- How findings are printed (this profile): a line each, or an array of objects as JSON (RFC 8259).
-use Rattle.std.specs.Prelude.{ℕ, List, [], ◌∷◌, ◌++◌, codes, decimal, Option, Some, None, not, ◌==◌}
+use Rattle.std.specs.Prelude.{ℕ, List, [], ◌∷◌, ◌++◌, codes, decimal, string_bytes, Option, Some, None, not, ◌==◌}
 use Rattle.std.specs.List.{take_while}
-use Rattle.std.specs.Str.Lossy.{utf8_lossy}
 use Rattle.json.specs.Print.{print}
 use Rattle.json.specs.Token.{Token, begin_array, end_array, begin_object, end_object, key, string, number, null}
 use Rattle.dmis_program.specs.Messages.{refusal_text}
-use Rattle.program_review.specs.Findings.{FindingValue}
-use Rattle.program_review.specs.declared.remarks.Remark.{Remark}
+use Rattle.program_review.specs.declared.remarks.Finding.{Finding}
 use Rattle.program_review.specs.declared.remarks.What.{What}
 use Rattle.program_review.specs.declared.remarks.What.TheVariants as what
 use Rattle.program_review.specs.declared.printing.FindingForm.{FindingForm}
@@ -54,15 +52,11 @@ abbrev pub title_text : Option (List ℕ) → List ℕ
 title_text (Some title) = title ++ codes ": "
 title_text None = []
 
--- the text before the sentence of a finding
-unfoldable pub front_text : Names → Remark → List ℕ
-front_text names r = file_of names r.what ++ (number_text (line_of r.what r.line) ++ (codes ": " ++ (kind_text r.what ++ (codes ": "
-    ++ title_text (title_of r.what)))))
+unfoldable pub finding_line : Names → Finding → List ℕ
+finding_line names f = file_of names f.remark.what ++ (number_text (line_of f.remark.what f.remark.line) ++ (codes ": " ++ (kind_text f.remark.what
+    ++ (codes ": " ++ (title_text (title_of f.remark.what) ++ (string_bytes f.said ++ codes "\n"))))))
 
-abbrev pub finding_line : Names → FindingValue → List ℕ
-finding_line names f = front_text names f.remark ++ (f.said ++ codes "\n")
-
-abbrev pub finding_lines : Names → List FindingValue → List ℕ
+abbrev pub finding_lines : Names → List Finding → List ℕ
 finding_lines names [] = []
 finding_lines names (f ∷ findings) = finding_line names f ++ finding_lines names findings
 
@@ -78,21 +72,21 @@ abbrev pub code_member : Option (List ℕ) → List Token
 code_member (Some title) = key (codes "code") ∷ string (take_while (λ c. not (c == 32)) title) ∷ []
 code_member None = key (codes "code") ∷ null ∷ []
 
--- the object of a finding; bytes of a sentence that are not UTF-8 are replaced
-unfoldable pub finding_tokens : Names → FindingValue → List Token
+-- the object of a finding
+unfoldable pub finding_tokens : Names → Finding → List Token
 finding_tokens names f = begin_object ∷ ((key (codes "file") ∷ string (file_of names f.remark.what) ∷ [])
     ++ (line_member (line_of f.remark.what f.remark.line) ++ ((key (codes "kind") ∷ string (kind_text f.remark.what) ∷ [])
-    ++ (code_member (title_of f.remark.what) ++ ((key (codes "text") ∷ string (utf8_lossy f.said) ∷ []) ++ end_object ∷ [])))))
+    ++ (code_member (title_of f.remark.what) ++ ((key (codes "text") ∷ string (string_bytes f.said) ∷ []) ++ end_object ∷ [])))))
 
-abbrev pub findings_tokens : Names → List FindingValue → List Token
+abbrev pub findings_tokens : Names → List Finding → List Token
 findings_tokens names [] = []
 findings_tokens names (f ∷ findings) = finding_tokens names f ++ findings_tokens names findings
 
-abbrev pub array_tokens : Names → List FindingValue → List Token
+abbrev pub array_tokens : Names → List Finding → List Token
 array_tokens names findings = begin_array ∷ (findings_tokens names findings ++ end_array ∷ [])
 
 -- ---- in a form
 
-abbrev pub printed : FindingForm → Names → List FindingValue → List ℕ
+abbrev pub printed : FindingForm → Names → List Finding → List ℕ
 printed form.Lines names findings = finding_lines names findings
 printed form.Json names findings = print (array_tokens names findings) ++ codes "\n"

@@ -20,6 +20,7 @@ use Rattle.dmis_program.specs.declared.keywords.Keyword.{Keyword}
 use Rattle.dmis_program.specs.declared.keywords.Keyword.TheVariants as word
 use Rattle.dmis_program.specs.declared.sayings.StatementMeaning.{StatementMeaning}
 use Rattle.dmis_program.specs.declared.sayings.StatementMeaning.TheVariants as said
+use Rattle.program_review.specs.UnderSetup.{is_end}
 use Rattle.program_review.specs.Variables.{names_by, group_below}
 use Rattle.program_review.specs.declared.groups.Group.{Group}
 use Rattle.program_review.specs.declared.groups.Group.TheVariants as group
@@ -120,11 +121,6 @@ after_refused standing keyword refusal = record {
   has_tool = standing.has_tool || (is_tool_word keyword || is_no_tool refusal);
   lacking = lacking_passed keyword standing.lacking;
 }
-
--- `ENDFIL` ends the program, refused or not
-abbrev pub is_end : Keyword → Bool
-is_end word.Endfil = true
-is_end _ = false
 
 -- a refusal on its line, of a statement of this group
 abbrev pub found_at : Group → Refusal × ℕ → Remark

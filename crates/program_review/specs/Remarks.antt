@@ -1,43 +1,43 @@
 -- What a review remarks on, in the order of the program's lines (this profile).
-use Rattle.std.specs.Prelude.{ℕ, List, [], ◌∷◌, ◌++◌, map, nat_lt, if◌then◌else◌}
-use Rattle.program_review.specs.Travels.{replaced}
+use Rattle.std.specs.Prelude.{ℕ, ◌+◌, Bool, true, false, List, [], ◌∷◌, Option, Some, None, if◌then◌else◌}
+use Rattle.std.specs.Ordering.{nat_cmp}
+use Rattle.std.specs.List.Sorted.{IsPermutation, IsNonDecreasingBy, IsStableByKey}
 use Rattle.program_review.specs.declared.notices.Passed.TheVariants as passed
-use Rattle.program_review.specs.declared.travels.Travel.{Travel}
 use Rattle.program_review.specs.declared.remarks.Remark.{Remark}
 use Rattle.program_review.specs.declared.remarks.What.{What}
 use Rattle.program_review.specs.declared.remarks.What.TheVariants as what
 
--- a straight travel is remarked on where it leads to, with the line from which it comes
-abbrev pub travel_remark : Travel → Remark
-travel_remark t = record { what = what.Straight t.last.line; line = t.first.line }
+-- what is remarked on a line, if there is something
+abbrev pub remark_on : ℕ → Option What → List Remark
+remark_on line None = []
+remark_on line (Some what) = record { what = what; line = line } ∷ []
 
--- what is passed over: a statement on clearing with the number of straight travels that it would have replaced
-abbrev pub with_count : What → ℕ → What
-with_count (what.Passed passed.Clearing) count = what.Clearing count
-with_count other count = other
+-- the remarks are all that are listed, in the order of their lines; on one line they come as they are listed
+pub record AreByLine (listed remarks : List Remark) : Type 0 where
+  pub same : IsPermutation listed remarks
+  pub ordered : IsNonDecreasingBy (λ (r : Remark). r.line) remarks
+  pub stable : IsStableByKey (λ (r : Remark). r.line) nat_cmp listed remarks
 
-unfoldable pub counted_remark : List Travel → Remark → List Remark → Remark
-counted_remark travels n later = record { what = with_count n.what (replaced travels n.line later); line = n.line }
+-- a statement says that the probe clears the part, or that it does so no longer
+abbrev pub is_clearing : What → Bool
+is_clearing (what.Passed passed.Clearing) = true
+is_clearing (what.Passed passed.ClearingOff) = true
+is_clearing _ = false
 
-abbrev pub with_counts : List Travel → List Remark → List Remark
-with_counts travels [] = []
-with_counts travels (n ∷ later) = counted_remark travels n later ∷ with_counts travels later
+abbrev pub one_straight : What → ℕ
+one_straight (what.Straight travel) = 1
+one_straight _ = 0
 
--- those before the first that is not above a line, and those from it on
-abbrev pub above : ℕ → List Remark → List Remark
-above line [] = []
-above line (one ∷ more) = if nat_lt one.line line then one ∷ above line more else []
+-- how many straight travels come before the next statement on clearing
+abbrev pub straights : List Remark → ℕ
+straights [] = 0
+straights (r ∷ later) = if is_clearing r.what then 0 else one_straight r.what + straights later
 
-abbrev pub not_above : ℕ → List Remark → List Remark
-not_above line [] = []
-not_above line (one ∷ more) = if nat_lt one.line line then not_above line more else one ∷ more
+-- a statement on clearing is remarked on with the number of straight travels that it would have replaced
+abbrev pub counted : What → List Remark → What
+counted (what.Passed passed.Clearing) later = what.Clearing (straights later)
+counted other later = other
 
--- before each of the first come those of the others that are on lines above its own
-abbrev pub merged : List Remark → List Remark → List Remark
-merged [] others = others
-merged (one ∷ more) others = above one.line others ++ (one ∷ merged more (not_above one.line others))
-
--- refusals come first on their line, then what is passed over, then what the setup lacks, then straight travels to it, then what is odd
-abbrev pub remarks_of : (refused passed lacks : List Remark) → List Travel → List Remark → List Remark
-remarks_of refused passed lacks travels odd = merged refused
-    (merged (merged (with_counts travels passed) lacks) (merged (map travel_remark travels) odd))
+abbrev pub with_counts : List Remark → List Remark
+with_counts [] = []
+with_counts (r ∷ later) = record { what = counted r.what later; line = r.line } ∷ with_counts later

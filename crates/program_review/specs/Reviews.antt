@@ -1,5 +1,5 @@
 -- The report of a review (this profile). Free are the sentences, and which statements are odd.
-use Rattle.std.specs.Prelude.{◌≡◌, ℕ, List, [], ◌++◌, map, Option, Some, None}
+use Rattle.std.specs.Prelude.{◌≡◌, ℕ, List, [], ◌++◌, Option, Some, None}
 use Rattle.std.specs.Str.Lines.{lines}
 use Rattle.dmis_text.specs.Reading.{text_reading}
 use Rattle.dmis_text.specs.declared.elements.Statement.{Statement}
@@ -10,10 +10,11 @@ use Rattle.program_review.specs.Refusals.{refusals_of}
 use Rattle.program_review.specs.Travels.{travels_of}
 use Rattle.program_review.specs.UnderSetup.{lacks_of}
 use Rattle.program_review.specs.UnusedFrames.{names_recalled, unused_from}
-use Rattle.program_review.specs.Findings.{FindingValue, remarks_in}
-use Rattle.program_review.specs.Remarks.{remarks_of}
+use Rattle.program_review.specs.Findings.{remarks_in}
+use Rattle.program_review.specs.Remarks.{AreByLine, with_counts}
 use Rattle.program_review.specs.Printed.{Names, printed}
 use Rattle.program_review.specs.Summary.{order, sums_in}
+use Rattle.program_review.specs.declared.remarks.Finding.{Finding}
 use Rattle.program_review.specs.declared.remarks.Remark.{Remark}
 use Rattle.program_review.specs.declared.printing.FindingForm.{FindingForm}
 
@@ -40,22 +41,24 @@ lacks_under (Some setup) statements = lacks_of setup.tools setup.frames statemen
 abbrev pub unused : ReviewTexts → List Remark
 unused texts = unused_from (names_recalled (text_reading texts.program).statements) 0 (lines texts.stored)
 
--- the remarks on a program under these frames, where the setup lacks this
-pub record AreRemarks (frames : List (List ℕ × Point)) (program : List ℕ) (lacks : List Remark) (remarks : List Remark) : Type 0 where
+-- what is remarked on a program with these statements: what comes first on a line is listed before the others
+abbrev pub all_listed : Option SetupValue → List ℕ → List Statement → (odd : List Remark) → List Remark
+all_listed setup program statements odd = (((refusals_of (frames_under setup) program ++ notices_of statements)
+    ++ lacks_under setup statements) ++ travels_of (frames_under setup) statements) ++ odd
+
+pub record AreRemarks (setup : Option SetupValue) (program : List ℕ) (remarks : List Remark) : Type 0 where
   pub odd : List Remark
-  pub all : remarks ≡ remarks_of (refusals_of frames program) (notices_of (text_reading program).statements) lacks
-      (travels_of frames (text_reading program).statements) odd
+  pub by_line : AreByLine (all_listed setup program (text_reading program).statements odd) remarks
 
 -- what is found: in the order of the program's lines all its refusals, all that is passed over, all that the setup lacks, all straight
--- travels and what is odd;
--- then each line of the setup with a frame that is not recalled; then each group of refused statements that has some
-pub record AreFindings (texts : ReviewTexts) (findings : List FindingValue) : Type 0 where
+-- travels and what is odd; then each line of the setup with a frame that is not recalled; then each group of refused statements that has some
+pub record AreFindings (texts : ReviewTexts) (findings : List Finding) : Type 0 where
   pub remarks : List Remark
-  pub are_remarks : AreRemarks (frames_under texts.setup) texts.program (lacks_under texts.setup (text_reading texts.program).statements) remarks
-  pub all : remarks_in findings ≡ (remarks ++ unused texts) ++ sums_in (refusals_of (frames_under texts.setup) texts.program) order
+  pub are_remarks : AreRemarks texts.setup texts.program remarks
+  pub all : remarks_in findings ≡ (with_counts remarks ++ unused texts) ++ sums_in (refusals_of (frames_under texts.setup) texts.program) order
 
 -- the findings are printed in this form, under these names
 pub record IsReport (form : FindingForm) (names : Names) (texts : ReviewTexts) (text : List ℕ) : Type 0 where
-  pub findings : List FindingValue
+  pub findings : List Finding
   pub found : AreFindings texts findings
   pub printed : text ≡ printed form names findings

@@ -1,7 +1,6 @@
 -- The straight travels of a program: from the last touch of a feature to the first touch of the next one, with no `GOTO` between (ISO 22093; that
 -- a client makes no other move there is this profile). A block with an accepted touch is a feature.
-use Rattle.std.specs.Prelude.{◌≤◌, ◌<◌, ◌+◌, ◌*◌, ℕ, Bool, true, false, not, ◌&&◌, List, [], ◌∷◌, ◌++◌, codes, Option, Some, None, is_some, ℤ, pos, ◌-ℤ◌, unsigned_abs}
-use Rattle.std.specs.Prelude.{nat_lt, ◌==◌, count_by, if◌then◌else◌}
+use Rattle.std.specs.Prelude.{◌≤◌, ◌<◌, ◌+◌, ◌*◌, ◌==◌, ℤ, ◌-ℤ◌, unsigned_abs, ℕ, Bool, true, false, List, [], ◌∷◌, ◌++◌, codes, Option, Some, None, pos, if◌then◌else◌}
 use Rattle.dmis_text.specs.declared.elements.Statement.{Statement}
 use Rattle.fixed_um.specs.Points.{zero_point, point_sum}
 use Rattle.fixed_um.specs.declared.lengths.Point.{Point}
@@ -13,25 +12,22 @@ use Rattle.dmis_program.specs.declared.sayings.StatementMeaning.{StatementMeanin
 use Rattle.dmis_program.specs.declared.sayings.StatementMeaning.TheVariants as said
 use Rattle.program_review.specs.Groups.{coordinates}
 use Rattle.program_review.specs.PlanLines.{unlabelled}
+use Rattle.program_review.specs.Remarks.{remark_on}
 use Rattle.program_review.specs.UnderSetup.{meaning_with, is_end}
 use Rattle.program_review.specs.declared.remarks.Remark.{Remark}
 use Rattle.program_review.specs.declared.remarks.What.{What}
 use Rattle.program_review.specs.declared.remarks.What.TheVariants as what
-use Rattle.program_review.specs.declared.notices.Passed.{Passed}
-use Rattle.program_review.specs.declared.notices.Passed.TheVariants as passed
-use Rattle.program_review.specs.declared.travels.Leg.{Leg}
 use Rattle.program_review.specs.declared.travels.Stop.{Stop}
 use Rattle.program_review.specs.declared.travels.Travel.{Travel}
 use Rattle.program_review.specs.declared.travels.Way.{Way}
 
 -- before any statement the machine's own coordinates are selected, no block is open, and where the probe is, is not known
 abbrev pub at_home : Way
-at_home = record { zero = Some zero_point; set_on = 0; is_open = false; is_clear = false; has_begun = false }
+at_home = record { zero = Some zero_point; set_on = 0; is_open = false; has_begun = false; last = None }
 
 -- after the statement of a line selects coordinates with this zero point, if it is known
 abbrev pub way_selected : Way → Option Point → ℕ → Way
-way_selected way zero line =
-    record { zero = zero; set_on = line; is_open = way.is_open; is_clear = way.is_clear; has_begun = way.has_begun }
+way_selected way zero line = record { zero = zero; set_on = line; is_open = way.is_open; has_begun = way.has_begun; last = way.last }
 
 -- after a `RECALL` on a line: of a stored frame, refused, or of no frame
 abbrev pub way_recalled : List (List ℕ × Point) → Way → ℕ → Option StatementMeaning → Way
@@ -41,15 +37,20 @@ way_recalled frames way line (Some meaning) = way
 
 -- after a `MEAS`, and after an `ENDMES`
 abbrev pub way_begun : Way → Way
-way_begun way = record { zero = way.zero; set_on = way.set_on; is_open = true; is_clear = way.is_clear; has_begun = true }
+way_begun way = record { zero = way.zero; set_on = way.set_on; is_open = true; has_begun = true; last = way.last }
 
 abbrev pub way_ended : Way → Way
-way_ended way = record { zero = way.zero; set_on = way.set_on; is_open = false; is_clear = way.is_clear; has_begun = way.has_begun }
+way_ended way = record { zero = way.zero; set_on = way.set_on; is_open = false; has_begun = way.has_begun; last = way.last }
+
+-- the touch at this target on a line
+abbrev pub stop_at : Way → ℕ → Point → Stop
+stop_at way line target = record { line = line; target = target; zero = way.zero; set_on = way.set_on }
 
 -- after a move, or a touch whose place is not known; and after a touch whose place is known, since which no block has begun
-abbrev pub way_touched : Way → Bool → Way
-way_touched way is_clear =
-    record { zero = way.zero; set_on = way.set_on; is_open = way.is_open; is_clear = is_clear; has_begun = way.has_begun && not is_clear }
+abbrev pub way_touched : Way → ℕ → Option Point → Way
+way_touched way line None = record { zero = way.zero; set_on = way.set_on; is_open = way.is_open; has_begun = way.has_begun; last = None }
+way_touched way line (Some target) =
+    record { zero = way.zero; set_on = way.set_on; is_open = way.is_open; has_begun = false; last = Some (stop_at way line target) }
 
 -- the target of a touch in a block; where the probe is after one that is refused for itself, or outside a block, is not known
 abbrev pub touched_at : Way → Option StatementMeaning → Option Point
@@ -63,45 +64,32 @@ way_after frames way word.Recall s meaning = way_recalled frames way s.line mean
 way_after frames way word.Unknown s meaning = if is_among s.word coordinates then way_selected way None s.line else way
 way_after frames way word.Meas s meaning = way_begun way
 way_after frames way word.Endmes s meaning = way_ended way
-way_after frames way word.Goto s meaning = way_touched way false
-way_after frames way word.Ptmeas s meaning = way_touched way (is_some (touched_at way meaning))
+way_after frames way word.Goto s meaning = way_touched way s.line None
+way_after frames way word.Ptmeas s meaning = way_touched way s.line (touched_at way meaning)
 way_after frames way _ s meaning = way
 
--- the way to a touch is straight if no move came since the touch before, and is to another feature if a block has begun since
-abbrev pub legs_to : Way → ℕ → Option Point → List Leg
-legs_to way line None = []
-legs_to way line (Some target) = record {
-  stop = record { line = line; target = target; zero = way.zero; set_on = way.set_on };
-  is_straight = way.is_clear && way.has_begun;
-} ∷ []
+-- the travel to a touch from the one before is straight if no move came since, and it is to another feature if a block has begun since
+abbrev pub travel_from : Option Stop → Stop → Option What
+travel_from None first = None
+travel_from (Some last) first = Some (what.Straight (record { last = last; first = first }))
 
-abbrev pub legs_on : Way → Keyword → ℕ → Option StatementMeaning → List Leg
-legs_on way word.Ptmeas line meaning = legs_to way line (touched_at way meaning)
-legs_on way _ line meaning = []
+abbrev pub travel_to : Way → ℕ → Option Point → Option What
+travel_to way line None = None
+travel_to way line (Some target) = if way.has_begun then travel_from way.last (stop_at way line target) else None
 
--- the ways to the touches of the statements from here on; nothing counts after `ENDFIL`
-abbrev pub legs_from : List (List ℕ × Point) → Way → List Statement → List Leg
-legs_from frames way [] = []
-legs_from frames way (s ∷ statements) = if is_end (keyword_of s.word) then [] else
-    legs_on way (keyword_of s.word) s.line (meaning_with (keyword_of s.word) s) ++ legs_from frames
+abbrev pub travel_at : Way → Keyword → ℕ → Option StatementMeaning → Option What
+travel_at way word.Ptmeas line meaning = travel_to way line (touched_at way meaning)
+travel_at way _ line meaning = None
+
+-- each touch to which a travel is straight, of the statements from here on; nothing counts after `ENDFIL`
+abbrev pub travels_from : List (List ℕ × Point) → Way → List Statement → List Remark
+travels_from frames way [] = []
+travels_from frames way (s ∷ statements) = if is_end (keyword_of s.word) then [] else
+    remark_on s.line (travel_at way (keyword_of s.word) s.line (meaning_with (keyword_of s.word) s)) ++ travels_from frames
     (way_after frames way (keyword_of s.word) s (meaning_with (keyword_of s.word) s)) statements
 
--- the next touch, if the way to it is straight and to another feature
-abbrev pub next_stop : List Leg → Option Stop
-next_stop [] = None
-next_stop (leg ∷ legs) = if leg.is_straight then Some leg.stop else None
-
-abbrev pub travel_to : Stop → Option Stop → List Travel
-travel_to last None = []
-travel_to last (Some first) = record { last = last; first = first } ∷ []
-
--- from each touch the travel to the next one, if it is straight and to another feature
-abbrev pub travels_in : List Leg → List Travel
-travels_in [] = []
-travels_in (leg ∷ legs) = travel_to leg.stop (next_stop legs) ++ travels_in legs
-
-abbrev pub travels_of : List (List ℕ × Point) → List Statement → List Travel
-travels_of frames statements = travels_in (legs_from frames at_home statements)
+abbrev pub travels_of : List (List ℕ × Point) → List Statement → List Remark
+travels_of frames statements = travels_from frames at_home statements
 
 -- ---- their lengths
 
@@ -139,27 +127,6 @@ IsLength None (Some root) = ⊥
 IsLength (Some square) None = ⊥
 IsLength (Some square) (Some root) = IsWholeRoot square root
 
--- ---- those that a statement on clearing would have replaced
-
--- a statement says that the probe clears the part, or that it does so no longer
-abbrev pub is_clearing : What → Bool
-is_clearing (what.Passed passed.Clearing) = true
-is_clearing (what.Passed passed.ClearingOff) = true
-is_clearing _ = false
-
--- a line is above the first of these that does
-abbrev pub is_above : ℕ → List Remark → Bool
-is_above line [] = true
-is_above line (notice ∷ notices) = if is_clearing notice.what then nat_lt line notice.line else is_above line notices
-
--- a travel ends at a touch on a line after this one and above the next statement on clearing
-abbrev pub is_replaced : ℕ → List Remark → Travel → Bool
-is_replaced line later t = nat_lt line t.first.line && is_above t.first.line later
-
--- how many travels a statement on this line would have replaced, after which these are passed over
-abbrev pub replaced : List Travel → ℕ → List Remark → ℕ
-replaced travels line later = count_by (is_replaced line later) travels
-
 -- ---- examples: statements on their lines, touches at x, 0, 0
 
 abbrev pub meas_on : ℕ → Statement
@@ -182,5 +149,6 @@ feature_on line x statements = meas_on line ∷ (ptmeas_on (line + 1) x ∷ (end
 abbrev pub stop_on : ℕ → ℕ → Stop
 stop_on line x = record { line = line; target = record { x = pos x; y = pos 0; z = pos 0 }; zero = Some zero_point; set_on = 0 }
 
-abbrev pub travel_on : (line x next_line next_x : ℕ) → Travel
-travel_on line x next_line next_x = record { last = stop_on line x; first = stop_on next_line next_x }
+abbrev pub travel_on : (line x next_line next_x : ℕ) → Remark
+travel_on line x next_line next_x =
+    record { what = what.Straight (record { last = stop_on line x; first = stop_on next_line next_x }); line = next_line }

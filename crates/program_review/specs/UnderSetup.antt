@@ -15,11 +15,13 @@ use Rattle.dmis_program.specs.declared.keywords.Keyword.{Keyword}
 use Rattle.dmis_program.specs.declared.keywords.Keyword.TheVariants as word
 use Rattle.dmis_program.specs.declared.sayings.StatementMeaning.{StatementMeaning}
 use Rattle.dmis_program.specs.declared.sayings.StatementMeaning.TheVariants as said
+use Rattle.program_review.specs.Remarks.{remark_on}
 use Rattle.program_review.specs.declared.under_setup.Selected.{Selected}
 use Rattle.program_review.specs.declared.under_setup.Selected.TheVariants as selected
 use Rattle.program_review.specs.declared.under_setup.Lack.{Lack}
 use Rattle.program_review.specs.declared.under_setup.Lack.TheVariants as lack
 use Rattle.program_review.specs.declared.remarks.Remark.{Remark}
+use Rattle.program_review.specs.declared.remarks.What.{What}
 use Rattle.program_review.specs.declared.remarks.What.TheVariants as what
 
 -- what a statement says by itself; none if it is refused for itself, its word is unknown, or it recalls what is not read, as a `DA(..)`
@@ -57,20 +59,17 @@ is_outside (selected.Stored offset) target = not (is_within (point_sum target of
 is_outside selected.Unknown target = false
 
 -- what the setup lacks for a statement that says this
-abbrev pub when : Bool → Lack → Option Lack
-when true what = Some what
-when false what = None
+abbrev pub when : Bool → Lack → Option What
+when true lacking = Some (what.Lack lacking)
+when false lacking = None
 
-abbrev pub lack_of : List (List ℕ) → Selected → Option StatementMeaning → Option Lack
+abbrev pub lack_of : List (List ℕ) → Selected → Option StatementMeaning → Option What
 lack_of tools before (Some (said.Selects name)) = when (not (has_name tools name)) lack.Tool
 lack_of tools before (Some (said.Goes target)) = when (is_outside before target) lack.Volume
 lack_of tools before (Some (said.Touches target direction)) = when (is_outside before target) lack.Volume
 lack_of tools before _ = None
 
-abbrev pub lack_on : ℕ → Option Lack → List Remark
-lack_on line None = []
-lack_on line (Some lacking) = record { what = what.Lack lacking; line = line } ∷ []
-
+-- `ENDFIL` ends the program, refused or not
 abbrev pub is_end : Keyword → Bool
 is_end word.Endfil = true
 is_end _ = false
@@ -79,7 +78,7 @@ is_end _ = false
 abbrev pub lacks_from : List (List ℕ) → List (List ℕ × Point) → Selected → List Statement → List Remark
 lacks_from tools frames before [] = []
 lacks_from tools frames before (s ∷ statements) = if is_end (keyword_of s.word) then [] else
-    lack_on s.line (lack_of tools before (meaning_with (keyword_of s.word) s)) ++ lacks_from tools frames
+    remark_on s.line (lack_of tools before (meaning_with (keyword_of s.word) s)) ++ lacks_from tools frames
     (selected_after frames before (meaning_with (keyword_of s.word) s) (keyword_of s.word)) statements
 
 -- what a setup with these tools and frames lacks for the statements of a program, at whose start machine coordinates are selected

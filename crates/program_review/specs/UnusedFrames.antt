@@ -7,8 +7,10 @@ use Rattle.tool_rack.specs.Setups.{has_name}
 use Rattle.dmis_program.specs.Keywords.{keyword_of}
 use Rattle.dmis_program.specs.declared.sayings.StatementMeaning.{StatementMeaning}
 use Rattle.dmis_program.specs.declared.sayings.StatementMeaning.TheVariants as said
+use Rattle.program_review.specs.Remarks.{remark_on}
 use Rattle.program_review.specs.UnderSetup.{meaning_with, is_end}
 use Rattle.program_review.specs.declared.remarks.Remark.{Remark}
+use Rattle.program_review.specs.declared.remarks.What.{What}
 use Rattle.program_review.specs.declared.remarks.What.TheVariants as what
 
 -- the name that a statement recalls that says this
@@ -35,7 +37,7 @@ frame_in (word ∷ name ∷ values) = if is_word (codes "FRAME") word then name_
 abbrev pub stored_on : List ℕ → Option (List ℕ)
 stored_on line = if is_dropped line then None else frame_in (fields_of line)
 
--- the remark on the line of a frame whose name is not among these
+-- what is remarked on the line of a frame whose name is not among these
 abbrev pub unused_on : List (List ℕ) → ℕ → Option (List ℕ) → List Remark
 unused_on names line None = []
 unused_on names line (Some name) = if has_name names name then [] else record { what = what.Unused; line = line } ∷ []

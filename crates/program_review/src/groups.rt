@@ -4,7 +4,7 @@ ghost use Rattle.std.specs.Prelude.{◌≡◌};
 ghost use Rattle.std.specs.List.{list_any};
 ghost use Rattle.std.specs.Str.{bytes_eq};
 ghost use Rattle.dmis_program.specs.Keywords.{keyword_of, is_among};
-ghost use Rattle.program_review.specs.Groups.{identifying, reporting, coordinates, measuring, branching, calling, moving, compensating};
+ghost use Rattle.program_review.specs.Groups.{bookkeeping, coordinates, measuring, deciding, moving, compensating};
 ghost use Rattle.program_review.specs.Groups.{is_jump_label, word_group, unsupported_group, mistaken_group, group_of};
 
 use dmis_program::{Keyword, Refusal, keyword_of_word};
@@ -46,27 +46,16 @@ pub fn is_among(text: &[u8], others: &[&str]) -> bool
     others.iter().any(|other| is_text(text, other))
 }
 
-fn is_identifying(word: &[u8]) -> bool
-    ensures { result ≡ is_among word.now identifying }
+fn is_bookkeeping(word: &[u8]) -> bool
+    ensures { result ≡ is_among word.now bookkeeping }
 {
     is_among(
         word,
         &[
             "CLMPID", "CLMPSN", "DMEID", "FIXTID", "FIXTSN", "LOTID", "MFGDEV", "OPERID", "PARTID",
-            "PARTRV", "PARTSN", "PLANID", "PREVOP", "PROCID", "QISDEF",
-        ],
-    )
-}
-
-/// Whether a word prints, keeps or evaluates.
-fn is_reporting(word: &[u8]) -> bool
-    ensures { result ≡ is_among word.now reporting }
-{
-    is_among(
-        word,
-        &[
-            "BOUND", "CLOSE", "CONST", "DECPL", "DEVICE", "EVAL", "GEOALG", "KEYCHAR", "OPEN",
-            "RAWDAT", "REPORT", "VFORM", "WRITE",
+            "PARTRV", "PARTSN", "PLANID", "PREVOP", "PROCID", "QISDEF", "BOUND", "CLOSE", "CONST",
+            "DECPL", "DEVICE", "EVAL", "GEOALG", "KEYCHAR", "OPEN", "RAWDAT", "REPORT", "VFORM",
+            "WRITE",
         ],
     )
 }
@@ -96,27 +85,16 @@ fn is_measuring(word: &[u8]) -> bool
     )
 }
 
-/// Whether a word decides which statements come next.
-fn is_branching(word: &[u8]) -> bool
-    ensures { result ≡ is_among word.now branching }
+fn is_deciding(word: &[u8]) -> bool
+    ensures { result ≡ is_among word.now deciding }
 {
     is_among(
         word,
         &[
             "BADTST", "CASE", "DFTCAS", "DMIS", "DO", "ELSE", "ENDCAS", "ENDDO", "ENDIF", "ENDSEL",
-            "IF", "JUMPTO", "RESUME", "SELECT",
-        ],
-    )
-}
-
-fn is_calling(word: &[u8]) -> bool
-    ensures { result ≡ is_among word.now calling }
-{
-    is_among(
-        word,
-        &[
-            "ASSIGN", "CALL", "DECL", "DMISMD", "ENDMAC", "ENDXTN", "ERROR", "EXTFIL", "INCLUD",
-            "MACRO", "OBTAIN", "PROMPT", "READ", "VALUE", "XTERN",
+            "IF", "JUMPTO", "RESUME", "SELECT", "ASSIGN", "CALL", "DECL", "DMISMD", "ENDMAC",
+            "ENDXTN", "ERROR", "EXTFIL", "INCLUD", "MACRO", "OBTAIN", "PROMPT", "READ", "VALUE",
+            "XTERN",
         ],
     )
 }
@@ -133,7 +111,6 @@ fn is_moving(word: &[u8]) -> bool
     )
 }
 
-/// Whether a word changes measured lengths.
 fn is_compensating(word: &[u8]) -> bool
     ensures { result ≡ is_among word.now compensating }
 {
@@ -153,7 +130,7 @@ fn is_jump_label(word: &[u8]) -> bool
 fn word_group(word: &[u8]) -> Group
     ensures { result ≡ word_group word.now }
 {
-    if is_identifying(word) || is_reporting(word) {
+    if is_bookkeeping(word) {
         return Group::Bookkeeping;
     }
     if is_of_coordinates(word) {
@@ -162,7 +139,7 @@ fn word_group(word: &[u8]) -> Group
     if is_measuring(word) {
         return Group::Measuring;
     }
-    if is_branching(word) || is_calling(word) || is_jump_label(word) {
+    if is_deciding(word) || is_jump_label(word) {
         return Group::Flow;
     }
     if is_moving(word) {

@@ -3,24 +3,21 @@
 //! - `readings`: a program's text, read once
 //! - `refusals`: every refusal of a text; `standing`: what is carried from statement to statement
 //! - `notices`: statements that are passed over though they change something
-//! - `odd`: statements that are probably not meant as they are written; `labels`: those of features
-//! - `under_setup`: what a setup lacks for a program; `lacking`: for one that is accepted
+//! - `odd`: statements that are probably not meant as they are written
+//! - `under_setup`: what a setup lacks for a program
 //! - `recalling`: the frames of a setup that a program does not recall
 //! - `groups`: what refused statements are for; `strays`: the touches that would be measured elsewhere without them
-//! - `travels`: the straight travels from feature to feature, and those that a statement on clearing would have replaced
+//! - `travels`: the straight travels from feature to feature
 //! - `variables`: the names that statements declare or assign, and the moves that are refused for one
 //! - `remarks`: all of this, in the order of the program's lines
-//! - `walking`: the remarks with their sentences, as `findings`; `sentences`: those on statements; `summary`: those on groups
+//! - `walking`: the remarks with their sentences; `sentences`: those on statements; `summary`: those on groups
 //! - `printing`: findings as lines or as JSON; `reports`: the report of a program's text under a setup
 //! - `tasks`: the statements that a client carries out by commands, and their lines
 //! - `texts`: texts for the operator, and what a run holds back at them
 //! - `laws`: what follows from the definitions
 #![tactic(auto)]
 
-mod findings;
 mod groups;
-mod labels;
-mod lacking;
 pub mod laws;
 mod notices;
 mod odd;
@@ -42,7 +39,6 @@ mod variables;
 mod walking;
 
 pub use groups::{Group, is_among, is_text};
-pub use lacking::lacking_for;
 pub use notices::{Passed, begins_with};
 pub use odd::Odd;
 pub use printing::{FindingForm, FindingStyle};
@@ -50,5 +46,6 @@ pub use remarks::{Remark, What};
 pub use reports::{Report, ReviewTexts, review_report};
 pub use tasks::{Task, TaskLine, command_lines, task_lines};
 pub use texts::{OperatorText, Waits, is_operator_text, operator_texts, text_places};
-pub use under_setup::Lack;
+pub use travels::{Stop, Travel};
+pub use under_setup::{Lack, lacking_for};
 pub use variables::without_cart;

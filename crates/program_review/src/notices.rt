@@ -1,16 +1,13 @@
 // Statements that are passed over though they change something.
 
-ghost use Rattle.std.specs.Prelude.{◌≡◌, ◌++◌, [], codes, IfOk, OnOk};
-ghost use Rattle.std.specs.Str.{bytes_eq};
-ghost use Rattle.dmis_program.specs.Sayings.{is_badly_formed};
-ghost use Rattle.dmis_program.specs.declared.keywords.Keyword.TheVariants as word;
-ghost use Rattle.program_review.specs.Notices.{begins_with, is_off, sensor_setting, text_meaning, passed_word, passed_over, with_passed, notices_of};
+ghost use Rattle.std.specs.Prelude.{◌≡◌, ◌++◌, OnOk};
+ghost use Rattle.program_review.specs.Notices.{begins_with, is_off, sensor_setting, text_meaning, passed_word, passed_over, notices_of};
 
 use crate::groups::is_text;
-use crate::remarks::{Remark, What};
+use crate::remarks::{Remark, What, push_remark};
 use dmis_program::{Keyword, keyword_of_word};
 use dmis_text::{Statement, Text};
-use std::alloc::{AllocError, Global};
+use std::alloc::AllocError;
 
 /// What a statement changes that is passed over (ISO 22093).
 #[derive(Clone, Copy, Debug, PartialEq, Eq)]
@@ -41,42 +38,6 @@ pub enum Passed {
     Question,
 }
 
-impl Passed {
-    /// What it would mean and what happens instead: the end of a sentence that begins with the statement.
-    pub fn meaning(self) -> &'static str {
-        match self {
-            Passed::Compensation => {
-                "would say whether points are corrected by the radius of the probe: they are taken as the server reports them."
-            }
-            Passed::Positioning => {
-                "would say whether a move ends only when the machine stands still: the server decides."
-            }
-            Passed::Probing => {
-                "would set how the probe approaches, searches and retracts: the machine's own settings are used."
-            }
-            Passed::Clearing => {
-                "would say how the probe clears the part between features: nothing clears it, and the probe travels straight."
-            }
-            Passed::ClearingOff => {
-                "would say that the probe does not clear the part between features: nothing clears it anyway."
-            }
-            Passed::Depth => {
-                "would set how deep features are measured: nothing does it, and each target is taken as it is written."
-            }
-            Passed::Sensor => "would set the sensor: nothing does it.",
-            Passed::Plane => {
-                "would name the plane of later statements: positions have three coordinates here."
-            }
-            Passed::Speed => { "would set a speed: the machine's own is used." }
-            Passed::Acceleration => { "would set an acceleration: the machine's own is used." }
-            Passed::Operator => {
-                "is a text for the operator: a run waits for him only with --pause."
-            }
-            Passed::Question => { "is a question to the operator: nobody is asked." }
-        }
-    }
-}
-
 /// Whether the first of these is this text.
 pub fn begins_with(other: &str, params: &[Text]) -> bool
     ensures { result ≡ begins_with other.now params.now }
@@ -84,7 +45,6 @@ pub fn begins_with(other: &str, params: &[Text]) -> bool
     params.first().is_some_and(|first| is_text(first, other))
 }
 
-/// Whether the parameter after the first is `OFF`.
 fn is_off(params: &[Text]) -> bool
     ensures { result ≡ is_off params.now }
 {
@@ -94,7 +54,6 @@ fn is_off(params: &[Text]) -> bool
     }
 }
 
-/// What an `SNSET` with these parameters changes.
 fn sensor_setting(params: &[Text]) -> Passed
     ensures { result ≡ sensor_setting params.now }
 {
@@ -117,7 +76,6 @@ fn sensor_setting(params: &[Text]) -> Passed
     Passed::Sensor
 }
 
-/// What a `TEXT` with these parameters is, if it is for the operator.
 fn text_meaning(params: &[Text]) -> Option<Passed>
     ensures { result ≡ text_meaning params.now }
 {
@@ -157,46 +115,31 @@ fn passed_word(word: &[u8], params: &[Text]) -> Option<Passed>
     None
 }
 
-/// What a statement changes that is passed over; none if it is refused for its form.
-fn passed_over(statement: &Statement) -> Option<Passed>
+fn passed_over(statement: &Statement) -> Option<What>
     ensures { result ≡ passed_over statement.now }
 {
     if statement.label.is_some() || statement.is_open() {
         return None;
     }
-    passed_word(&statement.word, &statement.params)
+    let passed = passed_word(&statement.word, &statement.params)?;
+    Some(What::Passed(passed))
 }
 
-fn push_passed(
-    remarks: &mut Vec<Remark>,
-    passed: Option<Passed>,
-    line: u64,
-) -> Result<(), AllocError>
-    ensures { OnOk result (remarks.new.items ≡ remarks.old.items ++ with_passed passed line []) }
-{
-    if let Some(passed) = passed {
-        let what = What::Passed(passed);
-        remarks.push(Remark { what, line })?;
-    }
-    Ok(())
-}
-
-/// Each statement of these that is passed over though it changes how the machine moves, what nominal values mean or what an operator
+/// Adds each statement of these that is passed over though it changes how the machine moves, what nominal values mean or what an operator
 /// must do, up to `ENDFIL`. Fails only if out of memory.
-pub(crate) fn passed_statements(
-    alloc: Global,
+pub(crate) fn push_passed(
+    remarks: &mut Vec<Remark>,
     statements: &[Statement],
-) -> Result<Vec<Remark>, AllocError>
-    ensures { IfOk result (λ remarks. remarks.items ≡ notices_of statements.now) }
+) -> Result<(), AllocError>
+    ensures { OnOk result (remarks.new.items ≡ remarks.old.items ++ notices_of statements.now) }
 {
-    let mut remarks = Vec::new(alloc);
     let mut left = statements;
     while let [statement, rest @ ..] = left {
         if keyword_of_word(&statement.word) == Keyword::Endfil {
-            return Ok(remarks);
+            return Ok(());
         }
-        push_passed(&mut remarks, passed_over(statement), statement.line)?;
+        push_remark(remarks, passed_over(statement), statement.line)?;
         left = rest;
     }
-    Ok(remarks)
+    Ok(())
 }

@@ -1,12 +1,12 @@
 // Statements that are probably not meant as they are written. No clause says which they are.
 
-use crate::labels::Labels;
-use crate::remarks::{Remark, What};
+use crate::remarks::{Remark, What, push_remark};
 use crate::under_setup::meaning_of;
 use dmis_program::{Keyword, StatementMeaning, keyword_of_word};
-use dmis_text::Statement;
+use dmis_text::{Statement, Text};
 use fixed_um::Dir;
 use std::alloc::{AllocError, Global};
+use std::collections::{BTreeMap, BTreeSet};
 
 /// Why a statement is odd.
 #[derive(Clone, Copy, Debug, PartialEq, Eq)]
@@ -41,9 +41,7 @@ const WORDS: [&str; 23] = [
 /// Whether two texts are the same once the first two bytes of one are exchanged.
 fn is_exchanged(word: &[u8], other: &[u8]) -> bool {
     match (word, other) {
-        ([first, second, rest @ ..], [one, two, others @ ..]) => {
-            *first == *two && *second == *one && rest == others
-        }
+        ([a, b, rest @ ..], [c, d, others @ ..]) => *a == *d && *b == *c && rest == others,
         _ => false,
     }
 }
@@ -91,131 +89,151 @@ fn is_of_length_one(direction: Dir) -> bool {
 }
 
 /// How far a program has come.
-#[derive(Clone, Copy)]
+#[derive(Drop)]
 struct Course {
+    alloc: Global,
     has_tool: bool,
     has_moved: bool,
     wanted: u64,
     touches: u64,
+    /// The kind of each defined feature, by its label.
+    kinds: BTreeMap<Vec<u8>, Vec<u8>>,
+    /// The labels of the measured ones.
+    measured: BTreeSet<Vec<u8>>,
 }
 
 impl Course {
-    fn start() -> Course {
+    fn start(alloc: Global) -> Course {
         Course {
+            alloc,
             has_tool: false,
             has_moved: false,
             wanted: 0,
             touches: 0,
+            kinds: BTreeMap::new(alloc),
+            measured: BTreeSet::new(alloc),
         }
     }
 
-    /// After a statement that says this.
-    fn after(self, meaning: &StatementMeaning) -> Course {
-        let mut next = self;
-        match meaning {
-            StatementMeaning::Goes(_) => next.has_moved = true,
-            StatementMeaning::Begins(_, count) => {
-                next.wanted = *count;
-                next.touches = 0;
-            }
-            StatementMeaning::Touches(_, _) => next.touches = self.touches.saturating_add(1),
-            StatementMeaning::Ends => next.wanted = 0,
-            StatementMeaning::Selects(_) => next.has_tool = true,
-            _ => {}
+    /// After a definition; why it is odd, if it is.
+    fn define(&mut self, statement: &Statement) -> Result<Option<Odd>, AllocError> {
+        let word: &[u8] = &statement.word;
+        if let (Some(label), [kind, ..]) = (&statement.label, &*statement.params)
+            && word == "FEAT".as_bytes()
+        {
+            let label = Vec::from_slice(self.alloc, label)?;
+            let kind = Vec::from_slice(self.alloc, kind)?;
+            let before = self.kinds.insert(label, kind)?;
+            return Ok(before.map(|_| Odd::DefinedTwice));
         }
-        next
+        Ok(None)
+    }
+
+    /// After a `MEAS` with these parameters; why it is odd, if it is.
+    fn measure(&mut self, params: &[Text]) -> Result<Option<Odd>, AllocError> {
+        let [kind, label, ..] = params else {
+            return Ok(None);
+        };
+        let label = Vec::from_slice(self.alloc, label)?;
+        let kind: &[u8] = kind;
+        let odd = match self.kinds.get(&label) {
+            Some(defined) if defined.as_slice() == kind => None,
+            Some(_) => Some(Odd::OtherKind),
+            None => Some(Odd::NoDefinition),
+        };
+        if self.measured.insert(label)? {
+            Ok(odd)
+        } else {
+            Ok(Some(Odd::MeasuredTwice))
+        }
     }
 
     /// After a statement of this word that is refused for itself.
-    fn after_refused(self, keyword: Keyword) -> Course {
-        let mut next = self;
+    fn pass_refused(&mut self, keyword: Keyword) {
         match keyword {
-            Keyword::Goto => next.has_moved = true,
-            Keyword::Meas | Keyword::Endmes => next.wanted = 0,
-            Keyword::Ptmeas => next.touches = self.touches.saturating_add(1),
-            Keyword::Snslct => next.has_tool = true,
+            Keyword::Goto => self.has_moved = true,
+            Keyword::Meas | Keyword::Endmes => self.wanted = 0,
+            Keyword::Ptmeas => self.touches = self.touches.saturating_add(1),
+            Keyword::Snslct => self.has_tool = true,
             _ => {}
         }
-        next
     }
 
-    /// Why a statement that says this is odd here.
-    fn odd(self, meaning: &StatementMeaning) -> Option<Odd> {
+    /// After a statement that says this; why it is odd, if it is.
+    fn pass_said(&mut self, meaning: &StatementMeaning) -> Option<Odd> {
+        let mut odd = None;
         match meaning {
-            StatementMeaning::Touches(_, Some(direction)) if !is_of_length_one(*direction) => {
-                Some(Odd::Direction)
+            StatementMeaning::Goes(_) => {
+                if !self.has_moved && !self.has_tool {
+                    odd = Some(Odd::MoveBeforeTool);
+                }
+                self.has_moved = true;
             }
-            StatementMeaning::Goes(_) if !self.has_moved && !self.has_tool => {
-                Some(Odd::MoveBeforeTool)
+            StatementMeaning::Begins(_, count) => {
+                self.wanted = *count;
+                self.touches = 0;
             }
-            StatementMeaning::Ends if self.wanted > 0 && self.touches > self.wanted => {
-                Some(Odd::MoreTouches)
+            StatementMeaning::Touches(_, direction) => {
+                self.touches = self.touches.saturating_add(1);
+                if direction.is_some_and(|direction| !is_of_length_one(direction)) {
+                    odd = Some(Odd::Direction);
+                }
             }
-            _ => None,
+            StatementMeaning::Ends => {
+                if self.wanted > 0 && self.touches > self.wanted {
+                    odd = Some(Odd::MoreTouches);
+                }
+                self.wanted = 0;
+            }
+            StatementMeaning::Selects(_) => self.has_tool = true,
+            _ => {}
+        }
+        odd
+    }
+
+    /// After a statement of this word that says this, or is refused for itself; why it is odd, if it is.
+    fn pass(
+        &mut self,
+        keyword: Keyword,
+        statement: &Statement,
+        meaning: &Option<StatementMeaning>,
+    ) -> Result<Option<Odd>, AllocError> {
+        if keyword == Keyword::Unknown {
+            return Ok(near_word(&statement.word).map(|_| Odd::NearWord));
+        }
+        let Some(meaning) = meaning else {
+            self.pass_refused(keyword);
+            return Ok(None);
+        };
+        let odd = self.pass_said(meaning);
+        match keyword {
+            Keyword::Definition => self.define(statement),
+            Keyword::Meas => self.measure(&statement.params),
+            _ => Ok(odd),
         }
     }
-}
-
-/// Why a statement that says this is odd here, if it is.
-fn odd_here(
-    course: Course,
-    labels: &mut Labels,
-    keyword: Keyword,
-    statement: &Statement,
-    meaning: &StatementMeaning,
-) -> Result<Option<Odd>, AllocError> {
-    match keyword {
-        Keyword::Definition => labels.pass_definition(statement),
-        Keyword::Meas => labels.pass_measuring(&statement.params),
-        _ => Ok(course.odd(meaning)),
-    }
-}
-
-/// Why a statement is odd, if it is, and how far the program has come after it.
-fn pass(
-    alloc: Global,
-    course: Course,
-    labels: &mut Labels,
-    keyword: Keyword,
-    statement: &Statement,
-) -> Result<(Option<Odd>, Course), AllocError> {
-    if keyword == Keyword::Unknown {
-        let odd = near_word(&statement.word).map(|_| Odd::NearWord);
-        return Ok((odd, course));
-    }
-    let Some(meaning) = meaning_of(alloc, keyword, statement)? else {
-        return Ok((None, course.after_refused(keyword)));
-    };
-    let odd = odd_here(course, labels, keyword, statement, &meaning)?;
-    Ok((odd, course.after(&meaning)))
 }
 
 /// Each of these statements of a text that is probably not meant as it is written, up to `ENDFIL`, one remark a statement. Statements that are
-/// refused for themselves are left out, but for words that are not known. Fails only if out of memory.
+/// refused for themselves are not odd, but for words that are not known. Fails only if out of memory.
 pub(crate) fn odd_statements(
     alloc: Global,
     text: &[u8],
     statements: &[Statement],
 ) -> Result<Vec<Remark>, AllocError> {
-    let mut course = Course::start();
-    let mut labels = Labels::new(alloc);
+    let mut course = Course::start(alloc);
     let mut remarks = Vec::new(alloc);
     if text.starts_with(b"\xEF\xBB\xBF") {
-        let what = What::Odd(Odd::Mark);
-        remarks.push(Remark { what, line: 1 })?;
+        push_remark(&mut remarks, Some(What::Odd(Odd::Mark)), 1)?;
     }
     for statement in statements {
-        let line = statement.line;
         let keyword = keyword_of_word(&statement.word);
         if keyword == Keyword::Endfil {
-            return Ok(remarks);
+            break;
         }
-        let (odd, next) = pass(alloc, course, &mut labels, keyword, statement)?;
-        if let Some(odd) = odd {
-            let what = What::Odd(odd);
-            remarks.push(Remark { what, line })?;
-        }
-        course = next;
+        let meaning = meaning_of(alloc, keyword, statement)?;
+        let odd = course.pass(keyword, statement, &meaning)?;
+        push_remark(&mut remarks, odd.map(|odd| What::Odd(odd)), statement.line)?;
     }
     Ok(remarks)
 }

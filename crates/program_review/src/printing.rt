@@ -1,14 +1,13 @@
 // Findings in the form in which they are printed.
 
-ghost use Rattle.std.specs.Prelude.{◌≡◌, ◌++◌, ◌∷◌, [], codes, string_bytes, IfOk, OnOk, not, ◌==◌};
+ghost use Rattle.std.specs.Prelude.{◌≡◌, ◌++◌, ◌∷◌, [], codes, string_bytes, IfOk, not, ◌==◌};
 ghost use Rattle.std.specs.List.{take_while};
 ghost use Rattle.json.specs.Token.{key, string};
 ghost use Rattle.deviations.specs.Json.{Puts};
-ghost use Rattle.program_review.specs.Printed.{file_of, line_of, kind_text, title_of, title_text, number_text, front_text, finding_line, finding_lines, finding_tokens, array_tokens, line_member, code_member, printed, names_of};
+ghost use Rattle.program_review.specs.Printed.{file_of, line_of, kind_text, title_of, title_text, number_text, finding_line, finding_lines, finding_tokens, array_tokens, line_member, code_member, printed, names_of};
 ghost use Rattle.json.specs.Print.{print};
 
-use crate::findings::Finding;
-use crate::remarks::{Remark, What};
+use crate::remarks::{Finding, What};
 use json::Writer;
 use std::alloc::{AllocError, Global};
 
@@ -41,15 +40,6 @@ fn file_of<'a>(style: FindingStyle<'a>, what: What) -> &'a str
     }
 }
 
-fn line_of(what: What, line: u64) -> Option<u64>
-    ensures { result ≡ line_of what line }
-{
-    match what {
-        What::Sum(_) => None,
-        _ => Some(line),
-    }
-}
-
 fn kind_text(what: What) -> &'static str
     ensures { result.now ≡ kind_text what }
 {
@@ -62,17 +52,15 @@ fn kind_text(what: What) -> &'static str
     }
 }
 
-/// The number of a line after a colon; nothing without one.
-fn number_text(alloc: Global, line: Option<u64>) -> Result<String, AllocError>
-    ensures { IfOk result (λ text. string_bytes text ≡ number_text line) }
+fn number_text(alloc: Global, what: What, line: u64) -> Result<String, AllocError>
+    ensures { IfOk result (λ text. string_bytes text ≡ number_text (line_of what line)) }
 {
-    match line {
-        Some(number) => format!(in alloc; ":{number}"),
-        None => Ok(String::new(alloc)),
+    match what {
+        What::Sum(_) => Ok(String::new(alloc)),
+        _ => format!(in alloc; ":{line}"),
     }
 }
 
-/// The code and the name of a refusal, with a colon; nothing for another kind.
 fn title_text(alloc: Global, what: What) -> Result<String, AllocError>
     ensures { IfOk result (λ text. string_bytes text ≡ title_text (title_of what)) }
 {
@@ -82,30 +70,22 @@ fn title_text(alloc: Global, what: What) -> Result<String, AllocError>
     }
 }
 
-#[tactic(auto, unfolding(crate::specs::Printed::front_text))]
-fn front_text(alloc: Global, style: FindingStyle<'_>, remark: Remark) -> Result<String, AllocError>
-    ensures { IfOk result (λ text. string_bytes text ≡ front_text
-        (names_of style.entry.program.now style.entry.setup.now) remark) }
-{
-    let file = file_of(style, remark.what);
-    let number = number_text(alloc, line_of(remark.what, remark.line))?;
-    let kind = kind_text(remark.what);
-    let title = title_text(alloc, remark.what)?;
-    format!(in alloc; "{file}{number}: {kind}: {title}")
-}
-
-fn push_line(
-    out: &mut Vec<u8>,
+#[tactic(auto, unfolding(crate::specs::Printed::finding_line))]
+fn finding_line(
+    alloc: Global,
     style: FindingStyle<'_>,
     finding: &Finding,
-) -> Result<(), AllocError>
-    ensures { OnOk result (out.new.items ≡ out.old.items ++ finding_line
+) -> Result<String, AllocError>
+    ensures { IfOk result (λ text. string_bytes text ≡ finding_line
         (names_of style.entry.program.now style.entry.setup.now) finding.now) }
 {
-    let front = front_text(*out.allocator(), style, finding.remark())?;
-    out.extend_from_slice(front.as_bytes())?;
-    out.extend_from_slice(finding.said())?;
-    out.extend_from_slice(b"\n")
+    let remark = finding.remark;
+    let file = file_of(style, remark.what);
+    let number = number_text(alloc, remark.what, remark.line)?;
+    let kind = kind_text(remark.what);
+    let title = title_text(alloc, remark.what)?;
+    let said = &finding.said;
+    format!(in alloc; "{file}{number}: {kind}: {title}{said}\n")
 }
 
 fn lines_text(
@@ -119,7 +99,8 @@ fn lines_text(
     let mut text = Vec::new(alloc);
     let mut left = findings;
     while let [finding, others @ ..] = left {
-        push_line(&mut text, style, finding)?;
+        let line = finding_line(alloc, style, finding)?;
+        text.extend_from_slice(line.as_bytes())?;
         left = others;
     }
     Ok(text)
@@ -132,13 +113,13 @@ fn put_text(json: &mut Writer, name: &str, text: &str) -> Result<(), AllocError>
     json.string(text)
 }
 
-fn put_line(json: &mut Writer, line: Option<u64>) -> Result<(), AllocError>
-    ensures { Puts result json.old json.new (line_member line) }
+fn put_line(json: &mut Writer, what: What, line: u64) -> Result<(), AllocError>
+    ensures { Puts result json.old json.new (line_member (line_of what line)) }
 {
     json.key("line")?;
-    match line {
-        Some(number) => json.u64(number),
-        None => json.null(),
+    match what {
+        What::Sum(_) => json.null(),
+        _ => json.u64(line),
     }
 }
 
@@ -174,14 +155,13 @@ fn put_finding(
     ensures { Puts result json.old json.new (finding_tokens
         (names_of style.entry.program.now style.entry.setup.now) finding.now) }
 {
-    let remark = finding.remark();
-    let said = String::from_utf8_lossy(alloc, finding.said())?;
+    let remark = finding.remark;
     json.begin_object()?;
     put_text(json, "file", file_of(style, remark.what))?;
-    put_line(json, line_of(remark.what, remark.line))?;
+    put_line(json, remark.what, remark.line)?;
     put_text(json, "kind", kind_text(remark.what))?;
     put_code(alloc, json, remark.what)?;
-    put_text(json, "text", said.as_str())?;
+    put_text(json, "text", finding.said.as_str())?;
     json.end_object()
 }
 

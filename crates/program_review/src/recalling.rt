@@ -1,14 +1,11 @@
 // The stored frames of a setup that a program does not recall.
 
-ghost use Rattle.std.specs.Prelude.{◌≡◌, ◌++◌, [], IfOk, OnOk};
+ghost use Rattle.std.specs.Prelude.{◌≡◌, ◌++◌, IfOk, OnOk};
 ghost use Rattle.std.specs.Str.Lines.{lines};
-ghost use Rattle.tool_rack.specs.Fields.{fields_of};
 ghost use Rattle.program_review.specs.Findings.{remarks_in};
-ghost use Rattle.program_review.specs.UnderSetup.{meaning_with};
-ghost use Rattle.program_review.specs.UnusedFrames.{name_recalled, names_recalled, frame_in, stored_on, unused_on, unused_from};
+ghost use Rattle.program_review.specs.UnusedFrames.{name_recalled, names_recalled, stored_on, unused_on, unused_from};
 
-use crate::findings::Finding;
-use crate::remarks::{Remark, What};
+use crate::remarks::{Finding, Remark, What};
 use crate::under_setup::meaning_of;
 use crate::variables::has_name;
 use dmis_program::{Keyword, StatementMeaning, keyword_of_word};
@@ -47,10 +44,11 @@ fn recalled_names(alloc: Global, statements: &[Statement]) -> Result<Vec<Name>, 
     Ok(names)
 }
 
-fn frame_in(alloc: Global, line: &[u8]) -> Result<Option<Name>, AllocError>
-    ensures { IfOk result (λ name. name ≡ frame_in (fields_of line.now)) }
+fn stored_frame(alloc: Global, line: &[u8]) -> Result<Option<Name>, AllocError>
+    ensures { IfOk result (λ name. name ≡ stored_on line.now) }
 {
-    if let Some((word, values)) = cut_field(line)
+    if !is_dropped(line)
+        && let Some((word, values)) = cut_field(line)
         && let Some((name, _)) = cut_field(values)
         && is_word(b"FRAME", word)
     {
@@ -59,17 +57,6 @@ fn frame_in(alloc: Global, line: &[u8]) -> Result<Option<Name>, AllocError>
     Ok(None)
 }
 
-fn stored_frame(alloc: Global, line: &[u8]) -> Result<Option<Name>, AllocError>
-    ensures { IfOk result (λ name. name ≡ stored_on line.now) }
-{
-    if is_dropped(line) {
-        Ok(None)
-    } else {
-        frame_in(alloc, line)
-    }
-}
-
-/// Adds the frame that is stored on a line, if its name is not one of these.
 fn push_unused(
     findings: &mut Vec<Finding>,
     names: &[Name],
@@ -87,8 +74,8 @@ fn push_unused(
             "FRAME {name} is stored, and no RECALL of the program selects it."
         )?;
         let what = What::Unused;
-        let said = Vec::from_slice(alloc, said.as_bytes())?;
-        findings.push(Finding::new(Remark { what, line }, said))?;
+        let remark = Remark { what, line };
+        findings.push(Finding { remark, said })?;
     }
     Ok(())
 }

@@ -1,15 +1,15 @@
 // What a review remarks on, in the order of the program's lines.
 
-ghost use Rattle.std.specs.Prelude.{◌≡◌, ◌++◌, map, IfOk, OnOk};
-ghost use Rattle.program_review.specs.Remarks.{with_count, counted_remark, with_counts, travel_remark, above, not_above, merged, remarks_of};
+ghost use Rattle.std.specs.Prelude.{◌≡◌, ◌++◌, OnOk};
+ghost use Rattle.program_review.specs.Remarks.{remark_on, AreByLine, is_clearing, one_straight, straights, counted};
 
 use crate::groups::Group;
 use crate::notices::Passed;
 use crate::odd::Odd;
-use crate::travels::{Travel, replaced};
+use crate::travels::Travel;
 use crate::under_setup::Lack;
 use dmis_program::Refusal;
-use std::alloc::{AllocError, Global};
+use std::alloc::AllocError;
 
 /// What is remarked.
 #[derive(Clone, Copy, Debug)]
@@ -24,8 +24,8 @@ pub enum What {
     Lack(Lack),
     /// The setup stores a frame that the program does not recall.
     Unused,
-    /// The probe travels straight to a touch from the one of this line.
-    Straight(u64),
+    /// The probe travels straight to a touch.
+    Straight(Travel),
     /// A statement is probably not meant as it is written.
     Odd(Odd),
     /// What some of the refused statements are for.
@@ -41,116 +41,62 @@ pub struct Remark {
     pub line: u64,
 }
 
-/// What is found in a program, each list in the order of its lines.
-#[derive(Clone, Copy)]
-pub(crate) struct Remarks<'a> {
-    /// Its refusals.
-    pub(crate) refused: &'a [Remark],
-    /// What is passed over.
-    pub(crate) passed: &'a [Remark],
-    /// What the setup lacks.
-    pub(crate) lacks: &'a [Remark],
-    /// Its straight travels.
-    pub(crate) travels: &'a [Travel],
-    /// What is odd.
-    pub(crate) odd: &'a [Remark],
+/// A remark with its sentence, as it is printed.
+#[derive(Drop)]
+pub(crate) struct Finding {
+    pub(crate) remark: Remark,
+    pub(crate) said: String,
 }
 
-/// Appends the remarks that are on lines above this one. The others.
-fn push_above<'n>(
+/// Adds what is remarked on a line, if there is something.
+pub(crate) fn push_remark(
     remarks: &mut Vec<Remark>,
-    others: &'n [Remark],
+    what: Option<What>,
     line: u64,
-) -> Result<&'n [Remark], AllocError>
-    ensures pushed { OnOk result (remarks.new.items ≡ remarks.old.items ++ above line others.now) }
-    ensures left { IfOk result (λ left. left.now ≡ not_above line others.now) }
+) -> Result<(), AllocError>
+    ensures { OnOk result (remarks.new.items ≡ remarks.old.items ++ remark_on line what) }
 {
-    let mut left = others;
-    while let [other, rest @ ..] = left {
-        if other.line >= line {
-            return Ok(left);
+    if let Some(what) = what {
+        remarks.push(Remark { what, line })?;
+    }
+    Ok(())
+}
+
+/// Puts remarks in the order of lines; on one line they stay in their order.
+pub(crate) fn sort_by_line(remarks: &mut Vec<Remark>) -> Result<(), AllocError>
+    ensures { OnOk result (AreByLine remarks.old.items remarks.new.items) }
+{
+    remarks.sort_by_key(|remark| remark.line)
+}
+
+fn is_clearing(what: What) -> bool
+    ensures { result ≡ is_clearing what }
+{
+    matches!(what, What::Passed(Passed::Clearing | Passed::ClearingOff))
+}
+
+fn straights(later: &[Remark]) -> usize
+    ensures { result ≡ straights later.now }
+{
+    let mut count = 0;
+    let mut left = later;
+    while let [remark, rest @ ..] = left {
+        if is_clearing(remark.what) {
+            break;
         }
-        remarks.push(*other)?;
+        if let What::Straight(_) = remark.what {
+            count += 1;
+        }
         left = rest;
     }
-    Ok(left)
+    count
 }
 
-/// These remarks and others, in the order of lines; on one line these come first.
-fn merged(alloc: Global, first: &[Remark], others: &[Remark]) -> Result<Vec<Remark>, AllocError>
-    ensures { IfOk result (λ remarks. remarks.items ≡ merged first.now others.now) }
-{
-    let mut remarks = Vec::new(alloc);
-    let mut left = others;
-    for remark in first {
-        left = push_above(&mut remarks, left, remark.line)?;
-        remarks.push(*remark)?;
-    }
-    remarks.extend_from_slice(left)?;
-    Ok(remarks)
-}
-
-/// What is remarked on what is passed over; a statement on clearing would have replaced that many straight travels.
-fn with_count(what: What, count: usize) -> What
-    ensures { result ≡ with_count what count }
+pub(crate) fn counted(what: What, later: &[Remark]) -> What
+    ensures { result ≡ counted what later.now }
 {
     match what {
-        What::Passed(Passed::Clearing) => What::Clearing(count),
+        What::Passed(Passed::Clearing) => What::Clearing(straights(later)),
         _ => what,
     }
-}
-
-/// The remark on a statement that is passed over, before these others.
-#[tactic(auto, unfolding(crate::specs::Remarks::counted_remark))]
-fn counted_remark(travels: &[Travel], one: &Remark, later: &[Remark]) -> Remark
-    ensures { result ≡ counted_remark travels.now one.now later.now }
-{
-    let count = replaced(travels, one.line, later);
-    Remark {
-        what: with_count(one.what, count),
-        line: one.line,
-    }
-}
-
-fn with_counts(
-    alloc: Global,
-    travels: &[Travel],
-    passed: &[Remark],
-) -> Result<Vec<Remark>, AllocError>
-    ensures { IfOk result (λ remarks. remarks.items ≡ with_counts travels.now passed.now) }
-{
-    let mut remarks = Vec::new(alloc);
-    let mut left = passed;
-    while let [one, later @ ..] = left {
-        remarks.push(counted_remark(travels, one, later))?;
-        left = later;
-    }
-    Ok(remarks)
-}
-
-fn travel_remarks(alloc: Global, travels: &[Travel]) -> Result<Vec<Remark>, AllocError>
-    ensures { IfOk result (λ remarks. remarks.items ≡ map travel_remark travels.now) }
-{
-    let mut remarks = Vec::new(alloc);
-    for one in travels {
-        remarks.push(Remark {
-            what: What::Straight(one.last.line),
-            line: one.first.line,
-        })?;
-    }
-    Ok(remarks)
-}
-
-/// All of them, in the order of lines.
-pub(crate) fn remarks_of(alloc: Global, all: Remarks<'_>) -> Result<Vec<Remark>, AllocError>
-    ensures { IfOk result (λ remarks. remarks.items ≡ remarks_of
-        all.entry.refused.now all.entry.passed.now all.entry.lacks.now all.entry.travels.now
-        all.entry.odd.now) }
-{
-    let passed = with_counts(alloc, all.travels, all.passed)?;
-    let accepted = merged(alloc, passed.as_slice(), all.lacks)?;
-    let travels = travel_remarks(alloc, all.travels)?;
-    let doubtful = merged(alloc, travels.as_slice(), all.odd)?;
-    let others = merged(alloc, accepted.as_slice(), doubtful.as_slice())?;
-    merged(alloc, all.refused, others.as_slice())
 }

@@ -1,24 +1,25 @@
 // The report of a program's text under a setup.
 
-ghost use Rattle.std.specs.Prelude.{◌≡◌, IfOk, is_err, is_some};
+ghost use Rattle.std.specs.Prelude.{◌≡◌, ◌++◌, [], IfOk, OnOk, is_err, is_some};
 ghost use Rattle.dmis_program.specs.Meaning.{program_of};
-ghost use Rattle.dmis_text.specs.Reading.{text_reading};
-ghost use Rattle.program_review.specs.Refusals.{refusals_of, first_of, fault_of};
+ghost use Rattle.program_review.specs.Notices.{notices_of};
+ghost use Rattle.program_review.specs.Refusals.{first_of};
+ghost use Rattle.program_review.specs.Remarks.{AreByLine};
 ghost use Rattle.program_review.specs.Printed.{names_of};
-ghost use Rattle.program_review.specs.Reviews.{AreRemarks, IsReport, frames_under, lacks_under, texts_of};
-ghost use Rattle.program_review.specs.Readings.{IsReadingOf};
+ghost use Rattle.program_review.specs.Reviews.{IsReport, frames_under, lacks_under, texts_of};
+ghost use Rattle.program_review.specs.Travels.{travels_of};
 
-use crate::notices::passed_statements;
+use crate::notices::push_passed;
 use crate::odd::odd_statements;
 use crate::printing::{FindingStyle, printed};
-use crate::readings::{Reading, read};
+use crate::readings::read;
 use crate::recalling::add_unused_frames;
 use crate::refusals::refusals;
-use crate::remarks::{Remark, Remarks, What, remarks_of};
-use crate::strays::{Stray, stray_touches};
+use crate::remarks::{Remark, What, sort_by_line};
+use crate::strays::stray_touches;
 use crate::summary::add_summary;
-use crate::travels::{Travel, straight_travels};
-use crate::under_setup::lacking_setup;
+use crate::travels::push_travels;
+use crate::under_setup::push_lacks;
 use crate::walking::findings_in;
 use dmis_program::Frames;
 use dmis_text::Statement;
@@ -45,102 +46,52 @@ pub struct Report {
     pub is_refused: bool,
 }
 
-/// What is remarked on a program, and what deleting its refused statements would change.
-#[derive(Drop)]
-struct Review {
-    refused: Vec<Remark>,
-    remarks: Vec<Remark>,
-    travels: Vec<Travel>,
-    strays: Vec<Stray>,
-}
-
-fn lacks_under(
-    alloc: Global,
-    setup: &Option<Setup>,
-    statements: &[Statement],
-) -> Result<Vec<Remark>, AllocError>
-    ensures { IfOk result (λ lacks. lacks.items ≡ lacks_under setup.now statements.now) }
+fn frames_under<'a>(setup: &'a Option<Setup>, none: &'a Frames) -> &'a Frames
+    requires { none.now ≡ [] }
+    ensures { result.now ≡ frames_under setup.now }
 {
     match setup {
-        Some(setup) => lacking_setup(alloc, statements, setup.rack(), setup.frames()),
-        None => Ok(Vec::new(alloc)),
+        Some(setup) => setup.frames(),
+        None => none,
     }
 }
 
-#[tactic(auto, using(crate::proofs::FirstLemmas::first_is))]
-fn refusals_of(
+fn push_lacks_under(
+    remarks: &mut Vec<Remark>,
+    setup: &Option<Setup>,
+    statements: &[Statement],
+) -> Result<(), AllocError>
+    ensures { OnOk result (remarks.new.items
+        ≡ remarks.old.items ++ lacks_under setup.now statements.now) }
+{
+    match setup {
+        Some(setup) => push_lacks(remarks, statements, setup.rack(), setup.frames()),
+        None => Ok(()),
+    }
+}
+
+/// These remarks on the statements of a program and the others that are due, in the order of their lines.
+fn all_remarks(
     alloc: Global,
+    setup: &Option<Setup>,
     frames: &Frames,
-    text: &[u8],
-    reading: &Reading,
+    statements: &[Statement],
+    refused: &[Remark],
+    odd: &[Remark],
 ) -> Result<Vec<Remark>, AllocError>
-    requires { IsReadingOf text.now reading.now }
-    ensures all { IfOk result (λ found. found.items ≡ refusals_of frames.now text.now) }
-    ensures first { IfOk result (λ found.
-        first_of found.items ≡ fault_of (program_of frames.now text.now)) }
+    ensures { IfOk result (λ remarks. AreByLine ((((refused.now ++ notices_of statements.now)
+        ++ lacks_under setup.now statements.now) ++ travels_of frames.now statements.now) ++ odd.now)
+        remarks.items) }
 {
-    let found = refusals(alloc, reading, frames)?;
-    Ok(found)
+    let mut remarks = Vec::from_slice(alloc, refused)?;
+    push_passed(&mut remarks, statements)?;
+    push_lacks_under(&mut remarks, setup, statements)?;
+    push_travels(&mut remarks, statements, frames)?;
+    remarks.extend_from_slice(odd)?;
+    sort_by_line(&mut remarks)?;
+    Ok(remarks)
 }
 
-fn review_under(
-    alloc: Global,
-    frames: &Frames,
-    text: &[u8],
-    reading: &Reading,
-    lacks: &[Remark],
-) -> Result<Review, AllocError>
-    requires { IsReadingOf text.now reading.now }
-    ensures refused { IfOk result (λ r. r.refused.items ≡ refusals_of frames.now text.now) }
-    ensures first { IfOk result (λ r.
-        first_of r.refused.items ≡ fault_of (program_of frames.now text.now)) }
-    ensures remarks { IfOk result (λ r.
-        AreRemarks frames.now text.now lacks.now r.remarks.items) }
-{
-    let statements = reading.statements.as_slice();
-    let refused = refusals_of(alloc, frames, text, reading)?;
-    let passed = passed_statements(alloc, statements)?;
-    let travels = straight_travels(alloc, statements, frames)?;
-    let odd = odd_statements(alloc, text, statements)?;
-    let remarks = remarks_of(
-        alloc,
-        Remarks {
-            refused: refused.as_slice(),
-            passed: passed.as_slice(),
-            lacks,
-            travels: travels.as_slice(),
-            odd: odd.as_slice(),
-        },
-    )?;
-    let strays = stray_touches(alloc, statements, frames)?;
-    Ok(Review {
-        refused,
-        remarks,
-        travels,
-        strays,
-    })
-}
-
-fn review_of(alloc: Global, texts: ReviewTexts<'_>, reading: &Reading) -> Result<Review, AllocError>
-    requires { IsReadingOf texts.program.now reading.now }
-    ensures remarks { IfOk result (λ r.
-        AreRemarks (frames_under texts.entry.setup.now) texts.entry.program.now
-        (lacks_under texts.entry.setup.now (text_reading texts.entry.program.now).statements)
-        r.remarks.items) }
-    ensures refused { IfOk result (λ r. r.refused.items
-        ≡ refusals_of (frames_under texts.entry.setup.now) texts.entry.program.now) }
-    ensures first { IfOk result (λ r. first_of r.refused.items
-        ≡ fault_of (program_of (frames_under texts.entry.setup.now) texts.entry.program.now)) }
-{
-    let lacks = lacks_under(alloc, texts.setup, reading.statements.as_slice())?;
-    let lacks = lacks.as_slice();
-    match texts.setup {
-        Some(setup) => review_under(alloc, setup.frames(), texts.program, reading, lacks),
-        None => review_under(alloc, &Frames::new(alloc), texts.program, reading, lacks),
-    }
-}
-
-/// Whether the first of these remarks is a refusal.
 fn is_refused(remarks: &[Remark]) -> bool
     ensures { result ≡ is_some (first_of remarks.now) }
 {
@@ -152,11 +103,11 @@ fn is_refused(remarks: &[Remark]) -> bool
 
 /// Everything that stands between a program and its run, with sentences: in the order of the program's lines each refusal, each statement
 /// that is passed over though it changes something, each for which the setup lacks something, each to which the probe travels straight from
-/// another feature, and each that is odd; then each frame of
-/// the setup that the program does not recall; then what the refused statements are for, and what deleting them would change.
+/// another feature, and each that is odd; then each frame of the setup that the program does not recall; then what the refused statements are
+/// for, and what deleting them would change.
 ///
 /// Fails only if out of memory.
-#[tactic(auto, using(crate::proofs::FirstLemmas::fault_is))]
+#[tactic(auto, using(crate::proofs::FirstLemmas::refused_is))]
 pub fn review_report(
     alloc: Global,
     style: FindingStyle<'_>,
@@ -171,13 +122,17 @@ pub fn review_report(
 {
     let reading = read(alloc, texts.program)?;
     let statements = reading.statements.as_slice();
-    let review = review_of(alloc, texts, &reading)?;
-    let remarks = review.remarks.as_slice();
-    let travels = review.travels.as_slice();
-    let mut findings = findings_in(alloc, texts.program, statements, travels, remarks)?;
+    let none = Frames::new(alloc);
+    let frames = frames_under(texts.setup, &none);
+    let refused = refusals(alloc, &reading, frames)?;
+    let refused = refused.as_slice();
+    let odd = odd_statements(alloc, texts.program, statements)?;
+    let odd = odd.as_slice();
+    let remarks = all_remarks(alloc, texts.setup, frames, statements, refused, odd)?;
+    let mut findings = findings_in(alloc, texts.program, statements, remarks.as_slice())?;
     add_unused_frames(&mut findings, texts.stored, statements)?;
-    let refused = review.refused.as_slice();
-    add_summary(&mut findings, refused, review.strays.as_slice())?;
+    let strays = stray_touches(alloc, statements, frames)?;
+    add_summary(&mut findings, refused, strays.as_slice())?;
     let text = printed(alloc, style, findings.as_slice())?;
     let is_refused = is_refused(refused);
     Ok(Report { text, is_refused })

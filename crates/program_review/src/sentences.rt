@@ -2,6 +2,7 @@
 
 use crate::notices::Passed;
 use crate::odd::{Odd, near_word};
+use crate::remarks::{Remark, What};
 use crate::travels::Travel;
 use crate::under_setup::Lack;
 use dmis_text::Statement;
@@ -11,40 +12,67 @@ use std::alloc::{AllocError, Global};
 /// The most bytes of a statement that a finding shows.
 const MOST_SHOWN: usize = 100;
 
-/// The end of the sentence on an odd statement.
-fn odd_meaning(odd: Odd) -> &'static str {
-    match odd {
-        Odd::Direction => "has a direction whose length is not 1.",
-        Odd::MoveBeforeTool => "is a move before any tool is selected.",
-        Odd::MoreTouches => "ends a block with more touches than its MEAS names.",
-        Odd::NearWord => "is not known.",
-        Odd::Mark => "begins with a byte order mark.",
-        Odd::NoDefinition => "measures a feature that no FEAT above defines.",
-        Odd::OtherKind => "measures a feature as another kind than its FEAT above says.",
-        Odd::MeasuredTwice => "measures a feature whose label another MEAS above has.",
-        Odd::DefinedTwice => "defines a feature whose label another FEAT above has.",
+/// The end of the sentence on a statement that is passed over: what it would mean, and what happens instead.
+fn passed_end(passed: Passed) -> &'static str {
+    match passed {
+        Passed::Compensation => {
+            "would say whether points are corrected by the radius of the probe: they are taken as the server reports them."
+        }
+        Passed::Positioning => {
+            "would say whether a move ends only when the machine stands still: the server decides."
+        }
+        Passed::Probing => {
+            "would set how the probe approaches, searches and retracts: the machine's own settings are used."
+        }
+        Passed::Clearing => {
+            "would say how the probe clears the part between features: nothing clears it, and the probe travels straight."
+        }
+        Passed::ClearingOff => {
+            "would say that the probe does not clear the part between features: nothing clears it anyway."
+        }
+        Passed::Depth => {
+            "would set how deep features are measured: nothing does it, and each target is taken as it is written."
+        }
+        Passed::Sensor => "would set the sensor: nothing does it.",
+        Passed::Plane => {
+            "would name the plane of later statements: positions have three coordinates here."
+        }
+        Passed::Speed => { "would set a speed: the machine's own is used." }
+        Passed::Acceleration => { "would set an acceleration: the machine's own is used." }
+        Passed::Operator => { "is a text for the operator: a run waits for him only with --pause." }
+        Passed::Question => { "is a question to the operator: nobody is asked." }
     }
 }
 
-/// The end of the sentence on a statement for which the setup lacks something.
-pub(crate) fn lack_meaning(lack: Lack) -> &'static str {
-    match lack {
-        Lack::Tool => "selects a tool that the setup lacks.",
-        Lack::Volume => {
+/// The end of the sentence on a statement.
+fn end_of(what: What) -> &'static str {
+    match what {
+        What::Passed(passed) => passed_end(passed),
+        What::Clearing(_) => passed_end(Passed::Clearing),
+        What::Lack(Lack::Tool) => "selects a tool that the setup lacks.",
+        What::Lack(Lack::Volume) => {
             "is out of the machine's volume: an axis is more than 1,000 metres from its zero point."
         }
+        What::Odd(Odd::Direction) => "has a direction whose length is not 1.",
+        What::Odd(Odd::MoveBeforeTool) => "is a move before any tool is selected.",
+        What::Odd(Odd::MoreTouches) => "ends a block with more touches than its MEAS names.",
+        What::Odd(Odd::NoDefinition) => "measures a feature that no FEAT above defines.",
+        What::Odd(Odd::OtherKind) => "measures a feature as another kind than its FEAT above says.",
+        What::Odd(Odd::MeasuredTwice) => "measures a feature whose label another MEAS above has.",
+        What::Odd(Odd::DefinedTwice) => "defines a feature whose label another FEAT above has.",
+        _ => "",
     }
 }
 
-/// Appends the beginning of some bytes as it can be read, and `..` if there are more.
-fn push_front(out: &mut Vec<u8>, bytes: &[u8]) -> Result<(), AllocError> {
+/// The beginning of some bytes as it can be read, and `..` if there are more.
+fn front_text(alloc: Global, bytes: &[u8]) -> Result<String, AllocError> {
     let (front, rest) = bytes.split_at(bytes.len().min(MOST_SHOWN));
-    let shown = visible(*out.allocator(), front)?;
-    out.extend_from_slice(shown.as_bytes())?;
-    if !rest.is_empty() {
-        out.extend_from_slice(b" ..")?;
+    let shown = visible(alloc, front)?;
+    if rest.is_empty() {
+        Ok(shown)
+    } else {
+        format!(in alloc; "{shown} ..")
     }
-    Ok(())
 }
 
 /// A statement's word and parameters, as they are read.
@@ -60,33 +88,38 @@ pub(crate) fn statement_text(alloc: Global, statement: &Statement) -> Result<Vec
     Ok(text)
 }
 
-/// The sentence on this statement: the statement, and this end.
-pub(crate) fn sentence_on(
-    alloc: Global,
-    statement: Option<&Statement>,
-    end: &str,
-) -> Result<Vec<u8>, AllocError> {
-    let mut said = Vec::new(alloc);
-    if let Some(statement) = statement {
-        let shown = statement_text(alloc, statement)?;
-        push_front(&mut said, shown.as_slice())?;
-    }
-    said.push(b' ')?;
-    said.extend_from_slice(end.as_bytes())?;
-    Ok(said)
+/// The sentence on a word that is one letter away from one that is known.
+fn near_sentence(alloc: Global, word: &[u8]) -> Result<String, AllocError> {
+    let shown = front_text(alloc, word)?;
+    let near = near_word(word).unwrap_or("");
+    format!(in alloc; "{shown}: {near}?")
 }
 
-/// The sentence on this statement on clearing, which would have replaced that many straight travels.
-pub(crate) fn clearing_sentence(
+/// How many straight travels a statement on clearing would have replaced; nothing for another.
+fn replaced_text(alloc: Global, what: What) -> Result<String, AllocError> {
+    match what {
+        What::Clearing(1) => String::from_str(alloc, " It would have replaced 1 straight travel."),
+        What::Clearing(count) => {
+            format!(in alloc; " It would have replaced {count} straight travels.")
+        }
+        _ => Ok(String::new(alloc)),
+    }
+}
+
+/// The sentence on a statement: the statement, and an end.
+pub(crate) fn statement_sentence(
     alloc: Global,
-    statement: Option<&Statement>,
-    count: usize,
-) -> Result<Vec<u8>, AllocError> {
-    let mut said = sentence_on(alloc, statement, Passed::Clearing.meaning())?;
-    let travels = if count == 1 { "travel" } else { "travels" };
-    let end = format!(in alloc; " It would have replaced {count} straight {travels}.")?;
-    said.extend_from_slice(end.as_bytes())?;
-    Ok(said)
+    statement: &Statement,
+    remark: Remark,
+) -> Result<String, AllocError> {
+    if matches!(remark.what, What::Odd(Odd::NearWord)) {
+        return near_sentence(alloc, &statement.word);
+    }
+    let text = statement_text(alloc, statement)?;
+    let shown = front_text(alloc, text.as_slice())?;
+    let end = end_of(remark.what);
+    let replaced = replaced_text(alloc, remark.what)?;
+    format!(in alloc; "{shown} {end}{replaced}")
 }
 
 /// A length in micrometres, in millimetres.
@@ -96,49 +129,15 @@ fn length_text(alloc: Global, micrometres: u128) -> Result<String, AllocError> {
     format!(in alloc; "{whole}.{rest:03} mm")
 }
 
-/// The sentence on the straight travel to the touch of a line, which is one of these.
-pub(crate) fn travel_sentence(
-    alloc: Global,
-    travels: &[Travel],
-    line: u64,
-) -> Result<Vec<u8>, AllocError> {
-    let Some(travel) = travels.iter().find(|travel| travel.first.line == line) else {
-        return Ok(Vec::new(alloc));
-    };
+/// The sentence on a straight travel.
+pub(crate) fn travel_sentence(alloc: Global, travel: Travel) -> Result<String, AllocError> {
     let length = match travel.length() {
         Some(length) => length_text(alloc, length)?,
-        None => format!(in alloc; "in other coordinates")?,
+        None => String::from_str(alloc, "in other coordinates")?,
     };
-    let from = travel.last.line;
-    let to = travel.first.line;
-    let last = travel.last.target;
-    let first = travel.first.target;
-    let sentence = format!(in alloc;
+    let (from, to) = (travel.last.line, travel.first.line);
+    let (last, first) = (travel.last.target, travel.first.target);
+    format!(in alloc;
         "The probe travels straight from line {from} ({last}) to line {to} ({first}), {length}, with no GOTO between."
-    )?;
-    Vec::from_slice(alloc, sentence.as_bytes())
-}
-
-/// The sentence on this odd statement.
-pub(crate) fn odd_sentence(
-    alloc: Global,
-    odd: Odd,
-    statement: Option<&Statement>,
-) -> Result<Vec<u8>, AllocError> {
-    match (odd, statement) {
-        (Odd::Mark, _) => Vec::from_slice(
-            alloc,
-            b"The text begins with a byte order mark: save it without one.",
-        ),
-        (Odd::NearWord, Some(statement)) => {
-            let mut said = Vec::new(alloc);
-            push_front(&mut said, &statement.word)?;
-            if let Some(near) = near_word(&statement.word) {
-                let asked = format!(in alloc; ": {near}?")?;
-                said.extend_from_slice(asked.as_bytes())?;
-            }
-            Ok(said)
-        }
-        _ => sentence_on(alloc, statement, odd_meaning(odd)),
-    }
+    )
 }

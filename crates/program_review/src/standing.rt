@@ -28,7 +28,6 @@ pub(crate) struct Standing {
     pub(crate) lacking: Option<u64>,
 }
 
-/// One more statement, where one too many is enough.
 fn one_more(number: u64) -> u64
     ensures { result ≡ one_more number }
 {
@@ -39,7 +38,6 @@ fn one_more(number: u64) -> u64
     }
 }
 
-/// One more touch in the open block.
 fn one_less(lacking: Option<u64>) -> Option<u64>
     ensures { result ≡ one_less lacking }
 {
@@ -57,7 +55,6 @@ fn lacking_said(meaning: &StatementMeaning, lacking: Option<u64>) -> Option<u64>
     }
 }
 
-/// What the open block lacks after a refused statement of this word.
 fn lacking_passed(keyword: Keyword, lacking: Option<u64>) -> Option<u64>
     ensures { result ≡ lacking_passed keyword lacking }
 {
@@ -69,7 +66,6 @@ fn lacking_passed(keyword: Keyword, lacking: Option<u64>) -> Option<u64>
     }
 }
 
-/// How many statements count after a refused one.
 fn number_passed(refusal: Refusal, number: u64) -> u64
     ensures { result ≡ number_passed refusal number }
 {
@@ -80,7 +76,6 @@ fn number_passed(refusal: Refusal, number: u64) -> u64
 }
 
 impl Standing {
-    /// Before any statement.
     pub(crate) fn start() -> Standing
         ensures { result ≡ at_start }
     {
@@ -92,7 +87,6 @@ impl Standing {
         }
     }
 
-    /// After how many statements one of this word is judged.
     fn number_at(self, keyword: Keyword) -> u64
         ensures { result ≡ number_at self keyword }
     {
@@ -105,7 +99,6 @@ impl Standing {
         self.number
     }
 
-    /// What the selections and the count of touches above refuse.
     fn settled(
         self,
         frames: &Frames,
@@ -125,7 +118,6 @@ impl Standing {
         }
     }
 
-    /// What a statement with this keyword says here, or the refusal that is due.
     #[tactic(auto, unfolding(dmis_program::specs::Judging::judged))]
     pub(crate) fn judge(
         self,

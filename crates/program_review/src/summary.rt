@@ -4,29 +4,21 @@ ghost use Rattle.std.specs.Prelude.{◌≡◌, ◌++◌, ◌∷◌, [], OnOk};
 ghost use Rattle.program_review.specs.Findings.{remarks_in, summed};
 ghost use Rattle.program_review.specs.Summary.{number_of, is_of, has_lines, sums_in, order};
 
-use crate::findings::Finding;
 use crate::groups::Group;
-use crate::remarks::{Remark, What};
+use crate::remarks::{Finding, Remark, What};
 use crate::strays::Stray;
 use dmis_program::Refusal;
 use std::alloc::{AllocError, Global};
 
 /// The most numbers of lines that a group shows.
-const MOST_LINES: usize = 20;
+const MOST_LINES: u64 = 20;
 
-/// Appends the number of a line after those of that many; `..` in place of the first that is too many.
-fn push_number(numbers: &mut Vec<u8>, count: usize, line: u64) -> Result<(), AllocError> {
-    if count > MOST_LINES {
-        return Ok(());
+fn touches_text(alloc: Global, count: usize) -> Result<String, AllocError> {
+    if count == 1 {
+        String::from_str(alloc, "1 touch")
+    } else {
+        format!(in alloc; "{count} touches")
     }
-    if count > 0 {
-        numbers.extend_from_slice(b", ")?;
-    }
-    if count == MOST_LINES {
-        return numbers.extend_from_slice(b"..");
-    }
-    let shown = format!(in *numbers.allocator(); "{line}")?;
-    numbers.extend_from_slice(shown.as_bytes())
 }
 
 /// How many touches would be measured there.
@@ -34,20 +26,12 @@ fn strays_in(strays: &[Stray], place: Stray) -> usize {
     strays.iter().filter(|stray| **stray == place).count()
 }
 
-fn counted(alloc: Global, count: usize, one: &str, many: &str) -> Result<String, AllocError> {
-    if count == 1 {
-        format!(in alloc; "1 {one}")
-    } else {
-        format!(in alloc; "{count} {many}")
-    }
-}
-
 /// What deleting the lines that set coordinates would change.
 fn strays_text(alloc: Global, strays: &[Stray]) -> Result<String, AllocError> {
     let machine = strays_in(strays, Stray::Machine);
     let stored = strays_in(strays, Stray::Stored);
-    let in_machine = counted(alloc, machine, "touch", "touches")?;
-    let in_stored = counted(alloc, stored, "touch", "touches")?;
+    let in_machine = touches_text(alloc, machine)?;
+    let in_stored = touches_text(alloc, stored)?;
     match (machine > 0, stored > 0) {
         (true, true) => format!(in alloc;
             "if deleted, {in_machine} would be measured in machine coordinates, and {in_stored} in those of the frame that is recalled above."
@@ -64,9 +48,8 @@ fn strays_text(alloc: Global, strays: &[Stray]) -> Result<String, AllocError> {
 
 /// What deleting the lines that leave touches to the operator would change.
 fn hand_text(alloc: Global, strays: &[Stray]) -> Result<String, AllocError> {
-    let mut count: u64 = 0;
-    let mut first = 0;
-    let mut last = 0;
+    let mut count: usize = 0;
+    let (mut first, mut last): (u64, u64) = (0, 0);
     for stray in strays {
         if let Stray::ByHand(line) = stray {
             first = if count == 0 { *line } else { first };
@@ -74,10 +57,11 @@ fn hand_text(alloc: Global, strays: &[Stray]) -> Result<String, AllocError> {
             count = count.saturating_add(1);
         }
     }
+    let touches = touches_text(alloc, count)?;
     let lines = match count {
-        0 => format!(in alloc; "0 touches")?,
-        1 => format!(in alloc; "1 touch, at line {first}")?,
-        _ => format!(in alloc; "{count} touches, from line {first} to line {last}")?,
+        0 => touches,
+        1 => format!(in alloc; "{touches}, at line {first}")?,
+        _ => format!(in alloc; "{touches}, from line {first} to line {last}")?,
     };
     format!(in alloc;
         "if deleted, or with PROG, the machine drives by itself to {lines}: MAN leaves this to the operator, since the place of the part is not known."
@@ -98,18 +82,25 @@ fn group_name(group: Group) -> &'static str {
     }
 }
 
-/// What deleting lines that measure otherwise would change: of a block whose touches are too few only its `ENDMES` is refused.
-fn unmeasured(found: &[Remark]) -> &'static str {
-    if found.iter().any(|one| matches!(one.what, What::Refused(Refusal::TooFewPoints, _))) {
-        "if deleted, what they ask for is not measured; delete an ENDMES together with its MEAS and the touches between."
-    } else {
-        "if deleted, what they ask for is not measured."
-    }
+/// Whether only the `ENDMES` of a block whose touches are too few is refused.
+fn lacks_points(found: &[Remark]) -> bool {
+    found.iter().any(|one| matches!(one.what, What::Refused(Refusal::TooFewPoints, _)))
 }
 
 /// What deleting the lines of a group would change.
-fn consequence(group: Group) -> &'static str {
-    match group {
+fn consequence(
+    alloc: Global,
+    group: Group,
+    found: &[Remark],
+    strays: &[Stray],
+) -> Result<String, AllocError> {
+    let text = match group {
+        Group::Coordinates => return strays_text(alloc, strays),
+        Group::ByHand => return hand_text(alloc, strays),
+        Group::Measuring if lacks_points(found) => {
+            "if deleted, what they ask for is not measured; delete an ENDMES together with its MEAS and the touches between."
+        }
+        Group::Measuring => "if deleted, what they ask for is not measured.",
         Group::Bookkeeping => "if deleted, what is measured stays the same.",
         Group::Flow => {
             "if deleted, each statement is carried out once, in order: what is measured may change, and in which coordinates."
@@ -119,10 +110,11 @@ fn consequence(group: Group) -> &'static str {
         }
         Group::Lengths => "if deleted, all lengths are taken as millimetres, without compensation.",
         Group::Mistake => "correct them; if deleted, touches or selections may be missing.",
-        Group::Other =>
-            "find out what they do before you delete them: they may also set a coordinate system.",
-        Group::Coordinates | Group::ByHand | Group::Measuring => "",
-    }
+        Group::Other => {
+            "find out what they do before you delete them: they may also set a coordinate system."
+        }
+    };
+    String::from_str(alloc, text)
 }
 
 fn number_of(group: Group) -> u8
@@ -153,51 +145,43 @@ fn has_lines(found: &[Remark], group: Group) -> bool
     found.iter().any(|one| is_of(group, one.what))
 }
 
-/// The summary of the lines of a group, with what deleting them would change.
-fn group_sentence(
-    alloc: Global,
-    found: &[Remark],
-    group: Group,
-    change: &str,
-) -> Result<Vec<u8>, AllocError> {
-    let mut numbers = Vec::new(alloc);
-    let mut count: usize = 0;
+/// How many lines a group has, and their numbers; `..` in place of the first that is too many.
+fn lines_text(alloc: Global, found: &[Remark], group: Group) -> Result<String, AllocError> {
+    let mut numbers = String::new(alloc);
+    let mut count: u64 = 0;
     for one in found {
         if is_of(group, one.what) {
-            push_number(&mut numbers, count, one.line)?;
             count = count.saturating_add(1);
+            let line = one.line;
+            let mark = if count == 1 { "" } else { ", " };
+            if count <= MOST_LINES {
+                let number = format!(in alloc; "{mark}{line}")?;
+                numbers.push_str(number.as_str())?;
+            }
         }
     }
-    let name = group_name(group);
-    let count = counted(alloc, count, "line", "lines")?;
-    let front = format!(in alloc; "{name}: {count} (")?;
-    let mut said = Vec::from_slice(alloc, front.as_bytes())?;
-    said.extend_from_slice(numbers.as_slice())?;
-    let behind = format!(in alloc; "): {change}")?;
-    said.extend_from_slice(behind.as_bytes())?;
-    Ok(said)
+    let lines = if count == 1 { "line" } else { "lines" };
+    let more = if count > MOST_LINES { ", .." } else { "" };
+    format!(in alloc; "{count} {lines} ({numbers}{more})")
 }
 
-/// Adds the summary of a group. `moved` is what deleting the lines that set coordinates would change, `by_hand` those of the next group.
 fn add_group(
     findings: &mut Vec<Finding>,
     found: &[Remark],
     group: Group,
-    moved: &str,
-    by_hand: &str,
+    strays: &[Stray],
 ) -> Result<(), AllocError>
     ensures { OnOk result (remarks_in findings.new.items
         ≡ remarks_in findings.old.items ++ summed group ∷ []) }
 {
-    let change = match group {
-        Group::Coordinates => moved,
-        Group::ByHand => by_hand,
-        Group::Measuring => unmeasured(found),
-        _ => consequence(group),
-    };
-    let said = group_sentence(*findings.allocator(), found, group, change)?;
+    let alloc = *findings.allocator();
+    let name = group_name(group);
+    let lines = lines_text(alloc, found, group)?;
+    let change = consequence(alloc, group, found, strays)?;
+    let said = format!(in alloc; "{name}: {lines}: {change}")?;
     let what = What::Sum(group);
-    findings.push(Finding::new(Remark { what, line: 0 }, said))?;
+    let remark = Remark { what, line: 0 };
+    findings.push(Finding { remark, said })?;
     Ok(())
 }
 
@@ -210,8 +194,6 @@ pub(crate) fn add_summary(
     ensures { OnOk result (remarks_in findings.new.items
         ≡ remarks_in findings.old.items ++ sums_in found.now order) }
 {
-    let moved = strays_text(*findings.allocator(), strays)?;
-    let by_hand = hand_text(*findings.allocator(), strays)?;
     let groups = [
         Group::Coordinates,
         Group::ByHand,
@@ -226,7 +208,7 @@ pub(crate) fn add_summary(
     let mut left = groups.as_slice();
     while let [group, others @ ..] = left {
         if has_lines(found, *group) {
-            add_group(findings, found, *group, moved.as_str(), by_hand.as_str())?;
+            add_group(findings, found, *group, strays)?;
         }
         left = others;
     }

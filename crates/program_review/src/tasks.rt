@@ -1,14 +1,13 @@
 // The statements that a client carries out by commands, and their lines.
 
 ghost use Rattle.std.specs.Prelude.{◌≡◌, ◌++◌, None, IfOk, OnOk};
-ghost use Rattle.std.specs.List.{flat_map};
 ghost use Rattle.dmis_text.specs.Reading.{text_reading};
-ghost use Rattle.program_review.specs.TaskLines.{task_said, task_on, task_lines_of, command_lines_of, lines_of, tool_with, frame_with, touches_left};
+ghost use Rattle.program_review.specs.TaskLines.{task_said, task_on, task_lines_of, command_lines_of, lines_of};
 ghost use Rattle.program_review.specs.TaskLines.{tool_line, frame_line, up_to_touch, after_touch, tool_again, frame_again};
 
+use crate::readings::read;
 use crate::under_setup::meaning_of;
 use dmis_program::{Keyword, StatementMeaning, keyword_of_word};
-use dmis_text::{Statements, TextFault};
 use std::alloc::{AllocError, Global};
 
 /// What a statement asks a client to do by commands (ISO 22093).
@@ -53,29 +52,25 @@ fn push_task(tasks: &mut Vec<TaskLine>, task: Option<Task>, line: u64) -> Result
 }
 
 /// The tasks of a program, in order: of an accepted program each is one step, and no step but the begin and the end of a block is left out.
-/// A statement that is refused for itself asks for nothing. Nothing is read after `ENDFIL`, nor after a line that cannot be read. Fails only
-/// if out of memory.
+/// A statement that is refused for itself asks for nothing, nor does one after `ENDFIL` or after a line that cannot be read. Fails only if out of
+/// memory.
 pub fn task_lines(alloc: Global, bytes: &[u8]) -> Result<Vec<TaskLine>, AllocError>
     ensures { IfOk result (λ tasks.
         tasks.items ≡ task_lines_of (text_reading bytes.now).statements) }
 {
-    let mut statements = Statements::new(alloc, bytes);
+    let reading = read(alloc, bytes)?;
     let mut tasks = Vec::new(alloc);
-    loop {
-        let statement = match statements.next() {
-            Ok(Some(statement)) => statement,
-            Ok(None) => return Ok(tasks),
-            Err(TextFault::Memory) => return Err(AllocError),
-            Err(TextFault::LineTooLong(_) | TextFault::BadByte(_)) => return Ok(tasks),
-        };
+    let mut left = reading.statements.as_slice();
+    while let [statement, rest @ ..] = left {
         let keyword = keyword_of_word(&statement.word);
         if keyword == Keyword::Endfil {
             return Ok(tasks);
         }
-        let meaning = meaning_of(alloc, keyword, &statement)?;
+        let meaning = meaning_of(alloc, keyword, statement)?;
         push_task(&mut tasks, task_of(&meaning), statement.line)?;
-        statements.take_back(statement);
+        left = rest;
     }
+    Ok(tasks)
 }
 
 /// Tasks that are left, and the lines of the tool and of the frame that are selected before them.
@@ -124,7 +119,6 @@ fn push_lines(lines: &mut Vec<Option<u64>>, task: TaskLine) -> Result<(), AllocE
     Ok(())
 }
 
-/// Adds the lines of the commands that select the tool and the frame of these lines again.
 fn push_again(
     lines: &mut Vec<Option<u64>>,
     tool: Option<u64>,
@@ -153,15 +147,10 @@ pub fn command_lines(
 ) -> Result<Vec<Option<u64>>, AllocError>
     ensures { IfOk result (λ lines. lines.items ≡ command_lines_of touches tasks.now) }
 {
-    let Left {
-        tool,
-        frame,
-        tasks: rest,
-        ..
-    } = left_after(tasks, touches);
+    let left = left_after(tasks, touches);
     let mut lines = Vec::new(alloc);
-    push_again(&mut lines, tool, frame)?;
-    for task in rest {
+    push_again(&mut lines, left.tool, left.frame)?;
+    for task in left.tasks {
         push_lines(&mut lines, *task)?;
     }
     Ok(lines)

@@ -8,11 +8,12 @@ ghost use Rattle.program_review.specs.Texts as spec;
 
 use crate::groups::is_text;
 use crate::notices::begins_with;
+use crate::readings::read;
 use crate::sentences::statement_text;
 use crate::tasks::{Left, Task, TaskLine, command_lines, left_after};
 use crate::under_setup::meaning_of;
 use dmis_program::{Keyword, StatementMeaning, keyword_of_word};
-use dmis_text::{Statement, Statements, TextFault};
+use dmis_text::Statement;
 use order_parts::TextPlace;
 use session_telling::visible;
 use std::alloc::{AllocError, Global};
@@ -30,14 +31,12 @@ pub struct OperatorText {
 pub fn is_operator_text(statement: &Statement) -> bool
     ensures { result ≡ spec.is_operator_text statement.now }
 {
-    if statement.label.is_some() || statement.is_open() {
-        return false;
-    }
-    is_text(&statement.word, "TEXT")
+    statement.label.is_none()
+        && !statement.is_open()
+        && is_text(&statement.word, "TEXT")
         && (begins_with("OPER", &statement.params) || begins_with("MAN", &statement.params))
 }
 
-/// Whether a block is open after a statement that says this.
 fn is_open_after(is_open: bool, meaning: &Option<StatementMeaning>) -> bool
     ensures { result ≡ spec.is_open_after is_open meaning.now }
 {
@@ -48,7 +47,6 @@ fn is_open_after(is_open: bool, meaning: &Option<StatementMeaning>) -> bool
     }
 }
 
-/// Adds the text of a statement, if it is one.
 fn push_text(
     texts: &mut Vec<OperatorText>,
     is_inside: bool,
@@ -74,28 +72,23 @@ pub fn operator_texts(alloc: Global, bytes: &[u8]) -> Result<Vec<OperatorText>, 
     ensures { IfOk result (λ texts. map spec.text_seen texts.items
         ≡ spec.texts_of (text_reading bytes.now).statements) }
 {
-    let mut statements = Statements::new(alloc, bytes);
+    let reading = read(alloc, bytes)?;
     let mut texts = Vec::new(alloc);
     let mut is_open = false;
-    loop {
-        let statement = match statements.next() {
-            Ok(Some(statement)) => statement,
-            Ok(None) => return Ok(texts),
-            Err(TextFault::Memory) => return Err(AllocError),
-            Err(TextFault::LineTooLong(_) | TextFault::BadByte(_)) => return Ok(texts),
-        };
+    let mut left = reading.statements.as_slice();
+    while let [statement, rest @ ..] = left {
         let keyword = keyword_of_word(&statement.word);
         if keyword == Keyword::Endfil {
             return Ok(texts);
         }
-        push_text(&mut texts, is_open, &statement)?;
-        let meaning = meaning_of(alloc, keyword, &statement)?;
+        push_text(&mut texts, is_open, statement)?;
+        let meaning = meaning_of(alloc, keyword, statement)?;
         is_open = is_open_after(is_open, &meaning);
-        statements.take_back(statement);
+        left = rest;
     }
+    Ok(texts)
 }
 
-/// The line of the last task up to the touch of this number.
 fn last_done(tasks: &[TaskLine], touches: usize) -> Option<u64>
     ensures { result ≡ last_line None (up_to_touch touches tasks.now) }
 {
@@ -115,21 +108,12 @@ fn last_done(tasks: &[TaskLine], touches: usize) -> Option<u64>
     last
 }
 
-/// Whether a line is below what is done, of which this is the last line.
-fn is_left(last: Option<u64>, line: u64) -> bool
-    ensures { result ≡ spec.is_left last line }
-{
-    last.is_none_or(|last| last < line)
-}
-
-/// Whether the line of a command is below this line.
 fn is_below(line: u64, other: Option<u64>) -> bool
     ensures { result ≡ spec.is_below line other }
 {
     other.is_some_and(|other| line < other)
 }
 
-/// How many of a plan's last commands a text on this line holds back.
 fn held_at(lines: &[Option<u64>], left: &[TaskLine], line: u64) -> usize
     ensures { result ≡ spec.held_at lines.now left.now line }
 {
@@ -141,14 +125,6 @@ fn held_at(lines: &[Option<u64>], left: &[TaskLine], line: u64) -> usize
     below.saturating_add(1)
 }
 
-/// Whether a run that waits for its operator waits at a text that holds that many commands back.
-fn is_waited(is_confirmed: bool, is_inside: bool, held: usize) -> bool
-    ensures { result ≡ spec.is_waited is_confirmed is_inside held }
-{
-    !is_inside && held > 1 && !(is_confirmed && held == usize::MAX)
-}
-
-/// Whether no touch that is left stands above a line.
 fn is_above_touches(left: &[TaskLine], line: u64) -> bool
     ensures { result ≡ spec.is_above_touches left.now line }
 {
@@ -177,14 +153,16 @@ fn place_of(
     let held = held_at(lines, left, text.line);
     Ok(TextPlace {
         held,
-        is_waited: waits.at_texts && is_waited(waits.at_begin, text.is_inside, held),
+        is_waited: waits.at_texts
+            && !text.is_inside
+            && held > 1
+            && !(waits.at_begin && held == usize::MAX),
         is_first: is_above_touches(left, text.line),
         line: text.line,
         shown: String::from_str(alloc, text.shown.as_str())?,
     })
 }
 
-/// Adds what is held back at a text, if it is below what is done, of which this is the last line.
 fn push_place(
     places: &mut Vec<TextPlace>,
     waits: Waits,
@@ -198,7 +176,7 @@ fn push_place(
         ++ spec.place_on waits.at_texts waits.at_begin last lines.now left.now
         (spec.text_seen text.now)) }
 {
-    if is_left(last, text.line) {
+    if last.is_none_or(|last| last < text.line) {
         let alloc = *places.allocator();
         places.push(place_of(alloc, waits, lines, left, text)?)?;
     }

@@ -1,21 +1,18 @@
 // The straight travels of a program from feature to feature.
 
-ghost use Rattle.std.specs.Prelude.{◌≡◌, ◌≤◌, ◌++◌, ◌∷◌, [], ◌*◌, ◌^◌, ◌+ℤ◌, ◌-ℤ◌, unsigned_abs, IfOk, OnOk};
-ghost use Rattle.dmis_program.specs.Offsets.{offset_of};
+ghost use Rattle.std.specs.Prelude.{◌≡◌, ◌≤◌, ◌*◌, ◌^◌, ◌++◌, ◌+ℤ◌, ◌-ℤ◌, unsigned_abs, OnOk};
 ghost use Rattle.fixed_um.specs.Points.{point_sum};
-ghost use Rattle.program_review.specs.Travels.{at_home, way_selected, way_recalled, way_touched, touched_at, way_after};
-ghost use Rattle.program_review.specs.Travels.{legs_to, legs_on, legs_from, next_stop};
-ghost use Rattle.program_review.specs.Travels.{travel_to, travels_in, travels_of, zeros, squared, squared_distance, squared_length, IsLength};
-ghost use Rattle.program_review.specs.Travels.{is_clearing, is_above, is_replaced, replaced};
+ghost use Rattle.dmis_program.specs.Offsets.{offset_of};
+ghost use Rattle.program_review.specs.Travels as spec;
+ghost use Rattle.program_review.specs.Travels.{zeros, squared, squared_distance, squared_length, IsLength};
 
 use crate::groups::is_of_coordinates;
-use crate::notices::Passed;
-use crate::remarks::{Remark, What};
+use crate::remarks::{Remark, What, push_remark};
 use crate::under_setup::meaning_of;
 use dmis_program::{Frames, Keyword, StatementMeaning, keyword_of_word};
 use dmis_text::Statement;
 use fixed_um::{Point, Um};
-use std::alloc::{AllocError, Global};
+use std::alloc::AllocError;
 
 /// A touch on the way of the probe.
 #[derive(Clone, Copy, Debug, PartialEq, Eq)]
@@ -39,15 +36,6 @@ pub struct Travel {
     pub first: Stop,
 }
 
-/// The way to a touch from the one before.
-#[derive(Clone, Copy)]
-pub(crate) struct Leg {
-    /// The touch.
-    pub(crate) stop: Stop,
-    /// No move comes before it, and it is of another feature.
-    pub(crate) is_straight: bool,
-}
-
 /// What has been passed on the way.
 #[derive(Clone, Copy)]
 pub(crate) struct Way {
@@ -57,28 +45,27 @@ pub(crate) struct Way {
     pub(crate) set_on: u64,
     /// A block is open.
     pub(crate) is_open: bool,
-    /// No move came since a touch whose place is known.
-    pub(crate) is_clear: bool,
-    /// A block has begun since the last touch.
+    /// A block has begun since the last touch whose place is known.
     pub(crate) has_begun: bool,
+    /// That touch, if no move came since.
+    pub(crate) last: Option<Stop>,
 }
 
 impl Way {
     fn start() -> Way
-        ensures { result ≡ at_home }
+        ensures { result ≡ spec.at_home }
     {
         Way {
             zero: Some(Point::zero()),
             set_on: 0,
             is_open: false,
-            is_clear: false,
             has_begun: false,
+            last: None,
         }
     }
 
-    /// After the statement of a line selects coordinates with this zero point, if it is known.
     fn selected(&self, zero: Option<Point>, line: u64) -> Way
-        ensures { result ≡ way_selected self.now zero line }
+        ensures { result ≡ spec.way_selected self.now zero line }
     {
         Way {
             zero,
@@ -87,9 +74,8 @@ impl Way {
         }
     }
 
-    /// After a `RECALL` on a line that says this.
     fn recalled(&self, frames: &Frames, line: u64, meaning: &Option<StatementMeaning>) -> Way
-        ensures { result ≡ way_recalled frames.now self.now line meaning.now }
+        ensures { result ≡ spec.way_recalled frames.now self.now line meaning.now }
     {
         match meaning {
             Some(StatementMeaning::Recalls(name)) => self.selected(frames.get(name), line),
@@ -98,20 +84,35 @@ impl Way {
         }
     }
 
-    /// After a touch whose place is known, or a move or a touch whose place is not.
-    fn touched(&self, is_clear: bool) -> Way
-        ensures { result ≡ way_touched self.now is_clear }
+    fn stop_at(&self, line: u64, target: Point) -> Stop
+        ensures { result ≡ spec.stop_at self.now line target }
     {
-        Way {
-            is_clear,
-            has_begun: self.has_begun && !is_clear,
-            ..*self
+        Stop {
+            line,
+            target,
+            zero: self.zero,
+            set_on: self.set_on,
         }
     }
 
-    /// The target of a touch that says this; none if it is outside a block or refused for itself.
+    fn touched(&self, line: u64, target: Option<Point>) -> Way
+        ensures { result ≡ spec.way_touched self.now line target }
+    {
+        match target {
+            None => Way {
+                last: None,
+                ..*self
+            },
+            Some(target) => Way {
+                has_begun: false,
+                last: Some(self.stop_at(line, target)),
+                ..*self
+            },
+        }
+    }
+
     fn touched_at(&self, meaning: &Option<StatementMeaning>) -> Option<Point>
-        ensures { result ≡ touched_at self.now meaning.now }
+        ensures { result ≡ spec.touched_at self.now meaning.now }
     {
         match meaning {
             Some(StatementMeaning::Touches(target, _)) if self.is_open => Some(*target),
@@ -126,7 +127,7 @@ impl Way {
         statement: &Statement,
         meaning: &Option<StatementMeaning>,
     ) -> Way
-        ensures { result ≡ way_after frames.now self.now keyword statement.now meaning.now }
+        ensures { result ≡ spec.way_after frames.now self.now keyword statement.now meaning.now }
     {
         match keyword {
             Keyword::Recall => self.recalled(frames, statement.line, meaning),
@@ -142,125 +143,58 @@ impl Way {
                 is_open: false,
                 ..*self
             },
-            Keyword::Goto => self.touched(false),
-            Keyword::Ptmeas => self.touched(self.touched_at(meaning).is_some()),
+            Keyword::Goto => self.touched(statement.line, None),
+            Keyword::Ptmeas => self.touched(statement.line, self.touched_at(meaning)),
             _ => *self,
         }
     }
 
-    /// The touch at this target on a line.
-    fn stop(&self, line: u64, target: Point) -> Stop
-        ensures { result ≡ record {
-          line = line;
-          target = target;
-          zero = self.now.zero;
-          set_on = self.now.set_on;
-        } }
-    {
-        Stop {
-            line,
-            target,
-            zero: self.zero,
-            set_on: self.set_on,
-        }
-    }
-
-    /// Adds the way to a touch, if a statement of this word is one and its place is known.
-    fn push_leg(
+    fn travel_at(
         &self,
-        legs: &mut Vec<Leg>,
         keyword: Keyword,
         line: u64,
         meaning: &Option<StatementMeaning>,
-    ) -> Result<(), AllocError>
-        ensures { OnOk result (legs.new.items
-            ≡ legs.old.items ++ legs_on self.now keyword line meaning.now) }
+    ) -> Option<What>
+        ensures { result ≡ spec.travel_at self.now keyword line meaning.now }
     {
-        if keyword == Keyword::Ptmeas
-            && let Some(target) = self.touched_at(meaning)
-        {
-            push_stop(
-                legs,
-                self.stop(line, target),
-                self.is_clear && self.has_begun,
-            )?;
+        if keyword != Keyword::Ptmeas {
+            return None;
         }
-        Ok(())
+        let target = self.touched_at(meaning)?;
+        if !self.has_begun {
+            return None;
+        }
+        let last = self.last?;
+        let first = self.stop_at(line, target);
+        Some(What::Straight(Travel { last, first }))
     }
 }
 
-fn push_stop(legs: &mut Vec<Leg>, stop: Stop, is_straight: bool) -> Result<(), AllocError>
-    ensures { OnOk result (legs.new.items
-        ≡ legs.old.items ++ record { stop = stop; is_straight = is_straight } ∷ []) }
-{
-    legs.push(Leg { stop, is_straight })?;
-    Ok(())
-}
-
-/// The ways to the touches among these statements, in order.
-fn legs_of(alloc: Global, statements: &[Statement], frames: &Frames) -> Result<Vec<Leg>, AllocError>
-    ensures { IfOk result (λ legs. legs.items ≡ legs_from frames.now at_home statements.now) }
+/// Adds each straight travel from the last touch of a feature to the first touch of the next, with no `GOTO` between, among these statements, in
+/// order, up to `ENDFIL`; `frames` are those that they may recall. A touch that is refused for itself or outside a block ends a way and begins
+/// none, since its place is not known. Fails only if out of memory.
+pub(crate) fn push_travels(
+    remarks: &mut Vec<Remark>,
+    statements: &[Statement],
+    frames: &Frames,
+) -> Result<(), AllocError>
+    ensures { OnOk result (remarks.new.items
+        ≡ remarks.old.items ++ spec.travels_of frames.now statements.now) }
 {
     let mut way = Way::start();
-    let mut legs = Vec::new(alloc);
     let mut left = statements;
     while let [statement, rest @ ..] = left {
         let keyword = keyword_of_word(&statement.word);
         if keyword == Keyword::Endfil {
-            return Ok(legs);
+            return Ok(());
         }
-        let meaning = meaning_of(alloc, keyword, statement)?;
-        way.push_leg(&mut legs, keyword, statement.line, &meaning)?;
+        let meaning = meaning_of(*remarks.allocator(), keyword, statement)?;
+        let what = way.travel_at(keyword, statement.line, &meaning);
+        push_remark(remarks, what, statement.line)?;
         way = way.after(frames, keyword, statement, &meaning);
         left = rest;
     }
-    Ok(legs)
-}
-
-/// The next touch, if the way to it is straight and to another feature.
-fn next_stop(legs: &[Leg]) -> Option<Stop>
-    ensures { result ≡ next_stop legs.now }
-{
-    match legs {
-        [leg, ..] if leg.is_straight => Some(leg.stop),
-        _ => None,
-    }
-}
-
-fn push_travel(travels: &mut Vec<Travel>, last: Stop, first: Option<Stop>) -> Result<(), AllocError>
-    ensures { OnOk result (travels.new.items ≡ travels.old.items ++ travel_to last first) }
-{
-    if let Some(first) = first {
-        travels.push(Travel { last, first })?;
-    }
     Ok(())
-}
-
-fn travels_in(alloc: Global, legs: &[Leg]) -> Result<Vec<Travel>, AllocError>
-    ensures { IfOk result (λ travels. travels.items ≡ travels_in legs.now) }
-{
-    let mut travels = Vec::new(alloc);
-    let mut left = legs;
-    while let [leg, rest @ ..] = left {
-        push_travel(&mut travels, leg.stop, next_stop(rest))?;
-        left = rest;
-    }
-    Ok(travels)
-}
-
-/// Each travel from the last touch of a feature straight to the first touch of the next, with no `GOTO` between, among these statements, in
-/// order, up to `ENDFIL`; `frames` are those that they may recall. A touch that is refused for itself or outside a block ends a way and begins
-/// none, since its place is not known. Fails only if out of memory.
-pub(crate) fn straight_travels(
-    alloc: Global,
-    statements: &[Statement],
-    frames: &Frames,
-) -> Result<Vec<Travel>, AllocError>
-    ensures { IfOk result (λ travels. travels.items ≡ travels_of frames.now statements.now) }
-{
-    let legs = legs_of(alloc, statements, frames)?;
-    let travels = travels_in(alloc, legs.as_slice())?;
-    Ok(travels)
 }
 
 #[tactic(auto, unfolding(crate::specs::Travels::squared))]
@@ -331,43 +265,4 @@ impl Travel {
         let square = squared_distance(self.last.target, last_zero, self.first.target, first_zero);
         Some(square.isqrt())
     }
-}
-
-/// Whether a statement says that the probe clears the part, or that it does so no longer.
-fn is_clearing(what: What) -> bool
-    ensures { result ≡ is_clearing what }
-{
-    matches!(what, What::Passed(Passed::Clearing | Passed::ClearingOff))
-}
-
-/// Whether a line is above the first of these statements that speaks of clearing.
-fn is_above(line: u64, notices: &[Remark]) -> bool
-    ensures { result ≡ is_above line notices.now }
-{
-    let mut left = notices;
-    while let [notice, rest @ ..] = left {
-        if is_clearing(notice.what) {
-            return line < notice.line;
-        }
-        left = rest;
-    }
-    true
-}
-
-/// Whether a statement on clearing on this line, after which these are passed over, would have replaced a travel.
-fn is_replaced(line: u64, later: &[Remark], travel: &Travel) -> bool
-    ensures { result ≡ is_replaced line later.now travel.now }
-{
-    line < travel.first.line && is_above(travel.first.line, later)
-}
-
-/// How many of a program's straight travels a statement on clearing would have replaced: those to a touch after its line, up to the next such
-/// statement; `later` are the statements after it that are passed over. Does not allocate.
-pub(crate) fn replaced(travels: &[Travel], line: u64, later: &[Remark]) -> usize
-    ensures { result ≡ replaced travels.now line later.now }
-{
-    travels
-        .iter()
-        .filter(|travel| is_replaced(line, later, travel))
-        .count()
 }

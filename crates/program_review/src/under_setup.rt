@@ -1,11 +1,11 @@
 // What a setup lacks for a program.
 
-ghost use Rattle.std.specs.Prelude.{◌≡◌, ◌++◌, IfOk, IfSome, OnOk};
-ghost use Rattle.dmis_program.specs.Keywords.{keyword_of};
-ghost use Rattle.dmis_program.specs.Offsets.{offset_of};
-ghost use Rattle.program_review.specs.UnderSetup.{recalls_other, meaning_with, selected_after, is_outside, when, lack_of, lack_on, is_end, lacks_of};
+ghost use Rattle.std.specs.Prelude.{◌≡◌, ◌++◌, IfOk, OnOk};
+ghost use Rattle.dmis_text.specs.Reading.{text_reading};
+ghost use Rattle.program_review.specs.UnderSetup.{recalls_other, meaning_with, selected_after, is_outside, when, lack_of, lacks_of};
 
-use crate::remarks::{Remark, What};
+use crate::readings::read;
+use crate::remarks::{Remark, What, push_remark};
 use dmis_program::{
     Frames, Keyword, StatementFault, StatementMeaning, keyword_of_word, said_of, word_refusal,
 };
@@ -34,7 +34,6 @@ pub(crate) enum Selected {
     Unknown,
 }
 
-/// Whether a statement recalls what this profile does not read.
 fn is_other_recall(keyword: Keyword, params: &[Text]) -> bool
     ensures { result ≡ recalls_other keyword params.now }
 {
@@ -78,8 +77,7 @@ impl Selected {
         }
     }
 
-    /// Whether a position in the axes of this frame is out of the machine's volume.
-    pub(crate) fn is_outside(&self, target: Point) -> bool
+    fn is_outside(&self, target: Point) -> bool
         ensures { result ≡ is_outside self.now target }
     {
         match self {
@@ -90,13 +88,13 @@ impl Selected {
     }
 }
 
-fn when(is_so: bool, what: Lack) -> Option<Lack>
-    ensures { result ≡ when is_so what }
+fn when(is_so: bool, lack: Lack) -> Option<What>
+    ensures { result ≡ when is_so lack }
 {
-    if is_so { Some(what) } else { None }
+    if is_so { Some(What::Lack(lack)) } else { None }
 }
 
-fn lack_of(rack: &Rack, selected: &Selected, meaning: &Option<StatementMeaning>) -> Option<Lack>
+fn lack_of(rack: &Rack, selected: &Selected, meaning: &Option<StatementMeaning>) -> Option<What>
     ensures { result ≡ lack_of rack.now selected.now meaning.now }
 {
     match meaning {
@@ -108,60 +106,46 @@ fn lack_of(rack: &Rack, selected: &Selected, meaning: &Option<StatementMeaning>)
     }
 }
 
-fn push_lack(remarks: &mut Vec<Remark>, lack: Option<Lack>, line: u64) -> Result<(), AllocError>
-    ensures { OnOk result (remarks.new.items ≡ remarks.old.items ++ lack_on line lack) }
-{
-    if let Some(lack) = lack {
-        let what = What::Lack(lack);
-        remarks.push(Remark { what, line })?;
-    }
-    Ok(())
-}
-
-/// Adds what the setup lacks for a statement, and gives the frame that is selected after it.
-fn pass(
+/// Adds what a setup with these tools and frames lacks for these statements of a program, up to `ENDFIL`. Where the selected frame is unknown,
+/// positions are not judged. Fails only if out of memory.
+pub(crate) fn push_lacks(
     remarks: &mut Vec<Remark>,
-    rack: &Rack,
-    frames: &Frames,
-    selected: &Selected,
-    keyword: Keyword,
-    statement: &Statement,
-) -> Result<Selected, AllocError>
-    ensures remarks { OnOk result (remarks.new.items ≡ remarks.old.items
-        ++ lack_on statement.now.line
-        (lack_of rack.now selected.now (meaning_with keyword statement.now))) }
-    ensures selected { IfOk result (λ next. next
-        ≡ selected_after frames.now selected.now (meaning_with keyword statement.now) keyword) }
-{
-    let meaning = meaning_of(*remarks.allocator(), keyword, statement)?;
-    let what = lack_of(rack, selected, &meaning);
-    push_lack(remarks, what, statement.line)?;
-    let next = selected.after(frames, keyword, &meaning);
-    Ok(next)
-}
-
-/// What a setup with these tools and frames lacks for these statements of a program, up to `ENDFIL`: each selection of a tool that is not in
-/// the rack, and each move and touch out of the machine's volume, in machine axes. Where the selected frame is unknown, positions are not
-/// judged. Fails only if out of memory.
-pub(crate) fn lacking_setup(
-    alloc: Global,
     statements: &[Statement],
     rack: &Rack,
     frames: &Frames,
-) -> Result<Vec<Remark>, AllocError>
-    ensures { IfOk result (λ remarks. remarks.items
-        ≡ lacks_of rack.now frames.now statements.now) }
+) -> Result<(), AllocError>
+    ensures { OnOk result (remarks.new.items
+        ≡ remarks.old.items ++ lacks_of rack.now frames.now statements.now) }
 {
     let mut selected = Selected::Machine;
-    let mut remarks = Vec::new(alloc);
     let mut left = statements;
     while let [statement, rest @ ..] = left {
         let keyword = keyword_of_word(&statement.word);
         if keyword == Keyword::Endfil {
-            return Ok(remarks);
+            return Ok(());
         }
-        selected = pass(&mut remarks, rack, frames, &selected, keyword, statement)?;
+        let meaning = meaning_of(*remarks.allocator(), keyword, statement)?;
+        let what = lack_of(rack, &selected, &meaning);
+        push_remark(remarks, what, statement.line)?;
+        selected = selected.after(frames, keyword, &meaning);
         left = rest;
     }
+    Ok(())
+}
+
+/// What a setup with these tools and frames lacks for the program of a text, in the order of its lines: each selection of a tool that is not in the
+/// rack, and each move and touch out of the machine's volume, in machine axes. Fails only if out of memory.
+pub fn lacking_for(
+    alloc: Global,
+    bytes: &[u8],
+    rack: &Rack,
+    frames: &Frames,
+) -> Result<Vec<Remark>, AllocError>
+    ensures { IfOk result (λ remarks. remarks.items
+        ≡ lacks_of rack.now frames.now (text_reading bytes.now).statements) }
+{
+    let reading = read(alloc, bytes)?;
+    let mut remarks = Vec::new(alloc);
+    push_lacks(&mut remarks, reading.statements.as_slice(), rack, frames)?;
     Ok(remarks)
 }

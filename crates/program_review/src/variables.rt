@@ -19,7 +19,6 @@ fn is_declaring(word: &[u8]) -> bool
     is_among(word, &["DECL", "DO", "MACRO", "READ"])
 }
 
-/// Whether the label of a word is the name that it gives a value.
 fn is_assigning(word: &[u8]) -> bool
     ensures { result ≡ is_among word.now assigning }
 {
@@ -85,7 +84,6 @@ pub(crate) fn has_name(names: &[Name], text: &[u8]) -> bool
     names.iter().any(|name| name.as_bytes() == text)
 }
 
-/// Whether the leftmost of these that is not read as a length is one of these names.
 fn is_refused_numeral(names: &[Name], numerals: &[Text]) -> bool
     ensures { result ≡ is_named names.now (find is_no_length numerals.now) }
 {
@@ -99,7 +97,6 @@ fn is_refused_numeral(names: &[Name], numerals: &[Text]) -> bool
     false
 }
 
-/// Whether the argument for which a `GOTO` is refused so is one of these names.
 fn is_refused_for(names: &[Name], refusal: Refusal, params: &[Text]) -> bool
     ensures { result ≡ is_named names.now (refused_argument refusal params.now) }
 {

@@ -2,13 +2,11 @@
 
 ghost use Rattle.std.specs.Prelude.{◌≡◌, IfOk};
 ghost use Rattle.program_review.specs.Findings.{remarks_in};
+ghost use Rattle.program_review.specs.Remarks.{with_counts};
 
-use crate::findings::Finding;
-use crate::remarks::{Remark, What};
-use crate::sentences::{
-    clearing_sentence, lack_meaning, odd_sentence, sentence_on, travel_sentence,
-};
-use crate::travels::Travel;
+use crate::odd::Odd;
+use crate::remarks::{Finding, Remark, What, counted};
+use crate::sentences::{statement_sentence, travel_sentence};
 use dmis_program::{Keyword, Refusal, keyword_of_word};
 use dmis_text::{Statement, cut_line};
 use refusal_guide::{Passage, write_sentence};
@@ -17,45 +15,43 @@ use std::alloc::{AllocError, Global};
 /// The most bytes of a program, from a refused line on, that its sentence is looked for in.
 const MOST_OF_STATEMENT: usize = 65_536;
 
-/// A line of a text: its number, and how many bytes come before it.
+/// A line of a text: its number, and the text from it on.
 #[derive(Clone, Copy)]
-struct LineStart {
+struct LineStart<'a> {
     number: u64,
-    at: usize,
+    rest: &'a [u8],
 }
 
-impl LineStart {
-    fn first() -> LineStart {
-        LineStart { number: 1, at: 0 }
+impl<'a> LineStart<'a> {
+    fn first(text: &'a [u8]) -> LineStart<'a> {
+        let number = 1;
+        LineStart { number, rest: text }
     }
 
     /// The line of this number, from this one on; the last one if the text has fewer.
-    fn forward(&self, text: &[u8], number: u64) -> LineStart {
-        let (_, mut rest) = text.split_at(self.at.min(text.len()));
-        let mut reached = self.number;
+    fn forward(self, number: u64) -> LineStart<'a> {
+        let mut reached = self;
         for passed in self.number..number {
-            let Some((_, after)) = cut_line(rest) else {
+            let Some((_, rest)) = cut_line(reached.rest) else {
                 break;
             };
-            rest = after;
-            reached = passed + 1;
+            reached = LineStart {
+                number: passed + 1,
+                rest,
+            };
         }
-        LineStart {
-            number: reached,
-            at: text.len().saturating_sub(rest.len()),
-        }
+        reached
     }
 }
 
-/// What sentences are about, up to the remark whose sentence is written: the text, its statements from that line on, its travels, and where the
-/// line and the last block above it begin.
+/// What sentences are about, up to the remark whose sentence is written: the text, its statements from that line on, and where the line and the
+/// last block above it begin.
 #[derive(Drop)]
 struct Passages<'s, 'a> {
     text: &'a [u8],
     statements: &'s [Statement<'a>],
-    travels: &'s [Travel],
-    block: LineStart,
-    line: LineStart,
+    block: LineStart<'a>,
+    line: LineStart<'a>,
 }
 
 impl<'s, 'a> Passages<'s, 'a> {
@@ -66,12 +62,12 @@ impl<'s, 'a> Passages<'s, 'a> {
                 break;
             }
             if keyword_of_word(&statement.word) == Keyword::Meas {
-                self.block = self.block.forward(self.text, statement.line);
+                self.block = self.block.forward(statement.line);
             }
             left = later;
         }
         self.statements = left;
-        self.line = self.line.forward(self.text, line);
+        self.line = self.line.forward(line);
     }
 
     /// The part of the text that the sentence on a refusal of the line that was reached needs: all of it, or from the block above or from the
@@ -85,64 +81,65 @@ impl<'s, 'a> Passages<'s, 'a> {
                     line,
                 };
             }
-            Refusal::InsideBlock | Refusal::TooFewPoints => &self.block,
-            _ => &self.line,
+            Refusal::InsideBlock | Refusal::TooFewPoints => self.block,
+            _ => self.line,
         };
-        let end = self
-            .line
-            .at
-            .saturating_add(MOST_OF_STATEMENT)
-            .min(self.text.len());
-        let (front, _) = self.text.split_at(end);
-        let (_, part) = front.split_at(start.at.min(end));
+        let above = start.rest.len().saturating_sub(self.line.rest.len());
+        let most = above.saturating_add(MOST_OF_STATEMENT);
+        let (text, _) = start.rest.split_at(start.rest.len().min(most));
         Passage {
-            text: part,
+            text,
             first: start.number,
             line,
         }
     }
 
     /// The sentence of a remark. Remarks come in the order of their lines.
-    fn sentence(&mut self, alloc: Global, remark: Remark) -> Result<Vec<u8>, AllocError> {
+    fn sentence(&mut self, alloc: Global, remark: Remark) -> Result<String, AllocError> {
         self.pass_above(remark.line);
-        let statement = self.statements.first();
-        match remark.what {
-            What::Refused(refusal, _) => {
+        match (remark.what, self.statements) {
+            (What::Refused(refusal, _), _) => {
                 let mut said = Vec::new(alloc);
                 write_sentence(&mut said, refusal, self.passage(refusal, remark.line))?;
-                Ok(said)
+                String::from_utf8_lossy(alloc, said.as_slice())
             }
-            What::Passed(what) => sentence_on(alloc, statement, what.meaning()),
-            What::Clearing(count) => clearing_sentence(alloc, statement, count),
-            What::Straight(_) => travel_sentence(alloc, self.travels, remark.line),
-            What::Lack(lack) => sentence_on(alloc, statement, lack_meaning(lack)),
-            What::Odd(odd) => odd_sentence(alloc, odd, statement),
-            What::Unused | What::Sum(_) => Ok(Vec::new(alloc)),
+            (What::Straight(travel), _) => travel_sentence(alloc, travel),
+            (What::Odd(Odd::Mark), _) => String::from_str(
+                alloc,
+                "The text begins with a byte order mark: save it without one.",
+            ),
+            (_, [statement, ..]) => statement_sentence(alloc, statement, remark),
+            _ => Ok(String::new(alloc)),
         }
     }
 }
 
-/// The findings of remarks on a program's text with these statements and straight travels, in their order, each with its sentence.
-pub(crate) fn findings_in(
+/// The findings of remarks on a program's text with these statements, in their order, each with its sentence; those on clearing are counted.
+pub(crate) fn findings_in<'a>(
     alloc: Global,
-    text: &[u8],
-    statements: &[Statement],
-    travels: &[Travel],
+    text: &'a [u8],
+    statements: &[Statement<'a>],
     remarks: &[Remark],
 ) -> Result<Vec<Finding>, AllocError>
-    ensures { IfOk result (λ findings. remarks_in findings.items ≡ remarks.now) }
+    ensures { IfOk result (λ findings. remarks_in findings.items ≡ with_counts remarks.now) }
 {
     let mut passages = Passages {
         text,
         statements,
-        travels,
-        block: LineStart::first(),
-        line: LineStart::first(),
+        block: LineStart::first(text),
+        line: LineStart::first(text),
     };
     let mut findings = Vec::new(alloc);
-    for remark in remarks {
+    let mut left = remarks;
+    while let [remark, later @ ..] = left {
+        let what = counted(remark.what, later);
+        let line = remark.line;
+        let counted = Remark { what, line };
+        let remark = &counted;
         let said = passages.sentence(alloc, *remark)?;
-        findings.push(Finding::new(*remark, said))?;
+        let remark = *remark;
+        findings.push(Finding { remark, said })?;
+        left = later;
     }
     Ok(findings)
 }

@@ -187,13 +187,7 @@ impl Opening {
         self.tasks = task_lines(self.alloc, text)?;
         self.texts = operator_texts(self.alloc, text)?;
         if let Some(setup) = &self.setup {
-            self.said = lacking_lines(
-                self.alloc,
-                &program,
-                text,
-                setup,
-                self.order.setup.as_str(),
-            )?;
+            self.said = lacking_lines(self.alloc, text, setup, self.order.setup.as_str())?;
         }
         self.program = Some(program);
         if self.said.is_empty() {

@@ -2,7 +2,7 @@
 
 use client_core::Client;
 use contact_ledger::Feature;
-use dmis_program::{Program, Touch, Wanted};
+use dmis_program::{Touch, Wanted};
 use fixed_um::Frame;
 use order_parts::{TextPlace, first_lines, kept_text};
 use program_review::{Lack, Task, TaskLine, What, lacking_for};
@@ -130,12 +130,11 @@ pub(crate) fn text_lines(alloc: Global, places: &[TextPlace]) -> Result<String, 
 /// Each line of a program that selects a tool which the rack of a setup lacks, or goes out of the machine's volume.
 pub fn lacking_lines(
     alloc: Global,
-    program: &Program,
     text: &[u8],
     setup: &Setup,
     name: &str,
 ) -> Result<String, AllocError> {
-    let lacking = lacking_for(alloc, program, text, setup.rack(), setup.frames())?;
+    let lacking = lacking_for(alloc, text, setup.rack(), setup.frames())?;
     let mut lines = String::new(alloc);
     for remark in lacking.iter() {
         let number = remark.line;

@@ -2,9 +2,8 @@ use Rattle.program_review.proofs.Names.{◌++◌, ◌≡◌, length, map, text_r
 use Rattle.program_review.proofs.texts.operator_texts.Given as goal
 
 -- the texts so far, and those of what is left
-abbrev pub invariant-loop-statement : goal.invariant-loop-statement
-invariant-loop-statement l = map text_seen l.texts.items ++ texts_from l.is_open l.statements.left
-    ≡ texts_of (text_reading l.bytes).statements
+abbrev pub invariant-loop-left : goal.invariant-loop-left
+invariant-loop-left l = map text_seen l.texts.items ++ texts_from l.is_open l.left ≡ texts_of (text_reading l.bytes).statements
 
-abbrev pub decreases-loop-statement : goal.decreases-loop-statement
-decreases-loop-statement l = length l.statements.left
+abbrev pub decreases-loop-left : goal.decreases-loop-left
+decreases-loop-left l = length l.left
