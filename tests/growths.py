@@ -241,6 +241,15 @@ def recorded_row(refusing):
     return must_want_memory(whole, [it for it, _ in runs if it != UNLOCKED], lambda run: must_be_front_of_report(run[1], whole[1]))
 
 
+def reported_row(refusing):
+    """Likewise the file of the contacts that the server reports."""
+    (whole, file), runs = refusing.all_of(Pair(refusing, "run", "--contacts").run)
+    must(whole[0] == 0 and file.count(" CONTACT ") == 3, "with all memory", whole, file)
+    for _, text in runs:
+        must(file.startswith(text or ""), "is not a prefix of its contacts", text)
+    return must_want_memory(whole, [it for it, _ in runs if it != UNLOCKED], lambda run: must_be_front_of_report(run[1], whole[1]))
+
+
 def serve_row(refusing):
     (whole, file), runs = refusing.all_of(Pair(refusing, "serve").run)
     must(whole[0] == 0 and whole[1].count("CONTACT ") == 3 and file.count("\n") > 3, "with all memory", whole, file)
@@ -312,6 +321,7 @@ def growth_rows(refusing):
     rows["loop_of_two_features"] = lambda: loop_row(refusing, "loop --setup machine.setup --window 16 two_frames.dmis")
     rows["run"] = lambda: run_row(refusing)
     rows["recorded"] = lambda: recorded_row(refusing)
+    rows["reported"] = lambda: reported_row(refusing)
     rows["serve"] = lambda: serve_row(refusing)
     for name, row in CALL_ROWS.items():
         rows[name] = lambda row=row: call_row(refusing, *row)

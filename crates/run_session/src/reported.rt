@@ -1,5 +1,7 @@
 // The file of contacts that a server reports during a run.
 
+ghost use Rattle.std.specs.Prelude.{◌≡◌, OnErr};
+
 use client_core::Client;
 use contact_ledger::{ServerLedger, add_entry, write_contacts};
 use std::alloc::{AllocError, Global};
@@ -31,13 +33,18 @@ impl Reported {
         })
     }
 
-    /// Adds the acts that a client has counted since, on its connection of this number. Fails only if out of memory.
-    pub fn follow(&mut self, number: u64, client: &Client) -> Result<(), AllocError> {
+    /// Adds the acts that a client has counted since, on its connection of this number, or nothing. Fails only if out of memory.
+    pub fn follow(&mut self, number: u64, client: &Client) -> Result<(), AllocError>
+        ensures text { OnErr result (self.new.text.items ≡ self.old.text.items) }
+        ensures told { OnErr result (self.new.told ≡ self.old.told) }
+    {
         let acts = client.counted();
-        for at in self.told..acts.len() {
-            add_entry(&mut self.text, number, &acts[at])?;
-            self.told = at + 1;
+        let mut lines = Vec::new(*self.text.allocator());
+        for act in acts.get(self.told..).unwrap_or(&[]) {
+            add_entry(&mut lines, number, act)?;
         }
+        self.text.extend_from_slice(lines.as_slice())?;
+        self.told = acts.len();
         Ok(())
     }
 
