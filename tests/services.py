@@ -4,6 +4,7 @@
   nothing disturbs.
 - Each act of a server is written to its contacts file and forced to the device before the reply that reports it is sent, as `strace` sees it.
 - A contacts file that is removed while the server serves is reported at once, the whole file is there at the end, and the status is 1.
+- The name of each recording of a relay is forced to the device directly after the file is made.
 - `--endless` serves one connection after another until it is ended.
 - A client that sends a byte at a time and no line, and a server that only reports under E0000, have as long as one that is silent.
 
@@ -108,6 +109,20 @@ def removed_contacts(folder):
     must((folder / "contacts").read_text() == HEAD + "1 HOMED\n1 HOMEDIS 1\n1 HOMEDIS 1\n", "the whole file at the end")
 
 
+def forced_names(folder):
+    server, port = served(folder)
+    own = free_port()
+    (folder / "bytes").mkdir()
+    words = ("--listen", str(own), "--host", "127.0.0.1", "--port", str(port), "--told", "told", "--record-bytes", "bytes", "--connections", "1")
+    relay = traced(folder, ("-y", "-e", "trace=openat,fsync"), "watch", *words)
+    wait_for_listener(own, lambda: relay.poll() is not None, SECONDS)
+    must(ended(dme(folder, *run_words(own)))[0] == 0 and ended(relay)[0] == 0 and ended(server)[0] == 0, "run")
+    calls = (folder / "calls").read_text().split("\n")
+    for name in ("1.up", "1.down", "1.order"):
+        at = next(at for at, it in enumerate(calls) if f'"bytes/{name}", ' in it and "O_EXCL" in it)
+        must(re.search(r" fsync\(\d+<[^>]*/bytes>\) += 0", calls[at + 2]), "its name is not forced to the device", name, calls[at : at + 3])
+
+
 def endless(folder):
     server, port = served(folder, "--endless")
     for _ in range(3):
@@ -150,7 +165,7 @@ def noise(folder):
 
 
 def check_all(room):
-    checks = (failing_calls, forced_acts, removed_contacts, endless, noise)
+    checks = (failing_calls, forced_acts, forced_names, removed_contacts, endless, noise)
     for check in checks:
         folder = pathlib.Path(room) / check.__name__
         folder.mkdir()

@@ -4,7 +4,7 @@ use crate::connections::Connections;
 use crate::growing::Growing;
 use crate::names::{names_in, place_of};
 use crate::slots::Open;
-use crate::text_files::{is_plain, replace_file};
+use crate::text_files::{is_plain, replace_file, settle_name};
 use effects::{Answer, Came, Effect, Growth, Hands, Slot};
 use jiff::Timestamp;
 use std::fs::{self, File, OpenOptions};
@@ -191,6 +191,7 @@ impl RealHands {
             Effect::Replace(name, beside, text) => replace_file(&rt, text, beside, name)?,
             Effect::Create(slot, name) => {
                 *self.file(slot) = Open::File(File::create_new(&rt, name)?);
+                settle_name(&rt, name)?;
             }
             Effect::Save(slot, bytes) => self.file(slot).save(bytes)?,
             Effect::Settle(slot) => self.file(slot).settle()?,
