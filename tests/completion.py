@@ -48,7 +48,7 @@ def is_whole(name):
     if name == "codes":
         codes = completed("explain", "")
         small = completed("explain", "p")
-        known = all(told("explain", it)[0] == 0 for it in codes | small)
+        known = all(told("explain", it)[0] == 0 and told("explain", it)[1].startswith(it.upper() + " ") for it in codes | small)
         return len(codes) == 46 and small == {it.lower() for it in codes if it[0] == "P"} and known
     if name == "forms":
         return forms_are_whole("export", "--features", "none") and forms_are_whole("review")

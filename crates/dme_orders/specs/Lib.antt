@@ -9,7 +9,6 @@ pub mod Simulating
 pub mod Auditing
 pub mod Looping
 pub mod Reviewing
-pub mod Explaining
 pub mod Missing
 pub mod Exporting
 pub mod Recorded

@@ -1,5 +1,4 @@
 pub mod Outside
-pub mod TopicLemmas
 pub mod Feeds
 pub mod LineSteps
 pub mod PlaceLemmas

@@ -9,17 +9,17 @@ pub use Rattle.fixed_um.specs.declared.numerals.NumeralFault.{NumeralFault}
 pub use Rattle.refusal_guide.specs.BadBytes.{has_bad_byte, line_of_last}
 pub use Rattle.refusal_guide.specs.Blocks.{above_line, block_after, open_block, OpenBlock, opened_by}
 pub use Rattle.refusal_guide.specs.Lengths.{fault_in}
-pub use Rattle.refusal_guide.specs.Lines.{after_feeds, bytes_from, first_of, line_of, lines_from, shown_from, visible_in_line}
+pub use Rattle.refusal_guide.specs.Lines.{after_feeds, first_of, line_of, lines_from, shown_from, visible_in_line}
 pub use Rattle.refusal_guide.specs.Reasons.{IsOfEither, IsOfLine, IsOfPlace, IsOfStatement, IsProgramReason, Spot, spot_at, spot_of}
-pub use Rattle.refusal_guide.specs.Spots.{after_word, param_spot}
-pub use Rattle.refusal_guide.specs.Words.{Caused, caused, caused_by, is_at}
+pub use Rattle.refusal_guide.specs.Spots.{after_word}
+pub use Rattle.refusal_guide.specs.Words.{Caused, caused_by, is_at}
 pub use Rattle.std.proofs.Common.{[], ◌++◌, ◌+◌, ◌-◌, ◌<◌, ◌==◌, ◌∙◌, ◌∷◌, ◌≡◌, ◌≢◌, ◌≤◌, ap, arith, Bool, codes, cond, drop, drop-drop, eqb, Err}
-pub use Rattle.std.proofs.Common.{false, find, fold, IfSome, inl, inr, is_ok, length, length-drop, length-take-le, List, ltb, ltb-false, MatchOption}
-pub use Rattle.std.proofs.Common.{min, nat_lt, ne_eqb, None, not, Ok, OnOk, Option, pos, refl, Result, rules, slice_get, slice_index, Some}
+pub use Rattle.std.proofs.Common.{false, find, fold, IfSome, inl, inr, length, length-drop, length-take-le, List, ltb, ltb-false}
+pub use Rattle.std.proofs.Common.{min, nat_lt, ne_eqb, None, not, Ok, Option, pos, refl, Result, rules, slice_get, slice_index, Some}
 pub use Rattle.std.proofs.Common.{string_bytes, subst, suc, sym, take, true, unsigned_abs, zero, ℕ, ℤ}
 pub use Rattle.std.proofs.lemmas.Bool.{false≢true}
 pub use Rattle.std.proofs.lemmas.List.{drop_all}
 pub use Rattle.std.proofs.lemmas.Result.{IfOk-weaker}
 pub use Rattle.std.specs.List.{flat_map, last_or, position, position_or_len, prefix_len, range_with_len, suffix_len}
-pub use Rattle.std.specs.Option.{is_some, option_map, option_or}
+pub use Rattle.std.specs.Option.{is_some, option_map}
 pub use Rattle.std.specs.Str.Lines.{lines}

@@ -1,30 +1,44 @@
--- Which topic a code names (this profile).
-use Rattle.std.specs.Prelude.{ℕ, Bool, true, false, not, ◌&&◌, ◌==◌, List, length, find, Option, Some, None, is_some, if◌then◌else◌}
+-- Which topic a code names, and its page (this profile).
+use Rattle.std.specs.Prelude.{◌≡◌, ℕ, Bool, true, false, ◌&&◌, ◌==◌, ◌++◌, List, length, map, codes, position, Option, Some, None, IfSome, if◌then◌else◌}
 use Rattle.std.specs.List.{list_all}
 use Rattle.std.specs.Option.{option_or}
-use Rattle.std.specs.Char.{is_ascii_digit}
-use Rattle.refusal_guide.specs.Titles.{title_of, is_called}
-use Rattle.refusal_guide.specs.declared.topics.TheConstants.{TOPICS}
+use Rattle.std.specs.Char.{is_ascii_digit, to_ascii_lowercase}
+use Rattle.std.specs.Str.{bytes_eq}
+use Rattle.refusal_guide.specs.declared.topics.TheConstants.{CODES}
 use Rattle.refusal_guide.specs.declared.topics.Topic.{Topic}
-use Rattle.refusal_guide.specs.declared.topics.Topic.TheVariants as topic
 
--- the topic whose title begins with this code
-abbrev pub titled : List ℕ → Option Topic
-titled code = find (λ t. is_called (title_of t) code) TOPICS
+-- a code is this one, its letters in any case
+abbrev pub is_called : List ℕ → List ℕ → Bool
+is_called wanted code = bytes_eq (map to_ascii_lowercase code) (map to_ascii_lowercase wanted)
 
 -- the number of an error, as the wire has it: four digits
 abbrev pub is_error_number : List ℕ → Bool
 is_error_number code = (length code == 4) && list_all is_ascii_digit code
 
--- the errors of a server's own
-abbrev pub is_servers_own : Topic → Bool
-is_servers_own topic.ServersOwn = true
-is_servers_own _ = false
+-- the number of the topic that a code names: its number among the codes, or for an error that is not among them the number after the last
+abbrev pub number_of : List ℕ → Option ℕ
+number_of code = option_or (position (λ other. is_called other.now code) CODES) (if is_error_number code then Some 46 else None)
 
--- the code names the topic: its title begins with it, or it is the number of an error with which no title begins
+abbrev pub is_the : ℕ → Option ℕ → Bool
+is_the n None = false
+is_the n (Some m) = n == m
+
+-- the code names the topic
 abbrev pub is_code_of : Topic → List ℕ → Bool
-is_code_of t code = if is_servers_own t then is_error_number code && not (is_some (titled code)) else is_called (title_of t) code
+is_code_of topic code = is_the topic.number (number_of code)
 
--- the topic that a code names
-abbrev pub topic_of : List ℕ → Option Topic
-topic_of code = option_or (titled code) (if is_error_number code then Some topic.ServersOwn else None)
+-- a page: the code, if there is one, and the text
+abbrev pub page_text : Option (List ℕ) → List ℕ → List ℕ
+page_text None text = text ++ codes "\n"
+page_text (Some code) text = code ++ (codes " " ++ (text ++ codes "\n"))
+
+-- a text is a page of a topic: the code that it has, if it has one, names the topic
+pub record IsPage (topic : Topic) (shown : List ℕ) : Type 0 where
+  pub code : Option (List ℕ)
+  pub text : List ℕ
+  pub is_code : IfSome code (λ c. is_code_of topic c ≡ true)
+  pub whole : shown ≡ page_text code text
+
+-- what was there, followed by a page of a topic
+abbrev pub WritesPage : Topic → List ℕ → List ℕ → Type 0
+WritesPage topic old new = (shown : List ℕ) × (new ≡ old ++ shown) × IsPage topic shown

@@ -13,8 +13,6 @@ use Rattle.contact_ledger.specs.declared.faults.TextFault.TheVariants as ledger
 use Rattle.refusal_guide.specs.declared.files.InputFile.{InputFile}
 use Rattle.refusal_guide.specs.declared.files.InputFiles.{InputFiles}
 use Rattle.refusal_guide.specs.Places.{Places}
-use Rattle.refusal_guide.specs.declared.places.Refused.{Refused}
-use Rattle.refusal_guide.specs.declared.places.Refused.TheVariants as refused
 use Rattle.order_parts.specs.declared.faults.OrderFault.{OrderFault}
 use Rattle.order_parts.specs.declared.faults.OrderFault.TheVariants as fault
 
@@ -44,6 +42,15 @@ pub record IsUnnamed (file : InputFile) : Type 0 where
   pub text : file.text.items ≡ []
   pub whole : file.is_short ≡ false
 
+pub record AreUnnamed (files : InputFiles) : Type 0 where
+  pub setup : IsUnnamed files.setup
+  pub schedule : IsUnnamed files.schedule
+  pub features : IsUnnamed files.features
+  pub contacts : IsUnnamed files.contacts
+  pub recorded : IsUnnamed files.record
+  pub limits : IsUnnamed files.limits
+  pub program : IsUnnamed files.program
+
 -- what is shown for the fault of an order, by its files: the refusal, or the name of the file
 abbrev pub IsFaultShown : FilesFault → (Role → InputFile) → OrderFault → Type 0
 IsFaultShown (files.Setup setup.Memory) file shown = shown ≡ fault.Memory
@@ -66,21 +73,19 @@ IsFaultShown files.NotOurs file shown = shown ≡ fault.NotOurs
 IsFaultShown files.Write file shown = shown ≡ fault.CannotWriteOutput
 IsFaultShown files.Memory file shown = shown ≡ fault.Memory
 
--- the place at which a file is refused
-abbrev pub IsPlaceIn : Refused → InputFile → List ℕ → Type 0
-IsPlaceIn why file shown = Places why (string_bytes file.name) file.text.items [] shown
+-- which file a fault blames at a line
+abbrev pub refused_file : FilesFault → Role
+refused_file (files.Setup cause) = role.Setup
+refused_file (files.Schedule cause) = role.Schedule
+refused_file (files.Features cause) = role.Features
+refused_file (files.Contacts cause) = role.Contacts
+refused_file (files.Record cause) = role.Record
+refused_file (files.Limits cause) = role.Limits
+refused_file _ = role.Program
 
 -- where the file of a fault is refused, by the order's files; nothing if no file is refused at a line
+abbrev pub IsPlaceIn : FilesFault → InputFile → List ℕ → Type 0
+IsPlaceIn fault file shown = Places fault (string_bytes file.name) file.text.items [] shown
+
 abbrev pub IsPlaceShown : FilesFault → (Role → InputFile) → List ℕ → Type 0
-IsPlaceShown (files.Setup cause) file shown = IsPlaceIn (refused.Setup cause) (file role.Setup) shown
-IsPlaceShown (files.Schedule cause) file shown = IsPlaceIn (refused.Schedule cause) (file role.Schedule) shown
-IsPlaceShown (files.Features cause) file shown = IsPlaceIn (refused.Features cause) (file role.Features) shown
-IsPlaceShown (files.Contacts cause) file shown = IsPlaceIn (refused.Contacts cause) (file role.Contacts) shown
-IsPlaceShown (files.Program cause) file shown = IsPlaceIn (refused.Program cause) (file role.Program) shown
-IsPlaceShown (files.Unread unread) file shown = shown ≡ []
-IsPlaceShown (files.Record cause) file shown = IsPlaceIn (refused.Record cause) (file role.Record) shown
-IsPlaceShown (files.Limits cause) file shown = IsPlaceIn (refused.Limits cause) (file role.Limits) shown
-IsPlaceShown (files.OtherProgram label) file shown = shown ≡ []
-IsPlaceShown files.NotOurs file shown = shown ≡ []
-IsPlaceShown files.Write file shown = shown ≡ []
-IsPlaceShown files.Memory file shown = shown ≡ []
+IsPlaceShown fault file shown = IsPlaceIn fault (file (refused_file fault)) shown

@@ -1,7 +1,5 @@
-pub mod Titles
 pub mod Codes
 pub mod Files
-pub mod Pages
 pub mod Lines
 pub mod Windows
 pub mod Words
@@ -11,7 +9,6 @@ pub mod Causes
 pub mod BadBytes
 pub mod BadNames
 pub mod Reasons
-pub mod Passages
 pub mod Places
 pub mod Lengths
 pub mod Numerals

@@ -10,11 +10,11 @@ use Rattle.refusal_guide.specs.Lines.{line_of, shown_from}
 use Rattle.refusal_guide.specs.Windows.{shown_start}
 use Rattle.refusal_guide.specs.Words.{Caused}
 use Rattle.refusal_guide.specs.Reasons.{spot_of, IsProgramReason}
-use Rattle.refusal_guide.specs.declared.places.Refused.{Refused}
-use Rattle.refusal_guide.specs.declared.places.Refused.TheVariants.{Program, Setup, Schedule, Features, Contacts, Record, Limits}
+use Rattle.order_parts.specs.declared.faults.FilesFault.{FilesFault}
+use Rattle.order_parts.specs.declared.faults.FilesFault.TheVariants.{Program, Setup, Schedule, Features, Contacts, Record, Limits, Unread, OtherProgram, NotOurs, Write, Memory}
 
--- the number of the line that is refused; none if out of memory
-abbrev pub number_of : Refused → Option ℕ
+-- the number of the line that is refused; none if no file is refused at a line
+abbrev pub number_of : FilesFault → Option ℕ
 number_of (Program (program.Refused refusal line)) = Some line
 number_of (Program program.Memory) = None
 number_of (Setup (setup.BadLine line)) = Some line
@@ -33,38 +33,37 @@ number_of (Limits (limits.NotLimit line)) = Some line
 number_of (Limits (limits.Twice line)) = Some line
 number_of (Limits (limits.EmptyRange line)) = Some line
 number_of (Limits limits.Memory) = None
+number_of (Unread role) = None
+number_of (OtherProgram label) = None
+number_of NotOurs = None
+number_of Write = None
+number_of Memory = None
 
 -- a file's name with a number, what is shown of the line, and a sentence about it
 abbrev pub place_text : List ℕ → ℕ → List ℕ → List ℕ → List ℕ
 place_text name number line said = name ++ (codes ":" ++ (decimal number ++ (codes ": " ++ (line ++ (codes "\n" ++ (said ++ codes "\n"))))))
 
 -- the cause of a refusal of line n, and the word at fault
-abbrev pub IsReason : Refused → List ℕ → ℕ → Caused → Type 0
+abbrev pub IsReason : FilesFault → List ℕ → ℕ → Caused → Type 0
 IsReason (Program (program.Refused refusal line)) bytes n why = IsProgramReason refusal (spot_of bytes n 0) why
-IsReason (Program program.Memory) bytes n why = ⊤
-IsReason (Setup fault) bytes n why = ⊤
-IsReason (Schedule fault) bytes n why = ⊤
-IsReason (Features fault) bytes n why = ⊤
-IsReason (Contacts fault) bytes n why = ⊤
-IsReason (Record fault) bytes n why = ⊤
-IsReason (Limits fault) bytes n why = ⊤
+IsReason _ bytes n why = ⊤
 
 -- what is shown of a line, so that the word at fault is seen
 abbrev pub shown_for : Caused → List ℕ → List ℕ
 shown_for why line = shown_from (shown_start (length line) why.at why.len) line
 
 -- what is shown is the line of this number, with its file's name and a sentence on the cause
-pub record IsPlace (refused : Refused) (name : List ℕ) (bytes : List ℕ) (number : ℕ) (shown : List ℕ) : Type 0 where
+pub record IsPlace (fault : FilesFault) (name : List ℕ) (bytes : List ℕ) (number : ℕ) (shown : List ℕ) : Type 0 where
   pub why : Caused
   pub sentence : List ℕ
-  pub is_reason : IsReason refused bytes number why
+  pub is_reason : IsReason fault bytes number why
   pub whole : shown ≡ place_text name number (shown_for why (line_of number bytes)) sentence
 
--- likewise for the line that is refused; nothing if out of memory
-abbrev pub IsPlaceOf : Option ℕ → Refused → List ℕ → List ℕ → List ℕ → Type 0
-IsPlaceOf None refused name bytes shown = shown ≡ []
-IsPlaceOf (Some number) refused name bytes shown = IsPlace refused name bytes number shown
+-- likewise for the line that is refused; nothing if there is none
+abbrev pub IsPlaceOf : Option ℕ → FilesFault → List ℕ → List ℕ → List ℕ → Type 0
+IsPlaceOf None fault name bytes shown = shown ≡ []
+IsPlaceOf (Some number) fault name bytes shown = IsPlace fault name bytes number shown
 
 -- what was there, followed by the place of the line that is refused
-abbrev pub Places : Refused → List ℕ → List ℕ → List ℕ → List ℕ → Type 0
-Places refused name bytes old new = (shown : List ℕ) × (new ≡ old ++ shown) × IsPlaceOf (number_of refused) refused name bytes shown
+abbrev pub Places : FilesFault → List ℕ → List ℕ → List ℕ → List ℕ → Type 0
+Places fault name bytes old new = (shown : List ℕ) × (new ≡ old ++ shown) × IsPlaceOf (number_of fault) fault name bytes shown

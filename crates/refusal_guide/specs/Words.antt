@@ -1,6 +1,7 @@
 -- The word that is at fault, its place, and why (this profile).
-use Rattle.std.specs.Prelude.{ℕ, ◌+◌, ◌-◌, Bool, List, length, take, drop, map, find, Option, Some, None}
+use Rattle.std.specs.Prelude.{◌≡◌, ℕ, ◌+◌, ◌-◌, Bool, List, length, take, drop, map, find, Option, Some, None, Result, IfOk}
 use Rattle.std.specs.List.{range_with_len}
+use Rattle.std.specs.Option.{option_map}
 use Rattle.std.specs.Char.{to_ascii_lowercase}
 use Rattle.std.specs.Str.{bytes_eq}
 use Rattle.refusal_guide.specs.declared.causes.Cause.{Cause}
@@ -24,6 +25,10 @@ named_by word = record { bytes = word.bytes.now; at = word.at }
 
 abbrev pub caused_by : Reason → Caused
 caused_by reason = record { cause = reason.cause; at = reason.at; len = reason.len }
+
+-- the reason that is given, or that there is none, has this cause; nothing if out of memory
+abbrev pub Gives : {E : Type 0} → Result (Option Reason) E → Option Caused → Type 0
+Gives result wanted = IfOk result (λ reason. option_map caused_by reason ≡ wanted)
 
 -- the bytes are at this place of a text, letters in any case
 abbrev pub is_at : List ℕ → List ℕ → ℕ → Bool

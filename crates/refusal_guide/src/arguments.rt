@@ -7,11 +7,10 @@ ghost use Rattle.std.specs.Option.{option_map};
 ghost use Rattle.std.specs.Str.{bytes_eq};
 ghost use Rattle.dmis_program.specs.Keywords.{keyword_of};
 ghost use Rattle.dmis_program.specs.Parameters.{is_letters};
-ghost use Rattle.refusal_guide.specs.Words.{named_by, caused_by};
+ghost use Rattle.refusal_guide.specs.Words.{named_by, caused_by, Gives};
 ghost use Rattle.refusal_guide.specs.Causes.{within_ends};
 ghost use Rattle.refusal_guide.specs.Numerals.{count_before};
-ghost use Rattle.refusal_guide.specs.Arguments.{last_apostrophe, last_text, open_text, count_cause, form_cause, meas_cause};
-ghost use Rattle.refusal_guide.specs.Arguments.{ptmeas_cause, tool_front, snslct_cause, recall_cause, open_cause, head_cause, params_cause, argument_cause};
+ghost use Rattle.refusal_guide.specs.Arguments.{last_apostrophe, last_text, open_text, count_cause, form_cause, meas_cause, ptmeas_cause, tool_front, snslct_cause, recall_cause, open_cause, head_cause, params_cause, argument_cause};
 
 use crate::causes::Cause;
 use crate::names::name_reason;
@@ -27,7 +26,6 @@ fn is_cart(param: &[u8]) -> bool
     param == b"CART".as_slice()
 }
 
-/// How many parameters precede the numerals: one if the first is `CART`, else none.
 pub(crate) fn count_before(params: &[Text]) -> usize
     ensures count { result ≡ count_before params.now }
     ensures within { result ≤ length params.now }
@@ -38,7 +36,6 @@ pub(crate) fn count_before(params: &[Text]) -> usize
     }
 }
 
-/// The bytes between this prefix and a `)` at the end.
 #[tactic(auto, unfolding(crate::specs::Causes::within_ends))]
 pub(crate) fn within<'a>(front: &[u8], text: &'a [u8]) -> Option<&'a [u8]>
     ensures { option_map (λ inner. inner.now) result ≡ within_ends front.now text.now }
@@ -51,8 +48,7 @@ pub(crate) fn within<'a>(front: &[u8], text: &'a [u8]) -> Option<&'a [u8]>
 
 /// How many parameters a statement has after a first `CART`; `wanted` says how many it takes.
 fn count_reason(alloc: Global, found: Found, wanted: &str) -> Explained
-    ensures { IfOk result (λ reason. option_map caused_by reason
-        ≡ count_cause found.entry.rest.now found.entry.statement.now) }
+    ensures { Gives result (count_cause found.entry.rest.now found.entry.statement.now) }
 {
     let params: &[Text] = &found.statement.params;
     let before = count_before(params);
@@ -92,7 +88,6 @@ fn is_letters(param: &[u8]) -> bool
     !param.is_empty() && all_letters(param)
 }
 
-/// Why the parameters of `MEAS` do not fit: of the three the leftmost.
 fn meas_reason(alloc: Global, found: Found) -> Explained
     ensures { IfOk result (λ reason. option_map caused_by reason
         ≡ meas_cause found.entry.rest.now found.entry.statement.now) }
@@ -111,8 +106,7 @@ fn meas_reason(alloc: Global, found: Found) -> Explained
 }
 
 fn ptmeas_reason(alloc: Global, found: Found) -> Explained
-    ensures { IfOk result (λ reason. option_map caused_by reason
-        ≡ ptmeas_cause found.entry.rest.now found.entry.statement.now) }
+    ensures { Gives result (ptmeas_cause found.entry.rest.now found.entry.statement.now) }
 {
     match found.statement.params.split_first() {
         Some((first, _)) if !is_cart(first) => {
@@ -123,7 +117,6 @@ fn ptmeas_reason(alloc: Global, found: Found) -> Explained
     }
 }
 
-/// What a tool begins with, if the parameter that names it is this one.
 fn tool_front(first: &[u8]) -> &'static [u8]
     ensures { result.now ≡ tool_front first.now }
 {
@@ -157,7 +150,6 @@ fn recall_reason(alloc: Global, found: Found) -> Explained
     form_reason(alloc, found, 0, b"D(", "D(name)", first)
 }
 
-/// How many bytes precede the last apostrophe; 0 if there is none.
 fn last_apostrophe(text: &[u8]) -> usize
     ensures place { result ≡ last_apostrophe text.now }
     ensures within { result ≤ length text.now }
@@ -172,7 +164,6 @@ fn last_apostrophe(text: &[u8]) -> usize
     0
 }
 
-/// These bytes from their last apostrophe on.
 fn last_text(element: &[u8]) -> &[u8]
     ensures { result.now ≡ last_text element.now }
 {
@@ -197,10 +188,8 @@ fn open_text<'s>(found: Found<'s, '_>) -> Word<'s>
     }
 }
 
-/// That a text of a statement is not closed; none if each is.
 fn open_reason(alloc: Global, found: Found) -> Explained
-    ensures { IfOk result (λ reason. option_map caused_by reason
-        ≡ open_cause found.entry.rest.now found.entry.statement.now) }
+    ensures { Gives result (open_cause found.entry.rest.now found.entry.statement.now) }
 {
     if !found.statement.is_open() {
         return Ok(None);
@@ -208,10 +197,8 @@ fn open_reason(alloc: Global, found: Found) -> Explained
     open_text(found).because(alloc, Cause::OpenText, "")
 }
 
-/// That a statement may have no label, or that one of its texts is not closed; none if neither applies.
 fn head_reason(alloc: Global, found: Found) -> Explained
-    ensures { IfOk result (λ reason. option_map caused_by reason
-        ≡ head_cause found.entry.rest.now found.entry.statement.now) }
+    ensures { Gives result (head_cause found.entry.rest.now found.entry.statement.now) }
 {
     let Some(label) = &found.statement.label else {
         return open_reason(alloc, found);
@@ -225,10 +212,8 @@ fn head_reason(alloc: Global, found: Found) -> Explained
     }
 }
 
-/// Why the parameters of a statement do not fit; none if it takes any.
 fn params_reason(alloc: Global, found: Found) -> Explained
-    ensures { IfOk result (λ reason. option_map caused_by reason
-        ≡ params_cause found.entry.rest.now found.entry.statement.now) }
+    ensures { Gives result (params_cause found.entry.rest.now found.entry.statement.now) }
 {
     match found.keyword() {
         Keyword::Goto => count_reason(alloc, found, "3"),
@@ -245,8 +230,7 @@ fn params_reason(alloc: Global, found: Found) -> Explained
 
 /// Why a statement is not one of its word; none if it takes any parameters.
 pub(crate) fn argument_reason(alloc: Global, found: Found) -> Explained
-    ensures { IfOk result (λ reason. option_map caused_by reason
-        ≡ argument_cause found.entry.rest.now found.entry.statement.now) }
+    ensures { Gives result (argument_cause found.entry.rest.now found.entry.statement.now) }
 {
     match head_reason(alloc, found)? {
         Some(reason) => Ok(Some(reason)),

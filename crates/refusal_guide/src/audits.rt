@@ -1,34 +1,28 @@
-// What an audit found: how much it audited, why a feature has no run, and which contacts serve no feature.
+// What an audit found: how much it audited, why a feature has no run, which contact is nearest to a touch that has none, and which contacts
+// serve no feature.
 
 ghost use Rattle.std.specs.Prelude.{◌≡◌, OnErr};
 
-use crate::contacts::Contacts;
-use crate::nearest::add_nearest;
-use crate::touches::point_text;
+use crate::touches::{Appended, Contact, Request, contacts_of, point_text};
 use contact_ledger::{Feature, ServerLedger};
-use dmis_program::{Program, Wanted};
+use dmis_program::{Program, Touch, Wanted};
+use fixed_um::{Point, Um};
 use ledger_audit::{Verdict, audit};
 use session_telling::visible;
 use std::alloc::{AllocError, Global};
 
 /// Appends a line for each contact from one number on and before another: that it serves no feature.
-fn add_unserving(
-    text: &mut String,
-    contacts: &Contacts,
-    from: usize,
-    to: usize,
-) -> Result<(), AllocError> {
+fn add_unserving(text: &mut String, contacts: &[Contact], from: usize, to: usize) -> Appended {
     let alloc = *text.allocator();
-    for number in from..to {
-        if let Some(contact) = contacts.get(number) {
-            let target = point_text(alloc, contact.asked.target)?;
-            let point = point_text(alloc, contact.point)?;
-            let connection = contact.shown_on;
-            writeln!(
-                text,
-                "dme: contact {number} on connection {connection} serves no feature: target {target}, point {point}"
-            )?;
-        }
+    for contact in contacts.iter().take(to).skip(from) {
+        let number = contact.number;
+        let target = point_text(alloc, contact.asked.target)?;
+        let point = point_text(alloc, contact.point)?;
+        let connection = contact.shown_on;
+        writeln!(
+            text,
+            "dme: contact {number} on connection {connection} serves no feature: target {target}, point {point}"
+        )?;
     }
     Ok(())
 }
@@ -39,28 +33,120 @@ fn add_between(
     text: &mut String,
     features: &[Feature],
     starts: &[u64],
-    contacts: &Contacts,
+    contacts: &[Contact],
 ) -> Result<usize, AllocError> {
     let mut passed = 0;
-    for (index, start) in starts.iter().enumerate() {
+    for (start, feature) in starts.iter().zip(features) {
         let start = *start as usize;
         add_unserving(text, contacts, passed, start)?;
-        let count = features
-            .get(index)
-            .map_or(0, |feature| feature.points.len());
-        passed = start.saturating_add(count);
+        passed = start.saturating_add(feature.points.len());
     }
     Ok(passed)
 }
 
-/// Appends why the first feature without a run has none among the contacts from this number on.
+/// How many of these contacts, from the first on, serve the first touches on one connection: they are asked for alike, and their points are
+/// these.
+fn served(contacts: &[Contact], touches: &[Touch], points: &[Point]) -> usize {
+    let Some(first) = contacts.first() else {
+        return 0;
+    };
+    let mut count = 0usize;
+    for ((contact, touch), point) in contacts.iter().zip(touches).zip(points) {
+        if contact.connection != first.connection
+            || contact.point != *point
+            || contact.asked != Request::of_touch(touch)
+        {
+            return count;
+        }
+        count = count.saturating_add(1);
+    }
+    count
+}
+
+/// How far two points lie apart, along the three axes together, in micrometres.
+fn distance(one: &Point, other: &Point) -> u64 {
+    let apart = |one: Um, other: Um| one.get().abs_diff(other.get());
+    apart(one.x, other.x)
+        .saturating_add(apart(one.y, other.y))
+        .saturating_add(apart(one.z, other.z))
+}
+
+/// Appends which contact is nearest to a touch, and in what it differs from that and from the point of a feature.
+fn add_contact(text: &mut String, contact: &Contact, touch: &Touch, point: Point) -> Appended {
+    let alloc = *text.allocator();
+    let number = contact.number;
+    let connection = contact.shown_on;
+    write!(
+        text,
+        "the nearest contact, {number} on connection {connection}, "
+    )?;
+    let wanted = Request::of_touch(touch);
+    if let Some((what, one, other)) = contact.asked.difference(alloc, &wanted)? {
+        return writeln!(text, "has {what} {one}, and the program {other}");
+    }
+    let one = point_text(alloc, contact.point)?;
+    let other = point_text(alloc, point)?;
+    writeln!(text, "has point {one}, and the features {other}")
+}
+
+/// Appends which touch of a feature has no contact among these, and in what the nearest one differs. The nearest is the one that follows the
+/// first of the longest runs of contacts that serve the touches before; if no contact serves the first touch, the first with the nearest
+/// target.
+fn add_nearest(
+    text: &mut String,
+    feature: &Feature,
+    touches: &[Touch],
+    contacts: &[Contact],
+) -> Appended {
+    let points = feature.points.as_slice();
+    let mut first = 0;
+    let mut count = 0;
+    for start in 0..contacts.len() {
+        let (_, rest) = contacts.split_at(start);
+        let length = served(rest, touches, points);
+        if length > count {
+            first = start;
+            count = length;
+        }
+    }
+    let after = first.saturating_add(count);
+    let (Some(touch), Some(point)) = (touches.get(count), points.get(count)) else {
+        return Ok(());
+    };
+    let label = visible(*text.allocator(), feature.label.as_bytes())?;
+    let place = count.saturating_add(1);
+    write!(text, "dme: touch {place} of {label}: ")?;
+    if count == 0 {
+        let nearest = contacts
+            .iter()
+            .min_by_key(|contact| distance(&contact.asked.target, &touch.target));
+        return match nearest {
+            Some(contact) => add_contact(text, contact, touch, *point),
+            None => writeln!(text, "no contact is left"),
+        };
+    }
+    let Some(before) = contacts.get(after.saturating_sub(1)) else {
+        return writeln!(text, "no contact is left");
+    };
+    match contacts.get(after) {
+        Some(contact) if contact.connection == before.connection => {
+            add_contact(text, contact, touch, *point)
+        }
+        _ => {
+            let connection = before.shown_on;
+            let last = before.number;
+            writeln!(text, "connection {connection} has no contact after {last}")
+        }
+    }
+}
+
+/// Appends why the first feature without a run has none among these contacts.
 fn add_reason(
     text: &mut String,
     feature: &Feature,
     wanted: Option<&Wanted>,
-    contacts: &Contacts,
-    least: usize,
-) -> Result<(), AllocError> {
+    contacts: &[Contact],
+) -> Appended {
     let alloc = *text.allocator();
     let label = visible(alloc, feature.label.as_bytes())?;
     let Some(wanted) = wanted else {
@@ -74,14 +160,15 @@ fn add_reason(
         return writeln!(text, "dme: the program has {other} in the place of {label}");
     }
     let count = feature.points.len();
-    let touches = wanted.touches.as_slice().len();
-    if count != touches {
+    let touches = wanted.touches.as_slice();
+    let other = touches.len();
+    if count != other {
         return writeln!(
             text,
-            "dme: {label} has {count} points, and {touches} touches in the program"
+            "dme: {label} has {count} points, and {other} touches in the program"
         );
     }
-    add_nearest(text, feature, wanted, contacts, least)
+    add_nearest(text, feature, touches, contacts)
 }
 
 /// The text of an audit's explanation.
@@ -104,13 +191,15 @@ fn audit_text(
     let Verdict::Starts(starts) = audit(alloc, program, first, ledger)? else {
         return Ok(text);
     };
-    let contacts = Contacts::of(alloc, ledger, connections)?;
-    let passed = add_between(&mut text, first, starts.as_slice(), &contacts)?;
+    let contacts = contacts_of(alloc, ledger.acts(), connections)?;
+    let contacts = contacts.as_slice();
+    let passed = add_between(&mut text, first, starts.as_slice(), contacts)?;
     if let Some(feature) = features.get(sound) {
         let wanted = program.features().get(sound);
-        add_reason(&mut text, feature, wanted, &contacts, passed)?;
+        let (_, left) = contacts.split_at(passed.min(contacts.len()));
+        add_reason(&mut text, feature, wanted, left)?;
     }
-    add_unserving(&mut text, &contacts, passed, contacts.len())?;
+    add_unserving(&mut text, contacts, passed, contacts.len())?;
     Ok(text)
 }
 

@@ -57,13 +57,10 @@ pub(crate) enum Cause {
     Other,
 }
 
+type Sentence = Result<String, AllocError>;
+
 /// The sentence on a cause, with the word that is at fault and another text that some of them name.
-pub(crate) fn sentence_of(
-    alloc: Global,
-    cause: Cause,
-    word: &str,
-    other: &str,
-) -> Result<String, AllocError> {
+pub(crate) fn sentence_of(alloc: Global, cause: Cause, word: &str, other: &str) -> Sentence {
     match cause {
         Cause::NotFirst => format!(in alloc;
             "The first statement is {word}, and a program begins with DMISMN."
@@ -101,12 +98,7 @@ pub(crate) fn sentence_of(
 }
 
 /// The sentence on a statement that is not allowed where it is.
-fn place_sentence(
-    alloc: Global,
-    cause: Cause,
-    word: &str,
-    other: &str,
-) -> Result<String, AllocError> {
+fn place_sentence(alloc: Global, cause: Cause, word: &str, other: &str) -> Sentence {
     match cause {
         Cause::OutsideBlock => format!(in alloc;
             "{word} is outside a measurement block: no MEAS above it is open."
@@ -141,12 +133,7 @@ fn place_sentence(
 }
 
 /// The sentence on a parameter, a label or a text.
-fn argument_sentence(
-    alloc: Global,
-    cause: Cause,
-    word: &str,
-    other: &str,
-) -> Result<String, AllocError> {
+fn argument_sentence(alloc: Global, cause: Cause, word: &str, other: &str) -> Sentence {
     match cause {
         Cause::Label => format!(in alloc;
             "The label {word} comes before {other}: of the statements that are read, only FEAT, TOL and SNSDEF have labels."
@@ -181,12 +168,7 @@ fn argument_sentence(
 }
 
 /// The sentence on a numeral; the other text for another cause.
-fn numeral_sentence(
-    alloc: Global,
-    cause: Cause,
-    word: &str,
-    other: &str,
-) -> Result<String, AllocError> {
+fn numeral_sentence(alloc: Global, cause: Cause, word: &str, other: &str) -> Sentence {
     match cause {
         Cause::NoNumeral(number) => format!(in alloc;
             "Parameter {number} of {other} is empty, and a numeral is expected."

@@ -7,65 +7,36 @@ use crate::numerals::length_reason;
 use crate::words::{Explained, Reason, Word};
 use deviations::is_in_micrometres;
 use dmis_text::cut_line;
-use std::alloc::Global;
+use link_world::{Schedule, ScheduleFault};
+use std::alloc::{AllocError, Global};
 use tool_rack::fields::{cut_field, has_outer_space, is_word};
 
-/// A line that is read field by field.
-#[derive(Clone, Copy)]
-pub(crate) struct Fields<'a> {
-    line: &'a [u8],
-    rest: &'a [u8],
+/// The fields of a line.
+fn fields_of(alloc: Global, line: &[u8]) -> Result<Vec<Word<'_>>, AllocError> {
+    let mut fields = Vec::new(alloc);
+    let mut rest = line;
+    while let Some((bytes, after)) = cut_field(rest) {
+        let from = bytes.len().saturating_add(after.len());
+        let at = Some(line.len().saturating_sub(from));
+        fields.push(Word { bytes, at })?;
+        rest = after;
+    }
+    Ok(fields)
 }
 
-impl<'a> Fields<'a> {
-    pub(crate) fn of(line: &'a [u8]) -> Fields<'a> {
-        Fields { line, rest: line }
-    }
-
-    /// The next field, with its place in the line.
-    pub(crate) fn next(&mut self) -> Option<Word<'a>> {
-        let (bytes, rest) = cut_field(self.rest)?;
-        self.rest = rest;
-        let from = bytes.len().saturating_add(rest.len());
-        let at = Some(self.line.len().saturating_sub(from));
-        Some(Word { bytes, at })
-    }
-
-    /// How many fields are left.
-    pub(crate) fn count(&self) -> usize {
-        let fields = self.rest.split(|byte| *byte == b' ');
-        fields.filter(|field| !field.is_empty()).count()
-    }
-
-    /// Which of the next three fields is not read as a length, and why; none if all are.
-    pub(crate) fn lengths_reason(self, alloc: Global) -> Explained {
-        let mut fields = self;
-        for _ in 0..3 {
-            if let Some(field) = fields.next()
-                && let Some(reason) = length_reason(alloc, field)?
-            {
-                return Ok(Some(reason));
-            }
+/// Which of these fields is not read as a length, and why; none if all are.
+fn lengths_reason(alloc: Global, fields: &[Word]) -> Explained {
+    for field in fields {
+        let reason = length_reason(alloc, *field)?;
+        if reason.is_some() {
+            return Ok(reason);
         }
-        Ok(None)
     }
-
-    /// Which of the next two fields has an exponent or too many decimals; none if neither has.
-    fn decimals_reason(self, alloc: Global) -> Explained {
-        let mut fields = self;
-        for _ in 0..2 {
-            if let Some(field) = fields.next()
-                && !is_in_micrometres(field.bytes)
-            {
-                return field.reason(alloc, "", " has more than three decimals, or an exponent.");
-            }
-        }
-        Ok(None)
-    }
+    Ok(None)
 }
 
 /// A space at the start or end of a line; none if there is none.
-pub(crate) fn space_reason(alloc: Global, line: &[u8]) -> Explained {
+fn space_reason(alloc: Global, line: &[u8]) -> Explained {
     if !has_outer_space(line) {
         return Ok(None);
     }
@@ -117,17 +88,21 @@ impl Form {
     }
 
     /// Which of the fields after a word does not fit; none if all do.
-    fn values_reason(self, alloc: Global, mut fields: Fields, named: bool) -> Explained {
-        if named
-            && let Some(name) = fields.next()
-            && !(matches!(self, Form::Limits) && name.bytes == b"*".as_slice())
-            && let Some(reason) = name_reason(alloc, name.bytes, name)?
-        {
-            return Ok(Some(reason));
+    fn values_reason(self, alloc: Global, values: &[Word], named: bool) -> Explained {
+        let (names, lengths) = values.split_at(values.len().min(usize::from(named)));
+        for name in names {
+            let reason = name_reason(alloc, name.bytes, *name)?;
+            if reason.is_some() {
+                return Ok(reason);
+            }
         }
-        match (fields.lengths_reason(alloc)?, self) {
-            (None, Form::Limits) => fields.decimals_reason(alloc),
-            (reason, _) => Ok(reason),
+        let reason = lengths_reason(alloc, lengths)?;
+        let is_long = |field: &&Word| !is_in_micrometres(field.bytes);
+        match (self, lengths.iter().find(is_long)) {
+            (Form::Limits, Some(field)) if reason.is_none() => {
+                field.reason(alloc, "", " has more than three decimals, or an exponent.")
+            }
+            _ => Ok(reason),
         }
     }
 
@@ -137,27 +112,21 @@ impl Form {
         if let Some(reason) = space_reason(alloc, line)? {
             return Ok(Some(reason));
         }
-        let mut fields = Fields::of(line);
-        let Some(word) = fields.next() else {
+        let fields = fields_of(alloc, line)?;
+        let [word, values @ ..] = fields.as_slice() else {
             return Ok(None);
         };
         let Some((wanted, named, said)) = self.fields(word.bytes) else {
             return word.reason(alloc, "", self.words());
         };
-        let count = fields.count();
+        let count = values.len();
         if count == wanted {
-            return self.values_reason(alloc, fields, named);
+            return self.values_reason(alloc, values, named);
         }
         let plural = if count == 1 { "" } else { "s" };
         let after = format!(in alloc; " has {count} field{plural} after it, and takes {said}.")?;
         word.reason(alloc, "", &after)
     }
-}
-
-/// The word and the name of a line, which a line above it may also have.
-fn named(line: &[u8]) -> Option<(Word<'_>, Word<'_>)> {
-    let mut fields = Fields::of(line);
-    Some((fields.next()?, fields.next()?))
 }
 
 /// The number of the first line that has this name after this word.
@@ -166,9 +135,10 @@ fn first_named(text: &[u8], word: &[u8], name: &[u8]) -> Option<u64> {
     let mut rest = text;
     while let Some((line, after)) = cut_line(rest) {
         number = number.saturating_add(1);
-        if let Some((other, taken)) = named(line)
-            && is_word(word, other.bytes)
-            && is_word(name, taken.bytes)
+        if let Some((other, values)) = cut_field(line)
+            && let Some((taken, _)) = cut_field(values)
+            && is_word(word, other)
+            && is_word(name, taken)
         {
             return Some(number);
         }
@@ -179,7 +149,8 @@ fn first_named(text: &[u8], word: &[u8], name: &[u8]) -> Option<u64> {
 
 /// Which name is there twice, and the number of its first line.
 pub(crate) fn twice_reason(alloc: Global, place: Place) -> Explained {
-    let Some((word, name)) = named(first_line(place.rest)) else {
+    let fields = fields_of(alloc, first_line(place.rest))?;
+    let [word, name, ..] = fields.as_slice() else {
         return Ok(None);
     };
     let Some(first) = first_named(place.text, word.bytes, name.bytes) else {
@@ -198,13 +169,85 @@ pub(crate) fn twice_reason(alloc: Global, place: Place) -> Explained {
 
 /// That the lower limit of a line is the greater one.
 pub(crate) fn range_reason(alloc: Global, place: Place) -> Explained {
-    let mut fields = Fields::of(first_line(place.rest));
-    let Some(_) = fields.next() else {
-        return Ok(None);
-    };
-    let (Some(_), Some(lower), Some(upper)) = (fields.next(), fields.next(), fields.next()) else {
+    let fields = fields_of(alloc, first_line(place.rest))?;
+    let [_, _, lower, upper, ..] = fields.as_slice() else {
         return Ok(None);
     };
     let upper = Word::of_bytes(upper.bytes).between(alloc, " is greater than ", ".")?;
     lower.reason(alloc, "The lower limit ", &upper)
+}
+
+/// Whether a word, followed by this field if it has a byte, is an instruction.
+fn is_read(alloc: Global, word: &[u8], field: &[u8]) -> Result<bool, AllocError> {
+    let mut line = Vec::from_slice(alloc, word)?;
+    if !field.is_empty() {
+        line.push(b' ')?;
+        line.extend_from_slice(field)?;
+    }
+    match Schedule::read(alloc, &line) {
+        Ok(_) => Ok(true),
+        Err(ScheduleFault::BadLine(_)) => Ok(false),
+        Err(ScheduleFault::Memory) => Err(AllocError),
+    }
+}
+
+/// What may follow a word; none if it is not a word of a schedule.
+fn takes(alloc: Global, word: &[u8]) -> Result<Option<&'static str>, AllocError> {
+    if is_read(alloc, word, b"done")? {
+        return Ok(Some("done, missed, fault, auto, or touched x y z"));
+    }
+    let alone = is_read(alloc, word, b"")?;
+    let numbered = is_read(alloc, word, b"1")?;
+    let all = is_read(alloc, word, b"all")?;
+    Ok(match (alone, numbered, all) {
+        (true, true, _) => Some("nothing, or a number from 0 to 1000000"),
+        (true, false, true) => Some("nothing, or all"),
+        (true, false, false) => Some("nothing"),
+        (false, true, true) => Some("a number of one to ten digits, or all"),
+        (false, true, false) => Some("a number of one to ten digits"),
+        (false, false, true) => Some("all"),
+        (false, false, false) => None,
+    })
+}
+
+/// Why what follows a word is not valid, if the word takes this.
+fn values_reason(alloc: Global, word: &Word, values: &[Word], taken: &str) -> Explained {
+    let after = format!(in alloc; ", which takes {taken}.")?;
+    let [field, rest @ ..] = values else {
+        return word.reason(alloc, "Nothing follows ", &after);
+    };
+    if is_word(b"machine", word.bytes) && is_word(b"touched", field.bytes) {
+        let count = rest.len();
+        if count == 3 {
+            return lengths_reason(alloc, rest);
+        }
+        let said = format!(in alloc;
+            "machine touched takes 3 numerals, x, y and z, and has {count}."
+        )?;
+        return Ok(Some(Reason::of_line(said)));
+    }
+    if !is_read(alloc, word.bytes, field.bytes)? {
+        let after = word.between(alloc, " is not valid after ", &after)?;
+        return field.reason(alloc, "", &after);
+    }
+    match rest {
+        [third, ..] => third.reason(alloc, "", " is one field too many."),
+        [] => Ok(None),
+    }
+}
+
+/// Why a line is not an instruction; none if it is one.
+pub(crate) fn schedule_reason(alloc: Global, place: Place) -> Explained {
+    let line = first_line(place.rest);
+    if let Some(reason) = space_reason(alloc, line)? {
+        return Ok(Some(reason));
+    }
+    let fields = fields_of(alloc, line)?;
+    let [word, values @ ..] = fields.as_slice() else {
+        return Ok(None);
+    };
+    match takes(alloc, word.bytes)? {
+        Some(taken) => values_reason(alloc, word, values, taken),
+        None => word.reason(alloc, "", " is not a word of a schedule."),
+    }
 }

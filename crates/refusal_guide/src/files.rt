@@ -1,10 +1,9 @@
 // The files of an order, and what is shown of the one at fault: its name, and the place of the refusal.
 
 ghost use Rattle.std.specs.Prelude.{◌≡◌, [], IfOk, string_bytes};
-ghost use Rattle.refusal_guide.specs.Places.{Places};
-ghost use Rattle.refusal_guide.specs.Files.{file_in, is_short, IsUnnamed, IsFaultShown, IsPlaceShown};
+ghost use Rattle.refusal_guide.specs.Files.{file_in, is_short, IsUnnamed, AreUnnamed, IsFaultShown, IsPlaceShown};
 
-use crate::places::{Refused, write_place};
+use crate::places::write_place;
 use contact_ledger::TextFault;
 use deviations::LimitsFault;
 use dmis_program::ProgramFault;
@@ -24,7 +23,6 @@ pub struct InputFile {
 }
 
 impl InputFile {
-    /// A file without a name, of which nothing was read.
     fn unnamed(alloc: Global) -> InputFile
         ensures { IsUnnamed result }
     {
@@ -51,13 +49,7 @@ pub struct InputFiles {
 impl InputFiles {
     /// Files without names.
     pub fn unnamed(alloc: Global) -> InputFiles
-        ensures setup { IsUnnamed result.setup }
-        ensures schedule { IsUnnamed result.schedule }
-        ensures features { IsUnnamed result.features }
-        ensures contacts { IsUnnamed result.contacts }
-        ensures record_of { IsUnnamed result.record }
-        ensures limits { IsUnnamed result.limits }
-        ensures program { IsUnnamed result.program }
+        ensures { AreUnnamed result }
     {
         InputFiles {
             setup: InputFile::unnamed(alloc),
@@ -83,7 +75,6 @@ impl InputFiles {
             || self.program.is_short
     }
 
-    /// The file that is this to the order.
     fn into_file(self, role: Role) -> InputFile
         ensures { result ≡ file_in self role }
     {
@@ -99,16 +90,6 @@ impl InputFiles {
     }
 }
 
-/// Where a file is refused and what is wrong there. Fails only if out of memory.
-fn placed(alloc: Global, refused: Refused, file: &InputFile) -> Result<Vec<u8>, AllocError>
-    ensures { IfOk result (λ shown. Places refused (string_bytes file.now.name) file.now.text.items
-        [] shown.items) }
-{
-    let mut out = Vec::new(alloc);
-    write_place(&mut out, refused, file.name.as_str(), file.text.as_slice())?;
-    Ok(out)
-}
-
 /// Where a file is refused and what is wrong there, as `write_place` shows it; nothing if no file is refused at a line. Fails only if out of
 /// memory.
 pub fn place_of(
@@ -118,23 +99,18 @@ pub fn place_of(
 ) -> Result<Vec<u8>, AllocError>
     ensures { IfOk result (λ shown. IsPlaceShown fault.now (file_in files.now) shown.items) }
 {
-    let (refused, file) = match fault {
-        FilesFault::Setup(cause) => (Refused::Setup(*cause), &files.setup),
-        FilesFault::Schedule(cause) => (Refused::Schedule(*cause), &files.schedule),
-        FilesFault::Features(cause) => (Refused::Features(*cause), &files.features),
-        FilesFault::Contacts(cause) => (Refused::Contacts(*cause), &files.contacts),
-        FilesFault::Program(cause) => (Refused::Program(*cause), &files.program),
-        FilesFault::Record(cause) => (Refused::Record(*cause), &files.record),
-        FilesFault::Limits(cause) => (Refused::Limits(*cause), &files.limits),
-        FilesFault::Unread(_)
-        | FilesFault::OtherProgram(_)
-        | FilesFault::NotOurs
-        | FilesFault::Write
-        | FilesFault::Memory => {
-            return Ok(Vec::new(alloc));
-        }
+    let file = match fault {
+        FilesFault::Setup(_) => &files.setup,
+        FilesFault::Schedule(_) => &files.schedule,
+        FilesFault::Features(_) => &files.features,
+        FilesFault::Contacts(_) => &files.contacts,
+        FilesFault::Record(_) => &files.record,
+        FilesFault::Limits(_) => &files.limits,
+        _ => &files.program,
     };
-    placed(alloc, refused, file)
+    let mut out = Vec::new(alloc);
+    write_place(&mut out, fault, file.name.as_str(), file.text.as_slice())?;
+    Ok(out)
 }
 
 /// What is shown for the fault of an order, with the name of the file that it blames.

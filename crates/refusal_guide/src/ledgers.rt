@@ -41,10 +41,11 @@ fn is_among(words: &[&str], word: &[u8]) -> bool {
     words.iter().any(|other| other.as_bytes() == word)
 }
 
-/// That the fields of an act are not in their form; none if the word is not that of an act.
-pub(crate) fn form_reason(alloc: Global, word: Word, reports: bool) -> Explained {
-    if !is_among(&ACTS, word.bytes) && !(reports && is_among(&REPORTS, word.bytes)) {
-        return Ok(None);
+/// That the fields of an act are not in their form, or that the word is not that of an act.
+pub(crate) fn word_reason(alloc: Global, word: Word, reports: bool, others: &str) -> Explained {
+    let is_act = is_among(&ACTS, word.bytes) || (reports && is_among(&REPORTS, word.bytes));
+    if !is_act {
+        return word.reason(alloc, "", others);
     }
     let form = " are not in the form in which they are written, with one space before each.";
     word.reason(alloc, "The fields of ", form)
@@ -70,19 +71,13 @@ pub(crate) fn connection_reason(
     Ok((number, word.reason(alloc, "Connection ", &after)?))
 }
 
-/// The first field of a line, and what follows it; if there is no field, no bytes and the whole line.
-fn cut_first(line: &[u8]) -> (&[u8], &[u8]) {
-    match cut_field(line) {
-        Some((first, rest)) => (first, rest),
-        None => line.split_at(0),
-    }
-}
-
 /// The connection of the line above a refused one; 0 if that is the first line.
 fn connection_above(place: Place) -> u64 {
     let above = from_line(place.text, place.number.saturating_sub(1));
-    let (connection, _) = cut_first(first_line(above));
-    read_number(connection, CONNECTION_MAX).unwrap_or(0)
+    match cut_field(first_line(above)) {
+        Some((connection, _)) => read_number(connection, CONNECTION_MAX).unwrap_or(0),
+        None => 0,
+    }
 }
 
 /// Why a line of contacts is not an act, nor a report where one may be.
@@ -90,23 +85,20 @@ fn act_reason(alloc: Global, place: Place) -> Explained {
     let line = first_line(place.rest);
     let reports = place.text.starts_with(b"DME-TOLD 1\n".as_slice());
     let last = if reports { connection_above(place) } else { 0 };
-    let (connection, rest) = cut_first(line);
+    let (connection, rest) = cut_field(line).unwrap_or((b"", b""));
     let word = Word::found(line, 0, connection);
     let (_, reason) = connection_reason(alloc, word, last, "An act")?;
     if reason.is_some() {
         return Ok(reason);
     }
-    let (act, _) = cut_first(rest);
+    let (act, _) = cut_field(rest).unwrap_or((b"", b""));
     let act = Word::found(line, connection.len(), act);
-    if let Some(reason) = form_reason(alloc, act, reports)? {
-        return Ok(Some(reason));
-    }
     let words = if reports {
         " is not HOMEDIS, HOMED, MOVED, CHANGED, FRAMED, CONTACT, OTHER, BROKEN, OPENED or LEFT."
     } else {
         " is not HOMEDIS, HOMED, MOVED, CHANGED, FRAMED or CONTACT."
     };
-    act.reason(alloc, "", words)
+    word_reason(alloc, act, reports, words)
 }
 
 /// Whether a line ends with CR LF.

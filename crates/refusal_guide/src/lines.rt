@@ -53,7 +53,6 @@ fn end_of(bytes: &[u8]) -> Option<usize>
     bytes.iter().position(|byte| *byte == b'\n')
 }
 
-/// The bytes after the first LF; none if there is no LF.
 fn after_feed(bytes: &[u8]) -> &[u8]
     ensures after { result.now ≡ after_feeds 1 bytes.now }
     ensures others { lines result.now ≡ drop 1 (lines bytes.now) }
@@ -98,7 +97,6 @@ pub(crate) fn first_line(text: &[u8]) -> &[u8]
     }
 }
 
-/// Appends a byte of a line: a tab as it is, any other as it can be read.
 fn push_line_byte(text: &mut String, byte: u8) -> Result<(), AllocError>
     ensures { OnOk result (string_bytes text.new
         ≡ string_bytes text.old ++ visible_in_line byte) }
@@ -119,7 +117,6 @@ fn push_line(text: &mut String, bytes: &[u8]) -> Result<(), AllocError>
     Ok(())
 }
 
-/// Appends the beginning of a line, at most 200 bytes of it, and `..` if it has more.
 fn push_front(text: &mut String, bytes: &[u8]) -> Result<(), AllocError>
     ensures { OnOk result (string_bytes text.new
         ≡ string_bytes text.old ++ shown_front bytes.now) }

@@ -18,7 +18,6 @@ pub(crate) enum Measure {
     Component,
 }
 
-/// Why a text is not read as a length within the machine's volume; none if it is.
 fn length_fault(text: &[u8]) -> Option<NumeralFault>
     ensures { result ≡ length_fault text.now }
 {
@@ -37,7 +36,6 @@ fn component_fault(text: &[u8]) -> Option<NumeralFault>
     }
 }
 
-/// Why a text is not read as what it should be; none if it is.
 pub(crate) fn measure_fault(text: &[u8], measure: Measure) -> Option<NumeralFault>
     ensures { result ≡ measure_fault measure text.now }
 {
@@ -53,7 +51,6 @@ fn is_no(text: &[u8], measure: Measure) -> bool
     measure_fault(text, measure).is_some()
 }
 
-/// The number of the leftmost parameter that is not read as what it should be.
 pub(crate) fn leftmost_of(params: &[Text], measure: Measure) -> Option<usize>
     ensures leftmost { result ≡ position (is_no measure) params.now }
     ensures within { IfSome result (λ index. index < length params.now) }
@@ -77,7 +74,6 @@ fn count_digits(numeral: &[u8]) -> usize
         .count()
 }
 
-/// Why this numeral does not read as what it is to be.
 pub(crate) fn numeral_cause(numeral: &[u8], fault: NumeralFault, measure: Measure) -> Cause
     ensures { result ≡ numeral_cause fault measure numeral.now }
 {

@@ -4,105 +4,75 @@ ghost use Rattle.std.specs.Prelude.{◌≡◌, OnOk, OnErr, IfOk, string_bytes};
 ghost use Rattle.refusal_guide.specs.Words.{caused_by};
 ghost use Rattle.refusal_guide.specs.Places.{number_of, place_text, IsReason, IsPlace, IsPlaceOf, Places};
 
-use crate::fields::{Form, range_reason, twice_reason};
+use crate::fields::{Form, range_reason, schedule_reason, twice_reason};
 use crate::ledgers::{contact_reason, feature_reason, has_return};
 use crate::lines::{Place, first_line, from_line, shown_line, shown_start};
 use crate::programs::program_reason;
 use crate::records::record_reason;
-use crate::schedules::schedule_reason;
-use crate::topics::Topic;
 use crate::words::Reason;
 use contact_ledger::TextFault;
 use deviations::LimitsFault;
-use dmis_program::ProgramFault;
+use dmis_program::{ProgramFault, Refusal};
 use link_world::ScheduleFault;
+use order_parts::FilesFault;
 use record_text::RecordFault;
 use std::alloc::{AllocError, Global};
 use tool_rack::SetupFault;
 
-/// A text that is refused, and why.
-#[derive(Clone, Copy, Debug, PartialEq, Eq)]
-pub enum Refused {
-    /// A program.
-    Program(ProgramFault),
-    /// A setup.
-    Setup(SetupFault),
-    /// A schedule.
-    Schedule(ScheduleFault),
-    /// A file of features.
-    Features(TextFault),
-    /// A file of contacts.
-    Contacts(TextFault),
-    /// A record.
-    Record(RecordFault),
-    /// Limits.
-    Limits(LimitsFault),
-}
-
-/// The number of the line that is refused; none if out of memory.
-fn line_number(refused: Refused) -> Option<u64>
-    ensures { result ≡ number_of refused }
+fn line_number(fault: &FilesFault) -> Option<u64>
+    ensures { result ≡ number_of fault.now }
 {
-    match refused {
-        Refused::Program(ProgramFault::Refused(_, line))
-        | Refused::Setup(SetupFault::BadLine(line))
-        | Refused::Setup(SetupFault::Twice(line))
-        | Refused::Setup(SetupFault::BadNumeral(line))
-        | Refused::Schedule(ScheduleFault::BadLine(line))
-        | Refused::Features(TextFault::Damaged(line))
-        | Refused::Contacts(TextFault::Damaged(line))
-        | Refused::Record(RecordFault::Damaged(line))
-        | Refused::Limits(LimitsFault::NotLimit(line))
-        | Refused::Limits(LimitsFault::Twice(line))
-        | Refused::Limits(LimitsFault::EmptyRange(line)) => Some(line),
+    match fault {
+        FilesFault::Program(ProgramFault::Refused(_, line))
+        | FilesFault::Setup(SetupFault::BadLine(line))
+        | FilesFault::Setup(SetupFault::Twice(line))
+        | FilesFault::Setup(SetupFault::BadNumeral(line))
+        | FilesFault::Schedule(ScheduleFault::BadLine(line))
+        | FilesFault::Features(TextFault::Damaged(line))
+        | FilesFault::Contacts(TextFault::Damaged(line))
+        | FilesFault::Record(RecordFault::Damaged(line))
+        | FilesFault::Limits(LimitsFault::NotLimit(line))
+        | FilesFault::Limits(LimitsFault::Twice(line))
+        | FilesFault::Limits(LimitsFault::EmptyRange(line)) => Some(*line),
         _ => None,
     }
 }
 
-/// What is wrong with the line of this place, in a text that is no program, and what the refusal means.
-fn other_reason(alloc: Global, refused: Refused, place: Place) -> Result<Reason, AllocError> {
-    let (reason, topic) = match refused {
-        Refused::Setup(SetupFault::Twice(_)) => (twice_reason(alloc, place)?, Topic::SetupTwice),
-        Refused::Setup(SetupFault::BadNumeral(_)) => {
-            (Form::Setup.line_reason(alloc, place)?, Topic::SetupNumeral)
+/// What is wrong with the line of this place, in a text that is no program, and the code of the refusal.
+fn line_reason(alloc: Global, fault: &FilesFault, place: Place) -> Result<Reason, AllocError> {
+    let (reason, code) = match fault {
+        FilesFault::Setup(SetupFault::Twice(_)) => (twice_reason(alloc, place)?, "S2"),
+        FilesFault::Setup(SetupFault::BadNumeral(_)) => {
+            (Form::Setup.line_reason(alloc, place)?, "S3")
         }
-        Refused::Setup(_) => (Form::Setup.line_reason(alloc, place)?, Topic::SetupLine),
-        Refused::Schedule(_) => (schedule_reason(alloc, place)?, Topic::ScheduleLine),
-        Refused::Features(_) | Refused::Contacts(_) | Refused::Record(_) if has_return(place) => {
+        FilesFault::Setup(_) => (Form::Setup.line_reason(alloc, place)?, "S1"),
+        FilesFault::Schedule(_) => (schedule_reason(alloc, place)?, "H1"),
+        FilesFault::Features(_) | FilesFault::Contacts(_) | FilesFault::Record(_)
+            if has_return(place) => {
             let said = "The line ends with CR LF, and the lines of this file end with LF only.";
-            (Reason::of_text(alloc, said)?, Topic::Damaged)
+            (Reason::of_text(alloc, said)?, "K1")
         }
-        Refused::Features(_) => (feature_reason(alloc, place)?, Topic::Damaged),
-        Refused::Contacts(_) => (contact_reason(alloc, place)?, Topic::Damaged),
-        Refused::Record(_) => (record_reason(alloc, place)?, Topic::RecordDamaged),
-        Refused::Limits(LimitsFault::Twice(_)) => (twice_reason(alloc, place)?, Topic::LimitTwice),
-        Refused::Limits(LimitsFault::EmptyRange(_)) => {
-            (range_reason(alloc, place)?, Topic::LimitRange)
-        }
-        _ => (Form::Limits.line_reason(alloc, place)?, Topic::LimitLine),
+        FilesFault::Features(_) => (feature_reason(alloc, place)?, "K1"),
+        FilesFault::Contacts(_) => (contact_reason(alloc, place)?, "K1"),
+        FilesFault::Record(_) => (record_reason(alloc, place)?, "J1"),
+        FilesFault::Limits(LimitsFault::Twice(_)) => (twice_reason(alloc, place)?, "M2"),
+        FilesFault::Limits(LimitsFault::EmptyRange(_)) => (range_reason(alloc, place)?, "M3"),
+        _ => (Form::Limits.line_reason(alloc, place)?, "M1"),
     };
-    Reason::or_topic(alloc, reason, topic)
+    Reason::or_meaning(alloc, reason, code)
 }
 
-/// What is wrong with the line of this number.
-fn reason(alloc: Global, refused: Refused, text: &[u8], number: u64) -> Result<Reason, AllocError>
-    ensures { IfOk result (λ reason. IsReason refused text.now number (caused_by reason)) }
+fn reason(alloc: Global, fault: &FilesFault, text: &[u8], number: u64) -> Result<Reason, AllocError>
+    ensures { IfOk result (λ reason. IsReason fault.now text.now number (caused_by reason)) }
 {
-    match refused {
-        Refused::Program(ProgramFault::Refused(refusal, _)) => {
-            program_reason(alloc, refusal, text, number, 0)
+    match fault {
+        FilesFault::Program(ProgramFault::Refused(refusal, _)) => {
+            program_reason(alloc, *refusal, text, number, 0)
         }
-        Refused::Program(ProgramFault::Memory)
-        | Refused::Setup(_)
-        | Refused::Schedule(_)
-        | Refused::Features(_)
-        | Refused::Contacts(_)
-        | Refused::Record(_)
-        | Refused::Limits(_) => other_reason(alloc, refused, Place::on_line(text, number, 0)),
+        _ => line_reason(alloc, fault, Place::on_line(text, number, 0)),
     }
 }
 
-/// The two lines of a refusal: a file's name with a number, the line, and the sentence.
 fn place_text(
     alloc: Global,
     name: &str,
@@ -118,45 +88,71 @@ fn place_text(
 
 fn numbered_place(
     alloc: Global,
-    refused: Refused,
+    fault: &FilesFault,
     name: &str,
     number: u64,
     text: &[u8],
 ) -> Result<String, AllocError>
     ensures { IfOk result (λ shown.
-        IsPlace refused name.now text.now number (string_bytes shown)) }
+        IsPlace fault.now name.now text.now number (string_bytes shown)) }
 {
-    let reason = reason(alloc, refused, text, number)?;
+    let reason = reason(alloc, fault, text, number)?;
     let line = first_line(from_line(text, number));
     let start = shown_start(line, reason.at, reason.len);
     let shown = shown_line(alloc, line, start)?;
     place_text(alloc, name, number, &shown, &reason.said)
 }
 
-/// The place of the line that is refused; nothing if out of memory.
-fn place(alloc: Global, refused: Refused, name: &str, text: &[u8]) -> Result<String, AllocError>
-    ensures { IfOk result (λ shown.
-        IsPlaceOf (number_of refused) refused name.now text.now (string_bytes shown)) }
+fn place(alloc: Global, fault: &FilesFault, name: &str, text: &[u8]) -> Result<String, AllocError>
+    ensures { IfOk result (λ shown. IsPlaceOf (number_of fault.now) fault.now name.now text.now
+        (string_bytes shown)) }
 {
-    match line_number(refused) {
-        Some(number) => numbered_place(alloc, refused, name, number, text),
+    match line_number(fault) {
+        Some(number) => numbered_place(alloc, fault, name, number, text),
         None => Ok(String::new(alloc)),
     }
 }
 
 /// Appends where a text is refused and why: `NAME:LINE: ` and the line as it is in the text, and below it a sentence that names the word
 /// that is refused, of several the leftmost. If the text has fewer lines, its last one is shown. Unprintable bytes are shown as `\xNN`, and
-/// of a line with more than 200 bytes the part around the word. Nothing is appended if the text was refused because memory ran out. Fails
-/// only if out of memory, and then nothing is appended either.
+/// of a line with more than 200 bytes the part around the word. Nothing is appended if the fault is not that a file is refused at a line.
+/// Fails only if out of memory, and then nothing is appended either.
 pub fn write_place(
     out: &mut Vec<u8>,
-    refused: Refused,
+    fault: &FilesFault,
     name: &str,
     text: &[u8],
 ) -> Result<(), AllocError>
-    ensures ok { OnOk result (Places refused name.now text.now out.old.items out.new.items) }
+    ensures ok { OnOk result (Places fault.now name.now text.now out.old.items out.new.items) }
     ensures err { OnErr result (out.new.items ≡ out.old.items) }
 {
-    let shown = place(*out.allocator(), refused, name, text)?;
+    let shown = place(*out.allocator(), fault, name, text)?;
     out.extend_from_slice(shown.as_bytes())
+}
+
+/// A part of a program's text that has all that a sentence on one of its lines needs: the block that is open there from its `MEAS` on, and
+/// the statement of the line.
+#[derive(Clone, Copy, Debug)]
+pub struct Passage<'a> {
+    /// The bytes of some lines of the program, one after the other.
+    pub text: &'a [u8],
+    /// The number of the first of them in the program, from 1.
+    pub first: u64,
+    /// The number of the line that is refused.
+    pub line: u64,
+}
+
+/// Appends the sentence on a refusal of a program that `write_place` has below the line. Fails only if out of memory, and then nothing is
+/// appended.
+pub fn write_sentence(
+    out: &mut Vec<u8>,
+    refusal: Refusal,
+    passage: Passage,
+) -> Result<(), AllocError>
+    ensures { OnErr result (out.new.items ≡ out.old.items) }
+{
+    let above = passage.first.saturating_sub(1);
+    let number = passage.line.saturating_sub(above);
+    let reason = program_reason(*out.allocator(), refusal, passage.text, number, above)?;
+    out.extend_from_slice(reason.said.as_bytes())
 }

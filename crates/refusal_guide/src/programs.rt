@@ -4,10 +4,9 @@ ghost use Rattle.std.specs.Prelude.{◌≡◌, length, Some, IfOk};
 ghost use Rattle.std.specs.Option.{option_map};
 ghost use Rattle.std.specs.Str.Lines.{lines};
 ghost use Rattle.refusal_guide.specs.Lines.{first_of};
-ghost use Rattle.refusal_guide.specs.Words.{caused_by};
+ghost use Rattle.refusal_guide.specs.Words.{caused_by, Gives};
 ghost use Rattle.refusal_guide.specs.BadBytes.{IsByteReason};
-ghost use Rattle.refusal_guide.specs.Causes.{truncated, long_line, major_of, major_cause, unsupported_cause, inside_block, too_few_points};
-ghost use Rattle.refusal_guide.specs.Causes.{unknown_frame, first_at_fault, zero_direction};
+ghost use Rattle.refusal_guide.specs.Causes.{truncated, long_line, major_of, major_cause, unsupported_cause, inside_block, too_few_points, unknown_frame, first_at_fault, zero_direction};
 ghost use Rattle.refusal_guide.specs.Reasons.{spot_at, spot_of, IsOfStatement, IsOfLine, IsOfPlace, IsProgramReason};
 ghost use Rattle.refusal_guide.specs.Numerals.{leftmost, parameter_cause, bad_numeral};
 
@@ -18,7 +17,6 @@ use crate::causes::{Cause, sentence_of};
 use crate::lines::{Place, first_line};
 use crate::numerals::{Measure, leftmost_of, measure_fault, numeral_cause};
 use crate::statements::{Found, first_statement};
-use crate::topics::Topic;
 use crate::words::{Explained, Reason, Word};
 use dmis_program::{Keyword, Refusal};
 use dmis_text::{Statement, Text};
@@ -26,8 +24,7 @@ use session_telling::visible;
 use std::alloc::{AllocError, Global};
 
 fn truncated(alloc: Global, place: Place) -> Explained
-    ensures { IfOk result (λ reason. option_map caused_by reason
-        ≡ truncated place.entry.text.now) }
+    ensures { Gives result (truncated place.entry.text.now) }
 {
     match last_statement(alloc, place.text)? {
         Some(last) => Word::of_bytes(&last.word).because(alloc, Cause::Ended(last.line), ""),
@@ -36,8 +33,7 @@ fn truncated(alloc: Global, place: Place) -> Explained
 }
 
 fn too_long(alloc: Global, place: Place) -> Explained
-    ensures { IfOk result (λ reason. option_map caused_by reason
-        ≡ Some (long_line (length (first_of (lines place.entry.rest.now))))) }
+    ensures { Gives result (Some (long_line (length (first_of (lines place.entry.rest.now))))) }
 {
     let cause = Cause::LongLine(first_line(place.rest).len());
     Word::of_bytes(b"").because(alloc, cause, "")
@@ -73,15 +69,13 @@ fn major_of(keyword: Keyword) -> Cause
 }
 
 fn unsupported_major(alloc: Global, found: Found) -> Explained
-    ensures { IfOk result (λ reason. option_map caused_by reason
-        ≡ major_cause found.entry.rest.now found.entry.statement.now) }
+    ensures { Gives result (major_cause found.entry.rest.now found.entry.statement.now) }
 {
     found.because(alloc, major_of(found.keyword()))
 }
 
 fn unsupported(alloc: Global, found: Found) -> Explained
-    ensures { IfOk result (λ reason. option_map caused_by reason
-        ≡ unsupported_cause found.entry.rest.now found.entry.statement.now) }
+    ensures { Gives result (unsupported_cause found.entry.rest.now found.entry.statement.now) }
 {
     let Some((minor, _)) = found.statement.params.split_first() else {
         return unsupported_major(alloc, found);
@@ -95,7 +89,6 @@ fn unsupported(alloc: Global, found: Found) -> Explained
     }
 }
 
-/// The number of the leftmost numeral that does not read, among the parameters after `CART`, and what it should be.
 fn leftmost(numerals: &[Text]) -> Option<(usize, Measure)>
     ensures { result ≡ leftmost numerals.now }
 {
@@ -107,7 +100,6 @@ fn leftmost(numerals: &[Text]) -> Option<(usize, Measure)>
     Some((index + 3, Measure::Component))
 }
 
-/// Why the parameter of this number, counted from 0, is not a numeral; none if it is one.
 fn parameter_reason(
     alloc: Global,
     found: Found,
@@ -146,8 +138,7 @@ fn bad_numeral(alloc: Global, found: Found) -> Explained
 }
 
 fn zero_vector(alloc: Global, found: Found) -> Explained
-    ensures { IfOk result (λ reason. option_map caused_by reason
-        ≡ zero_direction found.entry.rest.now found.entry.statement.now) }
+    ensures { Gives result (zero_direction found.entry.rest.now found.entry.statement.now) }
 {
     let params: &[Text] = &found.statement.params;
     let [_, _, _, _, i, j, k] = params else {
@@ -161,10 +152,8 @@ fn zero_vector(alloc: Global, found: Found) -> Explained
         .because(alloc, Cause::ZeroDirection, &others)
 }
 
-/// That a statement may not be in the block that is open; none if none is.
 fn inside_block(alloc: Global, place: Place, found: Found) -> Explained
-    ensures { IfOk result (λ reason. option_map caused_by reason
-        ≡ inside_block place.entry.text.now found.entry.rest.now
+    ensures { Gives result (inside_block place.entry.text.now found.entry.rest.now
         place.entry.number place.entry.above found.entry.statement.now) }
 {
     let Some(block) = open_block(alloc, place)? else {
@@ -174,10 +163,8 @@ fn inside_block(alloc: Global, place: Place, found: Found) -> Explained
     found.because(alloc, Cause::InsideBlock(line))
 }
 
-/// That the open block has too few touches; none if no block is open.
 fn too_few(alloc: Global, place: Place, found: Found) -> Explained
-    ensures { IfOk result (λ reason. option_map caused_by reason
-        ≡ too_few_points place.entry.text.now found.entry.rest.now
+    ensures { Gives result (too_few_points place.entry.text.now found.entry.rest.now
         place.entry.number place.entry.above found.entry.statement.now) }
 {
     let Some(block) = open_block(alloc, place)? else {
@@ -190,8 +177,7 @@ fn too_few(alloc: Global, place: Place, found: Found) -> Explained
 }
 
 fn unknown_frame(alloc: Global, found: Found) -> Explained
-    ensures { IfOk result (λ reason. option_map caused_by reason
-        ≡ unknown_frame found.entry.rest.now found.entry.statement.now) }
+    ensures { Gives result (unknown_frame found.entry.rest.now found.entry.statement.now) }
 {
     let Some((first, _)) = found.statement.params.split_first() else {
         return Ok(None);
@@ -202,10 +188,8 @@ fn unknown_frame(alloc: Global, found: Found) -> Explained
     }
 }
 
-/// That the first parameter is at fault for this cause; none if there is none.
 fn first_reason(alloc: Global, found: Found, cause: Cause) -> Explained
-    ensures { IfOk result (λ reason. option_map caused_by reason
-        ≡ first_at_fault found.entry.rest.now found.entry.statement.now cause) }
+    ensures { Gives result (first_at_fault found.entry.rest.now found.entry.statement.now cause) }
 {
     match found.statement.params.split_first() {
         Some((first, _)) => found.in_param(0, first).because(alloc, cause, ""),
@@ -261,7 +245,6 @@ fn line_reason(alloc: Global, refusal: Refusal, place: Place) -> Explained
     }
 }
 
-/// Why a program is refused in this place; none if no text in this place is refused for this.
 fn place_reason(alloc: Global, refusal: Refusal, place: Place) -> Explained
     ensures { IfOk result (λ reason. IsOfPlace refusal (spot_at place.entry)
         (option_map caused_by reason)) }
@@ -285,6 +268,8 @@ pub(crate) fn program_reason(
         (caused_by reason)) }
 {
     let place = Place::on_line(text, number, above);
-    let topic = Topic::of_refusal(refusal);
-    Reason::or_topic(alloc, place_reason(alloc, refusal, place)?, topic)
+    let reason = place_reason(alloc, refusal, place)?;
+    let name = format!(in alloc; "{refusal}")?;
+    let (code, _) = name.split_once(' ').unwrap_or((&name, ""));
+    Reason::or_meaning(alloc, reason, code)
 }

@@ -1,10 +1,9 @@
 // Why a line of a record is unexpected, in a sentence. The reader of records decides what may be there.
 
 use crate::causes::Cause;
-use crate::contacts::Contacts;
-use crate::ledgers::{connection_reason, form_reason};
+use crate::ledgers::{connection_reason, word_reason};
 use crate::lines::{Place, first_line};
-use crate::touches::Request;
+use crate::touches::{Request, contacts_of};
 use crate::words::{Explained, Reason, Word};
 use contact_ledger::forms::read_name;
 use contact_ledger::lines::{cut_line, first_field, next_field};
@@ -12,15 +11,20 @@ use record_text::{Asked, Record, RecordFault, read_record};
 use session_telling::visible;
 use std::alloc::{AllocError, Global};
 
+/// The record that these lines are, if a record may begin with them; none in it before the end of its head.
+fn begun(alloc: Global, lines: &[u8]) -> Result<Option<Option<Record>>, AllocError> {
+    match read_record(alloc, lines) {
+        Ok(record) => Ok(Some(record)),
+        Err(RecordFault::Damaged(_)) => Ok(None),
+        Err(RecordFault::Memory) => Err(AllocError),
+    }
+}
+
 /// Whether a record may begin with these lines and this line.
 fn begins(alloc: Global, above: &[u8], line: &[u8]) -> Result<bool, AllocError> {
     let mut text = Vec::from_slice(alloc, above)?;
     text.extend_from_slice(line)?;
-    match read_record(alloc, &text) {
-        Ok(_) => Ok(true),
-        Err(RecordFault::Damaged(_)) => Ok(false),
-        Err(RecordFault::Memory) => Err(AllocError),
-    }
+    Ok(begun(alloc, &text)?.is_some())
 }
 
 /// What must follow these lines of a head.
@@ -32,15 +36,6 @@ fn wanted(alloc: Global, above: &[u8]) -> Result<&'static str, AllocError> {
     } else {
         "A feature or END is expected here, such as FEATURE C 2, with a count from 1 to 10000."
     })
-}
-
-/// The record that these lines are; none before the end of its head.
-fn record_of(alloc: Global, above: &[u8]) -> Result<Option<Record>, AllocError> {
-    match read_record(alloc, above) {
-        Ok(record) => Ok(record),
-        Err(RecordFault::Damaged(_)) => Ok(None),
-        Err(RecordFault::Memory) => Err(AllocError),
-    }
 }
 
 /// The lines up to the last that says that a feature is complete, with it.
@@ -62,9 +57,9 @@ fn completed_lines(above: &[u8]) -> &[u8] {
 
 /// How many contacts above no feature uses.
 fn unused_contacts(alloc: Global, record: &Record, above: &[u8]) -> Result<u64, AllocError> {
-    let used = match record_of(alloc, completed_lines(above))? {
-        Some(before) => before.told().contacts(),
-        None => 0,
+    let used = match begun(alloc, completed_lines(above))? {
+        Some(Some(before)) => before.told().contacts(),
+        _ => 0,
     };
     Ok(record.told().contacts().saturating_sub(used))
 }
@@ -77,12 +72,11 @@ fn contacts_sentence(
     record: &Record,
 ) -> Result<Option<String>, AllocError> {
     let label = visible(alloc, wanted.label().as_bytes())?;
-    let contacts = Contacts::of(alloc, record.told(), &[])?;
-    let first = contacts.len().saturating_sub(wanted.touches().len());
-    for (index, touch) in wanted.touches().iter().enumerate() {
-        let Some(contact) = contacts.get(first.saturating_add(index)) else {
-            return Ok(None);
-        };
+    let contacts = contacts_of(alloc, record.told().acts(), &[])?;
+    let touches = wanted.touches();
+    let before = contacts.len().saturating_sub(touches.len());
+    let (_, last) = contacts.as_slice().split_at(before);
+    for (index, (touch, contact)) in touches.iter().zip(last).enumerate() {
         let number = index.saturating_add(1);
         let on = contact.connection;
         if on != connection {
@@ -153,9 +147,6 @@ fn entry_reason(alloc: Global, record: &Record, above: &[u8], line: &[u8]) -> Ex
         return Reason::of_text(alloc, "Nothing follows the number of the connection.");
     };
     let word = Word::found(line, field.len(), act);
-    if let Some(reason) = form_reason(alloc, word, false)? {
-        return Ok(Some(reason));
-    }
     if act == b"COMPLETED".as_slice() {
         if let Some((label, [])) = next_field(rest)
             && read_name(alloc, label)?.is_some()
@@ -171,7 +162,7 @@ fn entry_reason(alloc: Global, record: &Record, above: &[u8], line: &[u8]) -> Ex
         return word.reason(alloc, "", form);
     }
     let words = " is not HOMEDIS, HOMED, MOVED, CHANGED, FRAMED, CONTACT, REFUSED or COMPLETED.";
-    word.reason(alloc, "", words)
+    word_reason(alloc, word, false, words)
 }
 
 /// Why a line of a record is unexpected.
@@ -184,8 +175,8 @@ pub(crate) fn record_reason(alloc: Global, place: Place) -> Explained {
         return Reason::of_text(alloc, "A record begins with the line DME-RECORD 1.");
     }
     let above = place.above_line();
-    match record_of(alloc, above)? {
-        Some(record) => entry_reason(alloc, &record, above, line),
-        None => Reason::of_text(alloc, wanted(alloc, above)?),
+    match begun(alloc, above)? {
+        Some(Some(record)) => entry_reason(alloc, &record, above, line),
+        _ => Reason::of_text(alloc, wanted(alloc, above)?),
     }
 }

@@ -2,9 +2,8 @@
 
 ghost use Rattle.std.specs.Prelude.{◌≡◌, ◌∷◌, [], IfOk, IfSome, IfNone, Some, slice_get};
 ghost use Rattle.dmis_text.specs.Reading.{text_reading};
-ghost use Rattle.std.specs.Option.{option_map};
 ghost use Rattle.dmis_program.specs.Keywords.{keyword_of};
-ghost use Rattle.refusal_guide.specs.Words.{named_by, caused, caused_by};
+ghost use Rattle.refusal_guide.specs.Words.{named_by, caused, Gives};
 ghost use Rattle.refusal_guide.specs.Spots.{after_word, after_label, after_params, word_from, part_spot, word_spot, param_spot};
 
 use crate::causes::Cause;
@@ -47,7 +46,6 @@ pub(crate) fn first_statement(
     next_statement(&mut Statements::new(alloc, text))
 }
 
-/// The place after these bytes, which are searched for from this place on.
 fn behind(text: &[u8], from: Option<usize>, wanted: &[u8]) -> Option<usize>
     ensures { result ≡ after_word text.now from wanted.now }
 {
@@ -62,7 +60,6 @@ impl<'s, 'a> Found<'s, 'a> {
         keyword_of_word(&self.statement.word)
     }
 
-    /// The place after the label; the start if there is none.
     fn behind_label(&self) -> Option<usize>
         ensures { result ≡ after_label self.now.rest.now self.now.statement.now.label }
     {
@@ -72,7 +69,6 @@ impl<'s, 'a> Found<'s, 'a> {
         }
     }
 
-    /// The place after the first `count` parameters.
     fn behind_params(&self, count: usize) -> Option<usize>
         ensures { result ≡ after_params self.now.rest.now self.now.statement.now count }
     {
@@ -114,10 +110,9 @@ impl<'s, 'a> Found<'s, 'a> {
         self.word_from(self.behind_params(index), part)
     }
 
-    /// That the major word is at fault for this cause.
     pub(crate) fn because(&self, alloc: Global, cause: Cause) -> Explained
-        ensures { IfOk result (λ reason. option_map caused_by reason
-            ≡ Some (caused cause (word_spot self.now.rest.now self.now.statement.now))) }
+        ensures { Gives result
+            (Some (caused cause (word_spot self.now.rest.now self.now.statement.now))) }
     {
         self.word().because(alloc, cause, "")
     }

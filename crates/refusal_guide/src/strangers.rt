@@ -2,38 +2,38 @@
 
 ghost use Rattle.std.specs.Prelude.{◌≡◌, OnErr, IfOk, option_map, string_bytes};
 ghost use Rattle.fixed_um.specs.Calls.{Writes};
-ghost use Rattle.refusal_guide.specs.Strangers.{other_part_text};
+ghost use Rattle.refusal_guide.specs.Strangers.{part_words, other_part_text};
 
-use crate::touches::Request;
+use crate::touches::{Appended, Request};
 use dmis_program::{Program, Touch, Wanted};
+use fixed_um::Name;
 use record_text::{Asked, Record};
 use session_telling::visible;
 use std::alloc::{AllocError, Global};
 
-/// Which part a record names, and which was given.
+fn part_words(
+    alloc: Global,
+    part: Option<&[u8]>,
+    before: &str,
+    without: &str,
+) -> Result<String, AllocError>
+    ensures { IfOk result (λ text. string_bytes text
+        ≡ part_words (option_map (λ p. p.now) part.entry) before.now without.now) }
+{
+    let Some(part) = part else {
+        return String::from_str(alloc, without);
+    };
+    let part = visible(alloc, part)?;
+    format!(in alloc; "{before}{part}")
+}
+
 fn part_text(alloc: Global, held: Option<&[u8]>, given: Option<&[u8]>) -> Result<String, AllocError>
     ensures { IfOk result (λ text. string_bytes text ≡ other_part_text
         (option_map (λ p. p.now) held.entry) (option_map (λ p. p.now) given.entry)) }
 {
-    match (held, given) {
-        (Some(held), Some(given)) => {
-            let held = visible(alloc, held)?;
-            let given = visible(alloc, given)?;
-            format!(in alloc; "The record is of part {held}, and --part names {given}.\n")
-        }
-        (Some(held), None) => {
-            let held = visible(alloc, held)?;
-            format!(in alloc; "The record is of part {held}, and --part is not given.\n")
-        }
-        (None, Some(given)) => {
-            let given = visible(alloc, given)?;
-            format!(in alloc; "The record names no part, and --part names {given}.\n")
-        }
-        (None, None) => String::from_str(
-            alloc,
-            "The record names no part, and --part is not given.\n",
-        ),
-    }
+    let held = part_words(alloc, held, "is of part ", "names no part")?;
+    let given = part_words(alloc, given, "--part names ", "--part is not given")?;
+    format!(in alloc; "The record {held}, and {given}.\n")
 }
 
 /// Appends a line that says which part a record names and which was given, of a run that is refused for its part. Fails only if out of
@@ -50,91 +50,81 @@ pub fn write_other_part(
     out.extend_from_slice(text.as_bytes())
 }
 
-/// In what the first differing touch differs; none if none does.
-fn touches_sentence(
-    alloc: Global,
-    label: &str,
-    asked: &[Touch],
-    wanted: &[Touch],
-) -> Result<Option<String>, AllocError> {
-    for (index, held) in asked.iter().enumerate() {
+/// Appends in what the first differing touch differs; nothing if none does.
+fn add_touch(text: &mut String, label: &str, asked: &[Touch], wanted: &[Touch]) -> Appended {
+    let alloc = *text.allocator();
+    let mut number = 0usize;
+    for (held, other) in asked.iter().zip(wanted) {
+        number = number.saturating_add(1);
         let held = Request::of_touch(held);
-        let number = index.saturating_add(1);
-        if let Some(other) = wanted.get(index)
-            && let Some(found) = held.difference(alloc, &Request::of_touch(other))?
-        {
-            let (what, one, other) = found;
-            return Ok(Some(format!(in alloc;
-                "The {what} of touch {number} of {label} is {one} in the record and {other} in the program.\n"
-            )?));
+        if let Some((what, one, other)) = held.difference(alloc, &Request::of_touch(other))? {
+            return writeln!(
+                text,
+                "The {what} of touch {number} of {label} is {one} in the record and {other} in the program."
+            );
         }
     }
-    Ok(None)
+    Ok(())
 }
 
-/// In what a feature of this number, counted from 1, differs; none if it does not.
-fn feature_sentence(
-    alloc: Global,
-    number: usize,
-    asked: &Asked,
-    wanted: &Wanted,
-) -> Result<Option<String>, AllocError> {
+/// Appends in what a feature of this number, counted from 1, differs; nothing if it does not.
+fn add_feature(text: &mut String, number: usize, asked: &Asked, wanted: &Wanted) -> Appended {
+    let alloc = *text.allocator();
     let held = visible(alloc, asked.label().as_bytes())?;
     if asked.label().as_bytes() != wanted.label.as_bytes() {
         let other = visible(alloc, wanted.label.as_bytes())?;
-        return Ok(Some(format!(in alloc;
-            "Feature {number} is {held} in the record and {other} in the program.\n"
-        )?));
+        return writeln!(
+            text,
+            "Feature {number} is {held} in the record and {other} in the program."
+        );
     }
     let count = asked.touches().len();
     let touches = wanted.touches.as_slice();
     let other = touches.len();
     if count != other {
-        return Ok(Some(format!(in alloc;
-            "The number of touches of {held} is {count} in the record and {other} in the program.\n"
-        )?));
+        return writeln!(
+            text,
+            "The number of touches of {held} is {count} in the record and {other} in the program."
+        );
     }
-    touches_sentence(alloc, &held, asked.touches(), touches)
+    add_touch(text, &held, asked.touches(), touches)
 }
 
-/// That a feature of this number, counted from 1, is only in one of both.
-fn missing_sentence(
-    alloc: Global,
+/// Appends that a feature of this number, counted from 1, is only in one of both.
+fn add_missing(
+    text: &mut String,
     number: usize,
-    label: &[u8],
+    label: &Name,
     without: &str,
     with: &str,
-) -> Result<Option<String>, AllocError> {
-    let label = visible(alloc, label)?;
-    Ok(Some(format!(in alloc;
-        "The {without} has no feature {number}, which is {label} in the {with}.\n"
-    )?))
+) -> Appended {
+    let label = visible(*text.allocator(), label.as_bytes())?;
+    writeln!(
+        text,
+        "The {without} has no feature {number}, which is {label} in the {with}."
+    )
 }
 
-/// In what the first differing feature differs; none if none does.
-fn program_sentence(
-    alloc: Global,
-    asked: &[Asked],
-    wanted: &[Wanted],
-) -> Result<Option<String>, AllocError> {
-    for (index, feature) in asked.iter().enumerate() {
+/// In what the first differing feature differs; nothing if none does.
+fn program_text(alloc: Global, asked: &[Asked], wanted: &[Wanted]) -> Result<String, AllocError> {
+    let mut text = String::new(alloc);
+    for index in 0..asked.len().max(wanted.len()) {
         let number = index.saturating_add(1);
-        let Some(other) = wanted.get(index) else {
-            let label = feature.label().as_bytes();
-            return missing_sentence(alloc, number, label, "program", "record");
-        };
-        let said = feature_sentence(alloc, number, feature, other)?;
-        if said.is_some() {
-            return Ok(said);
+        match (asked.get(index), wanted.get(index)) {
+            (Some(held), Some(other)) => add_feature(&mut text, number, held, other)?,
+            (Some(held), None) => {
+                add_missing(&mut text, number, held.label(), "program", "record")?
+            }
+            (None, Some(next)) => {
+                add_missing(&mut text, number, &next.label, "record", "program")?
+            }
+            (None, None) => {}
+        }
+        if !text.is_empty() {
+            break;
         }
     }
-    match wanted.get(asked.len()) {
-        Some(next) => {
-            let number = asked.len().saturating_add(1);
-            missing_sentence(alloc, number, next.label.as_bytes(), "record", "program")
-        }
-        None => Ok(None),
-    }
+    Ok(text)
 }
 
 /// Appends a line that says which feature of a record differs from the program's, and in what: its label, how many touches it has, or the
@@ -146,8 +136,6 @@ pub fn write_other_program(
 ) -> Result<(), AllocError>
     ensures err { OnErr result (out.new.items ≡ out.old.items) }
 {
-    match program_sentence(*out.allocator(), held.asked(), program.features())? {
-        Some(said) => out.extend_from_slice(said.as_bytes()),
-        None => Ok(()),
-    }
+    let text = program_text(*out.allocator(), held.asked(), program.features())?;
+    out.extend_from_slice(text.as_bytes())
 }

@@ -1,11 +1,10 @@
 // The word of a line that a sentence names.
 
 ghost use Rattle.std.specs.Prelude.{◌≡◌, ◌≤◌, ◌+◌, length, None, Some, IfOk, IfSome};
-ghost use Rattle.std.specs.Option.{option_map};
-ghost use Rattle.refusal_guide.specs.Words.{first_place, word_in, named_by, caused, caused_by};
+ghost use Rattle.refusal_guide.specs.Words.{first_place, word_in, named_by, caused, caused_by, Gives};
 
 use crate::causes::{Cause, sentence_of};
-use crate::topics::Topic;
+use crate::topics::meaning_of;
 use session_telling::visible;
 use std::alloc::{AllocError, Global};
 
@@ -60,8 +59,7 @@ impl<'a> Word<'a> {
 
     /// That the word is at fault for this cause; `other` is the other text that the sentence names.
     pub(crate) fn because(&self, alloc: Global, cause: Cause, other: &str) -> Explained
-        ensures { IfOk result (λ reason. option_map caused_by reason
-            ≡ Some (caused cause (named_by self.now))) }
+        ensures { Gives result (Some (caused cause (named_by self.now))) }
     {
         let shown = self.shown(alloc)?;
         let said = sentence_of(alloc, cause, &shown, other)?;
@@ -118,7 +116,6 @@ pub(crate) struct Reason {
 }
 
 impl Reason {
-    /// A sentence on this word.
     pub(crate) fn of_word(cause: Cause, said: String, word: Word) -> Reason
         ensures { caused_by result ≡ caused cause (named_by word.entry) }
     {
@@ -149,17 +146,20 @@ impl Reason {
         Ok(Some(Reason::of_line(String::from_str(alloc, text)?)))
     }
 
-    /// This reason, or what the refusal of a topic means if there is none.
-    pub(crate) fn or_topic(
+    /// This reason, or what the refusal of a code means if there is none.
+    pub(crate) fn or_meaning(
         alloc: Global,
         reason: Option<Reason>,
-        topic: Topic,
+        code: &str,
     ) -> Result<Reason, AllocError>
         ensures { IfOk result (λ given. IfSome reason (λ wanted. given ≡ wanted)) }
     {
         match reason {
             Some(reason) => Ok(reason),
-            None => Ok(Reason::of_line(String::from_str(alloc, topic.page().meaning)?)),
+            None => {
+                let meaning = meaning_of(code.as_bytes());
+                Ok(Reason::of_line(String::from_str(alloc, meaning)?))
+            }
         }
     }
 }

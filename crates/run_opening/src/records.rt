@@ -9,9 +9,9 @@ use crate::stages::{Stage, Text};
 use contact_ledger::Feature;
 use dmis_program::Program;
 use effects::Answer;
-use order_parts::OrderFault;
+use order_parts::{FilesFault, OrderFault};
 use record_text::{Beginning, RecordFault, RecordRefusal, begin_record, read_record};
-use refusal_guide::{Refused, write_other_part, write_other_program, write_place};
+use refusal_guide::{write_other_part, write_other_program, write_place};
 use std::alloc::{AllocError, Global};
 
 /// Whether the features of a file are the first of those that a record gives back.
@@ -39,8 +39,8 @@ fn note(
 ) -> Result<Vec<u8>, AllocError> {
     let mut out = Vec::new(alloc);
     if let RecordRefusal::Damaged(line) = refusal {
-        let refused = Refused::Record(RecordFault::Damaged(*line));
-        write_place(&mut out, refused, name, text)?;
+        let fault = FilesFault::Record(RecordFault::Damaged(*line));
+        write_place(&mut out, &fault, name, text)?;
         return Ok(out);
     }
     let Ok(Some(record)) = read_record(alloc, text) else {

@@ -5,6 +5,6 @@ use Rattle.refusal_guide.proofs.places.numbered_place.Goals as goal
 pub returns : goal.returns
 returns c =
     IfOk-weaker c.place_text.result _ _
-    (λ text e. placed c.args.refused _ _ _ _ _ _ (caused_by c.in_ok-reason.reason) _ _ _ c.from_line.ensures.lines c.first_line-line.ensures
+    (λ text e. placed c.args.fault.now _ _ _ _ _ _ (caused_by c.in_ok-reason.reason) _ _ _ c.from_line.ensures.lines c.first_line-line.ensures
     c.in_ok-reason.ensures c.shown_start-start.ensures.start c.in_ok-shown.ensures e)
     c.place_text.ensures
