@@ -3,7 +3,8 @@
 - A record that is cut at each byte is read as its whole lines: what it completes is counted here, and a text that is no whole head completes
   nothing.
 - A record in which a field is changed to each of a few other values is refused by its line (J1) or by its feature (J3), or is another whole
-  record: then each of its features still has the points of its own contacts, as this script reads them. It is never changed.
+  record: then each of its features still has the points of its own contacts, as this script reads them. It is never changed. What stands above
+  a line that J1 refuses is a record.
 - A record that another run holds, that may only be read, that is a folder, a pipe or a device, or that cannot be made is refused before a
   connection is made; so is a file of features or contacts that another run holds, also while that one waits for its server.
 - Two files of a call that are one, by a link or otherwise, are refused. A link for a record or for features is refused. FILE.new is made anew: a plain file in its place is removed, and a link is not written
@@ -100,6 +101,15 @@ def edited():
                     yield at + 1, "\n".join([*lines[:at], " ".join(changed), *lines[at + 1:]]) + "\n"
 
 
+def must_be_good_above(folder, text, said):
+    """As its explanation advises: the lines above a damaged one are a record."""
+    found = re.match(r"dme: J1 Damaged at line (\d+)", said)
+    if found:
+        above = "".join(text.splitlines(keepends=True)[: int(found[1]) - 1])
+        left = printed(folder, above.encode(), "features")
+        must("J1" not in left.stderr, "damaged above the line that is refused", said, left.stderr)
+
+
 def check_edited(folder):
     whole = 0
     for number, text in edited():
@@ -108,6 +118,7 @@ def check_edited(folder):
             said = run.stderr.split("\n")[0]
             known = said.startswith("dme: J1 Damaged at line ") or said.startswith("dme: J3 OtherProgram (feature ")
             must(known and run.stdout == "", f"line {number} edited", said)
+            must_be_good_above(folder, text, said)
             continue
         whole += 1
         must(features_text(run.stdout) == points_of(text), f"line {number} edited", run.stdout)

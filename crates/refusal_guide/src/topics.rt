@@ -76,7 +76,7 @@ const PAGES: [&str; 47] = [
     "NotOurs\nMeaning: The features in the file are not the first features of the program, by label and count of points.\n\
      Remedy: Name the program for which the file was written, or another features file.\nExample: DME-FEATURES 2",
     "Damaged\nMeaning: A line of a record is unexpected: the file is a different one, or was changed manually. What follows its last line end is cut off and is not damage.\n\
-     Remedy: Use the record as it was written. If it is lost, name another file with --record: everything is measured again.\nExample: 1 COMPLETED C",
+     Remedy: Use the record as it was written. Or remove the refused line and all that follow it: what is complete above them stays, and the rest is measured again. If all is lost, name another file with --record.\nExample: 1 COMPLETED C",
     "OtherPart\nMeaning: The record is of a part other than that of --part, or only one of the two names a part.\n\
      Remedy: Name the part of the record with --part, or another file with --record.\nExample: PART 0042/7",
     "OtherProgram\nMeaning: The record is of other wanted features than this program has under this setup: a label, the number of touches, a target, direction, tool or frame differs.\n\
