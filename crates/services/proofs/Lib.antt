@@ -1,3 +1,4 @@
 pub mod Keeping
+pub mod Leading
 pub mod Served
 pub mod Working

@@ -1,5 +1,5 @@
 -- What the session of `serve` knows and may ask next, as far as its promises speak of it (this profile).
-use Rattle.std.specs.Prelude.{◌≡◌, ◌⊎◌, ⊤, ℕ, Bool, true, false, List, [], ◌++◌, length, drop, map}
+use Rattle.std.specs.Prelude.{◌≡◌, ◌⊎◌, ⊤, ℕ, Bool, true, false, List, [], ◌∷◌, ◌++◌, zero, suc, length, drop, map}
 use Rattle.contact_ledger.specs.Lines.{text_of}
 use Rattle.contact_ledger.specs.ContactTexts.{act_line, contacts_text}
 use Rattle.contact_ledger.specs.declared.acts.Act.{Act}
@@ -7,7 +7,7 @@ use Rattle.protocol_model.specs.Ends.{serving_left}
 use Rattle.link_world.specs.Reports.{reported, contact_rows}
 use Rattle.effects.specs.declared.vocabulary.Growth.TheVariants.{Contacts}
 use Rattle.effects.specs.declared.vocabulary.Peer.TheVariants.{Client}
-use Rattle.effects.specs.Effects.{Ask, Look, Make, Begin, Keep, Listen, Accept, Receive, Send, Leave, Replace, Print, Reply, Done, Found}
+use Rattle.effects.specs.Effects.{Ask, Exists, Look, Make, Discard, SetAside, Begin, Keep, Replace, Extend, Add, Stamp, Now, Sleep, Listen, Accept, Receive, Send, Leave, Print, Say, Exit, Reply, Done, Found, Did}
 use Rattle.services.specs.declared.stages.Stage.{Stage}
 use Rattle.services.specs.declared.stages.Stage.TheVariants as stage
 use Rattle.services.specs.Serving.{Talk, Traffic, passed, heard_more, is_over, may_leave, HasBroken, IsServing, IsAt, IsFree}
@@ -22,6 +22,7 @@ pub record Core : Type 0 where
   pub held : ℕ  -- how many acts it has with that
   pub ledger : List (ℕ × Act)
   pub rows : List ℕ  -- what is printed at the end
+  pub status : ℕ  -- with which it exits
 
 pub record State : Type 0 where
   pub stage : Stage
@@ -76,9 +77,11 @@ pub record Outside : Type 0 where
   pub is_made : Bool  -- it is locked, and its next text was made
   pub next : List ℕ  -- that text
   pub safe : List ℕ  -- what is in it since it began, and no crash takes away
+  pub is_whole : Bool  -- at the end it got the text of all acts
+  pub is_printed : Bool  -- the contacts were printed
 
 abbrev pub untouched : Outside
-untouched = record { is_other = false; is_made = false; next = []; safe = [] }
+untouched = record { is_other = false; is_made = false; next = []; safe = []; is_whole = false; is_printed = false }
 
 -- the outside after the effect of a stage was answered
 abbrev pub looked : Outside → Reply → Outside
@@ -98,18 +101,29 @@ abbrev pub kept : Outside → List ℕ → Reply → Outside
 kept o text Done = record o { safe = o.safe ++ text }
 kept o text reply = o
 
+abbrev pub replaced : Outside → Reply → Outside
+replaced o Done = record o { is_whole = true }
+replaced o reply = o
+
+abbrev pub printed : Outside → Reply → Outside
+printed o Done = record o { is_printed = true }
+printed o reply = o
+
 abbrev pub outcome : Stage → Core → Reply → Outside → Outside
 outcome stage.Looking c reply o = looked o reply
 outcome stage.Making c reply o = made o c.text reply
 outcome stage.Beginning c reply o = begun o reply
 outcome stage.Keeping c reply o = kept o c.text reply
+outcome stage.Replacing c reply o = replaced o reply
+outcome stage.Printing c reply o = printed o reply
 outcome s c reply o = o
 
--- before the first connection: nothing was done, and the next text of the contacts file says so
+-- before the first connection: nothing was done, as the status says, too, and so does the next text of the contacts file
 pub record IsBefore (c : Core) (o : Outside) : Type 0 where
   pub ledger : c.ledger ≡ []
   pub held : c.held ≡ 0
   pub lost : c.lost ≡ false
+  pub status : c.status ≡ 1
   pub text : c.text ≡ contacts_text []
   pub made : c.grows ≡ true → (o.is_made ≡ true) × (o.next ≡ c.text)
 
@@ -125,6 +139,26 @@ pub record IsKept (c : Core) (o : Outside) : Type 0 where
   pub all : HasAllBut [] c o
   pub text : c.grows ≡ true → c.lost ≡ false → c.text ≡ []
 
+-- the whole contacts file was written at the end, if one is named, unless it could not be kept
+abbrev pub IsWhole : Core → Outside → Type 0
+IsWhole c o = c.lost ≡ false → c.named ≡ true → o.is_whole ≡ true
+
+-- all that was asked for was done: the contacts file was kept and written, and the contacts were printed
+pub record HasServed (c : Core) (o : Outside) : Type 0 where
+  pub kept : c.lost ≡ false
+  pub whole : c.named ≡ true → o.is_whole ≡ true
+  pub printed : o.is_printed ≡ true
+
+-- the exit status is 0 only then, and else 1, or 4 if memory has run out
+abbrev pub IsStatus : ℕ → Type 0 → Type 0
+IsStatus zero served = served
+IsStatus (suc zero) served = ⊤
+IsStatus (suc (suc (suc (suc zero)))) served = ⊤
+IsStatus status served = ⊥
+
+abbrev pub IsEnding : Core → Outside → Type 0
+IsEnding c o = IsStatus c.status (HasServed c o)
+
 -- what holds before the effect of a stage is asked for
 abbrev pub Ready : Stage → Core → Outside → Type 0
 Ready stage.Logged c o = IsBefore c o
@@ -134,11 +168,11 @@ Ready stage.Listening c o = IsBefore c o × IsPrepared c o
 Ready stage.SettingAside c o = IsBefore c o × (c.grows ≡ true)
 Ready stage.Beginning c o = IsBefore c o × (c.grows ≡ true)
 Ready stage.Keeping c o = HasAllBut c.text c o
-Ready stage.Discarding c o = ⊤
+Ready stage.Discarding c o = IsEnding c o
 Ready stage.Replacing c o = c.text ≡ contacts_text c.ledger
-Ready stage.Printing c o = c.rows ≡ contact_rows (reported c.ledger)
-Ready stage.Telling c o = ⊤
-Ready stage.Exiting c o = ⊤
+Ready stage.Printing c o = (c.rows ≡ contact_rows (reported c.ledger)) × IsWhole c o
+Ready stage.Telling c o = IsEnding c o
+Ready stage.Exiting c o = IsEnding c o
 Ready s c o = IsKept c o
 
 -- a session that is ready is ready after an answer, too
@@ -148,6 +182,10 @@ GoesOn s reply t = (o : Outside) → Ready (due s) s.core o → Ready (due t) t.
 -- the service ends, whatever else holds
 abbrev pub Ends : State → Type 0
 Ends t = (o : Outside) → Ready (due t) t.core o
+
+-- the contacts are to be printed
+abbrev pub Prints : Core → State → Type 0
+Prints c t = (due t ≡ stage.Printing) × (t.core ≡ record c { rows = contact_rows (reported c.ledger) })
 
 -- the stages of a connection, and between two, that keep nothing
 abbrev pub is_serving : Stage → Bool
@@ -179,6 +217,11 @@ is_answering stage.Sending = true
 is_answering stage.Leaving = true
 is_answering s = false
 
+abbrev pub is_closing : Stage → Bool
+is_closing stage.Replacing = true
+is_closing stage.Printing = true
+is_closing s = false
+
 abbrev pub is_taking : Stage → Bool
 is_taking stage.Peeking = true
 is_taking stage.Accepting = true
@@ -207,20 +250,11 @@ is_beginning stage.SettingAside = true
 is_beginning stage.Beginning = true
 is_beginning s = false
 
--- what a stage asks for: of those effects that promises speak of, this one alone
-abbrev pub IsQuiet : Ask → Type 0
-IsQuiet (Look name) = ⊥
-IsQuiet (Make growth name beside text) = ⊥
-IsQuiet (Begin growth) = ⊥
-IsQuiet (Keep growth text) = ⊥
-IsQuiet (Listen address port is_polled) = ⊥
-IsQuiet (Accept ms seconds) = ⊥
-IsQuiet (Receive peer) = ⊥
-IsQuiet (Send peer bytes) = ⊥
-IsQuiet Leave = ⊥
-IsQuiet (Replace name beside text) = ⊥
-IsQuiet (Print bytes) = ⊥
-IsQuiet ask = ⊤
+-- the log is opened, or nothing is said if there is none
+abbrev pub IsOpening : Ask → Type 0
+IsOpening (Extend name) = ⊤
+IsOpening (Say text) = text ≡ []
+IsOpening ask = ⊥
 
 abbrev pub IsLook : Ask → Type 0
 IsLook (Look name) = ⊤
@@ -242,19 +276,48 @@ abbrev pub IsReplace : List ℕ → Ask → Type 0
 IsReplace text (Replace name beside whole) = whole ≡ text
 IsReplace text ask = ⊥
 
+abbrev pub IsSetAside : Ask → Type 0
+IsSetAside (SetAside growth old) = growth ≡ Contacts
+IsSetAside ask = ⊥
+
+abbrev pub IsExists : Ask → Type 0
+IsExists (Exists name) = ⊤
+IsExists ask = ⊥
+
+abbrev pub IsAdd : Ask → Type 0
+IsAdd (Add text) = ⊤
+IsAdd ask = ⊥
+
+abbrev pub IsSay : Ask → Type 0
+IsSay (Say text) = ⊤
+IsSay ask = ⊥
+
+-- what each stage asks for, and nothing else
 abbrev pub AsksAt : Stage → State → Ask → Type 0
+AsksAt stage.Logged s ask = IsOpening ask
 AsksAt stage.Looking s ask = IsLook ask
 AsksAt stage.Making s ask = IsMake s.core.text ask
+AsksAt stage.Discarding s ask = ask ≡ Discard Contacts
+AsksAt stage.SettingAside s ask = IsSetAside ask
 AsksAt stage.Beginning s ask = ask ≡ Begin Contacts
 AsksAt stage.Keeping s ask = ask ≡ Keep Contacts s.core.text
 AsksAt stage.Listening s ask = IsListen ask
+AsksAt stage.Peeking s ask = IsExists ask
 AsksAt stage.Accepting s ask = IsAccept ask
+AsksAt stage.Pausing s ask = ask ≡ Sleep 100
+AsksAt stage.Checking s ask = IsExists ask
+AsksAt stage.Timing s ask = ask ≡ Now
 AsksAt stage.Receiving s ask = ask ≡ Receive Client
+AsksAt stage.Tracing s ask = IsSay ask
+AsksAt stage.Stamping s ask = ask ≡ Stamp
+AsksAt stage.Logging s ask = IsAdd ask
 AsksAt stage.Sending s ask = ask ≡ Send Client s.talk.out
 AsksAt stage.Leaving s ask = ask ≡ Leave
 AsksAt stage.Replacing s ask = IsReplace s.core.text ask
 AsksAt stage.Printing s ask = ask ≡ Print s.core.rows
-AsksAt st s ask = IsQuiet ask
+AsksAt stage.Saying s ask = IsSay ask
+AsksAt stage.Telling s ask = IsSay ask
+AsksAt stage.Exiting s ask = ask ≡ Exit s.core.status
 
 abbrev pub Asks : State → Ask → Type 0
 Asks s ask = AsksAt s.stage s ask
@@ -279,3 +342,20 @@ is_asking_while s = is_serving s
 -- what the contacts file lacks is to be added
 abbrev pub followed : Core → Core
 followed c = record c { text = c.text ++ text_of (map act_line (drop c.held c.ledger)); held = length c.ledger }
+
+-- an answer has its effect
+pub record Steps (s : State) (reply : Reply) (t : State) : Type 0 where
+  pub goes : GoesOn s reply t
+  pub served : Serves s reply t
+  pub stays : StaysOn s reply t
+  pub stands : Stands s → Stands t
+
+-- what was asked and answered, the last first, has led a session to another state, and the outside with it: it asked for no exit
+pub data Led (first : State) : List Did → State → Outside → Type 0 where
+  starts : Led first [] first untouched
+  follows : (past : List Did) (s t : State) (o : Outside) (ask : Ask) (reply : Reply) → Led first past s o → (s.stage ≡ stage.Exiting → ⊥)
+      → Asks s ask → Steps s reply t → Led first ((ask, reply) ∷ past) t (outcome s.stage s.core reply o)
+
+-- to its exit, with this status
+abbrev pub IsRun : State → List Did → ℕ → Type 0
+IsRun first past status = (s : State) × (o : Outside) × Led first past s o × (s.stage ≡ stage.Exiting) × (status ≡ s.core.status)

@@ -1,6 +1,7 @@
 // The end of a service: the contacts file gets its whole text, the contacts are printed, and what has failed is said.
 
-ghost use Rattle.std.specs.Prelude.{◌≡◌, true, OnOk};
+ghost use Rattle.std.specs.Prelude.{◌≡◌, true, false, OnOk};
+ghost use Rattle.effects.specs.Effects.{the_reply};
 ghost use Rattle.services.specs.Sessions as spec;
 ghost use Rattle.services.specs.Serving as serving;
 
@@ -46,7 +47,7 @@ impl Session {
 
     fn print(&mut self) -> Result<(), AllocError>
         ensures plain { OnOk result (spec.due self.new ≡ self.new.stage) }
-        ensures ends { OnOk result (spec.Ends self.new) }
+        ensures prints { OnOk result (spec.Prints self.old.core self.new) }
         ensures talk { self.new.talk ≡ self.old.talk }
         ensures over { OnOk result (serving.is_over (spec.due self.new) ≡ true) }
         ensures stands { OnOk result (spec.Stands self.new) }
@@ -58,7 +59,8 @@ impl Session {
     }
 
     pub(crate) fn close_on(&mut self, answer: Answer<'_>) -> Result<(), AllocError>
-        ensures ends { OnOk result (spec.Ends self.new) }
+        requires { spec.is_closing self.old.stage ≡ true }
+        ensures goes { OnOk result (spec.GoesOn self.old (the_reply answer.entry) self.new) }
         ensures talk { self.new.talk ≡ self.old.talk }
         ensures over { OnOk result (serving.is_over (spec.due self.new) ≡ true) }
         ensures stands { OnOk result (spec.Stands self.new) }
@@ -66,6 +68,7 @@ impl Session {
         match (self.stage, answer) {
             (Stage::Replacing, Answer::Done) => self.print(),
             (Stage::Replacing, _) => {
+                self.contacts.has_failed = true;
                 let name = self.contacts.name();
                 self.unwritten = format!(in self.alloc; "dme: cannot write {name}\n")?;
                 self.print()
@@ -96,16 +99,17 @@ impl Session {
 
     /// All was printed: what has failed is said, and the service ends.
     fn verdict(&mut self) -> Result<(), AllocError>
-        ensures ends { OnOk result (spec.Ends self.new) }
+        ensures due { OnOk result (spec.due self.new ≡ Stage.Exiting) }
+        ensures core { OnOk result (self.new.core
+            ≡ record (self.old.core) { status = self.new.core.status }) }
+        ensures status { OnOk result
+            (spec.IsStatus self.new.core.status (self.old.core.lost ≡ false)) }
         ensures talk { self.new.talk ≡ self.old.talk }
-        ensures over { OnOk result (serving.is_over (spec.due self.new) ≡ true) }
-        ensures stands { OnOk result (spec.Stands self.new) }
     {
-        let has_failed = self.contacts.has_failed || !self.unwritten.is_empty();
         self.status = match self.broken {
             Some(Break::Fault(PumpFault::Memory)) => 4,
             Some(_) => 1,
-            None if has_failed => 1,
+            None if self.contacts.has_failed => 1,
             None => 0,
         };
         if let Some(why) = self.broken {

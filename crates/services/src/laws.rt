@@ -1,12 +1,14 @@
 // What follows from the definitions. Each function has laws for its contract and does nothing.
 
-ghost use Rattle.std.specs.Prelude.{◌≡◌, ℕ, Bool, List, [], ◌∷◌, true, false, None, Ok};
-ghost use Rattle.effects.specs.Effects.{At, Bytes, Done, End, Found, Nothing};
+ghost use Rattle.std.specs.Prelude.{◌≡◌, ⊤, ℕ, Bool, List, [], ◌∷◌, true, false, None, Ok};
+ghost use Rattle.effects.specs.Effects.{At, Bytes, Did, Discard, Done, End, Exit, Found, Nothing, Remove};
+ghost use Rattle.effects.specs.declared.vocabulary.Growth.TheVariants.{Told};
 ghost use Rattle.line_framing.specs.Next.{next_of};
 ghost use Rattle.protocol_model.specs.Ends.{ServerEnd};
 ghost use Rattle.protocol_model.specs.Server.{running_job};
 ghost use Rattle.server_core.specs.Serving.{may_turn};
 ghost use Rattle.tool_rack.specs.Setups.{SetupValue};
+ghost use Rattle.services.specs.Sessions.{AsksAt, Core, HasServed, IsStatus, Led, Outside, Ready, State, due, untouched};
 ghost use Rattle.services.specs.Serving.{Talk, Traffic, Served, IsBreak, IsServing, IsAt, is_over, may_leave, passed};
 ghost use Rattle.link_world.specs.declared.connections.pumps.PumpFault.TheVariants as fault;
 ghost use Rattle.services.specs.declared.stages.Stage.TheVariants as stage;
@@ -21,6 +23,28 @@ pub fn servers_of_sessions_have_worked()
     ensures idle { (setup : SetupValue) (over : Bool) (heard : List (List ℕ))
         (written : List ℕ) (e : ServerEnd) → Served setup over heard written e
         → (may_turn e.server ≡ false) × (running_job e.server ≡ None) }
+{}
+
+/// A session that was led to its exit from one that is `Ready`, as a new one is, exits with status 0 only if its contacts file was kept and
+/// written, and its contacts were printed; and else with 1, or with 4 if memory has run out.
+pub fn services_exit_with_their_status()
+    ensures { (first s : State) (past : List Did) (o : Outside)
+        → Ready (due first) first.core untouched → Led first past s o → s.stage ≡ stage.Exiting
+        → IsStatus s.core.status (HasServed s.core o) }
+{}
+
+/// What a service asks for nowhere but at its own stage; the contacts that were not kept, or not printed, are no success; no other status is
+/// known.
+pub fn asking_rows()
+    ensures exit { (s : State) → AsksAt stage.Saying s (Exit 0) → ⊥ }
+    ensures other_exit { (s : State) → s.core.status ≡ 1 → AsksAt stage.Exiting s (Exit 0) → ⊥ }
+    ensures removed { (s : State) → AsksAt stage.Checking s (Remove []) → ⊥ }
+    ensures other_file { (s : State) → AsksAt stage.Discarding s (Discard Told) → ⊥ }
+    ensures lost { (c : Core) (o : Outside) → c.lost ≡ true → HasServed c o → ⊥ }
+    ensures unwritten { (c : Core) (o : Outside) → c.named ≡ true → o.is_whole ≡ false
+        → HasServed c o → ⊥ }
+    ensures unprinted { (c : Core) (o : Outside) → o.is_printed ≡ false → HasServed c o → ⊥ }
+    ensures other_status { IsStatus 3 ⊤ → ⊥ }
 {}
 
 /// What is received joins what was before on the connection, of which nothing is on the next one; nothing is received while something is

@@ -1,7 +1,7 @@
 // Before the first connection: the files are opened, and the port is listened on.
 
 ghost use Rattle.std.specs.Prelude.{◌≡◌, ◌≢◌, if◌then◌else◌, true, false, [], OnOk};
-ghost use Rattle.effects.specs.Effects.{the_reply};
+ghost use Rattle.effects.specs.Effects.{the_reply, Reply};
 ghost use Rattle.services.specs.Sessions as spec;
 ghost use Rattle.services.specs.Serving as serving;
 
@@ -44,7 +44,6 @@ impl Session {
         ensures talk { self.new.talk ≡ self.old.talk }
     {
         let message = format!(in self.alloc; "dme: cannot write {name}\n")?;
-        self.status = 1;
         self.say(message, Stage::Exiting);
         Ok(())
     }
@@ -126,7 +125,6 @@ impl Session {
         }
         let why = why_unconnected(cause_of(answer));
         let message = format!(in self.alloc; "dme: connection failed\n{why}")?;
-        self.status = 1;
         self.say(message, Stage::Exiting);
         if self.contacts.grows {
             self.stage = Stage::Discarding;
@@ -136,7 +134,8 @@ impl Session {
 
     /// The contacts file is as it was, and the service ends.
     fn discarded(&mut self)
-        ensures ends { spec.Ends self.new }
+        requires { self.old.stage ≡ Stage.Discarding }
+        ensures goes { (reply : Reply) → spec.GoesOn self.old reply self.new }
         ensures talk { self.new.talk ≡ self.old.talk }
         ensures over { serving.is_over (spec.due self.new) ≡ true }
         ensures stands { spec.Stands self.new }

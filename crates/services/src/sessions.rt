@@ -80,6 +80,7 @@ impl Model for Session {
         held = s.contacts.held;
         ledger = s.server.end.server.ledger;
         rows = s.rows.items;
+        status = s.status;
       };
       talk = record {
         end = s.server.end;
@@ -124,7 +125,7 @@ impl Session {
             unwritten: String::new(alloc),
             last: "",
             broken: None,
-            status: 0,
+            status: 1,
         })
     }
 
@@ -268,7 +269,11 @@ impl Session {
 
     /// The last message is to be said, which needs no memory.
     pub(crate) fn tell(&mut self, message: &'static str, status: u8)
-        ensures { self.new ≡ record self.old { stage = Stage.Telling; next = Stage.Exiting } }
+        ensures { self.new ≡ record self.old {
+          stage = Stage.Telling;
+          next = Stage.Exiting;
+          core = record (self.old.core) { status = status };
+        } }
     {
         self.last = message;
         self.status = status;
