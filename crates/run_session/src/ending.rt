@@ -1,6 +1,7 @@
 // The end of a run: its files get their whole texts, and its report is printed.
 
-ghost use Rattle.std.specs.Prelude.{◌≡◌, OnOk, None};
+ghost use Rattle.std.specs.Prelude.{◌≡◌, OnOk, None, true};
+ghost use Rattle.effects.specs.Effects.{the_reply};
 ghost use Rattle.run_session.specs.Records as spec;
 
 use crate::runs::Kept;
@@ -42,8 +43,10 @@ impl Session {
 
     /// A file could not be written in the end: that is what is said last, unless something else is.
     fn fail_to_write(&mut self, kept: Kept, answer: Answer<'_>) -> Result<(), AllocError>
-        ensures { self.new ≡ self.old }
+        ensures { self.new
+            ≡ spec.with_marks (record (self.old.reports.marks) { failed = true }) self.old }
     {
+        self.is_unwritten = true;
         let why = why_unwritten(cause_of(answer));
         let name = self.run.name(kept);
         let line = format!(in self.alloc; "dme: cannot write {name}{why}\n")?;
@@ -80,8 +83,10 @@ impl Session {
         }
     }
 
+    #[tactic(auto, using(crate::proofs::Filing::undone))]
     pub(crate) fn end_on(&mut self, answer: Answer<'_>) -> Result<(), AllocError>
-        ensures quiet { spec.IsQuiet self.old self.new }
+        requires { spec.is_ending self.old.stage ≡ true }
+        ensures quiet { spec.IsQuiet (spec.answered self.old (the_reply answer.entry)) self.new }
         ensures due { OnOk result (spec.IsDue self.new) }
         ensures followed { OnOk result (spec.Follows self.old self.new) }
     {
@@ -92,6 +97,7 @@ impl Session {
                 self.print()
             }
             (_, Answer::Done) => {
+                self.is_printed = true;
                 self.stage = self.after_report();
                 Ok(())
             }
@@ -134,8 +140,10 @@ impl Session {
         }
     }
 
+    #[tactic(auto, using(crate::proofs::Filing::undone))]
     pub(crate) fn close_on(&mut self, answer: Answer<'_>) -> Result<(), AllocError>
-        ensures quiet { spec.IsQuiet self.old self.new }
+        requires { spec.IsClosing self.old.stage }
+        ensures quiet { spec.IsQuiet (spec.answered self.old (the_reply answer.entry)) self.new }
         ensures due { OnOk result (spec.IsDue self.new) }
         ensures followed { OnOk result (spec.Follows self.old self.new) }
     {

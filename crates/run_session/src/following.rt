@@ -1,6 +1,6 @@
 // What the client has counted goes to the files, and the features that are complete are shown.
 
-ghost use Rattle.std.specs.Prelude.{◌≡◌, ◌<◌, map, length, true, IsNone, IfSome, is_some, OnOk};
+ghost use Rattle.std.specs.Prelude.{◌≡◌, ◌<◌, map, length, true, IsNone, IfSome, OnOk};
 ghost use Rattle.effects.specs.Effects.{the_reply};
 ghost use Rattle.record_text.specs.Entries.{IsRefusal, kept_error};
 ghost use Rattle.run_session.specs.Records as spec;
@@ -43,7 +43,7 @@ impl Session {
     fn tell_acts(&mut self) -> Result<(), AllocError>
         ensures ran { spec.Keeps self.old self.new }
         ensures book { self.new.book ≡ self.old.book }
-        ensures told { OnOk result (spec.HasTold self.new) }
+        ensures told { OnOk result (spec.HasLines self.new) }
     {
         self.growth.tell(&self.client)
     }
@@ -52,10 +52,20 @@ impl Session {
     fn tell_errors(&mut self) -> Result<(), AllocError>
         ensures ran { spec.Keeps self.old self.new }
         ensures book { self.new.book ≡ self.old.book }
-        ensures told { spec.StaysTold self.old self.new }
+        ensures told { spec.HasLines self.old → spec.HasLines self.new }
     {
         let errors = with_lines(self.errors.take());
         self.growth.tell_errors(errors.as_slice())
+    }
+
+    /// The file of contacts is to have what the client has counted since. Fails only if out of memory.
+    fn tell_contacts(&mut self) -> Result<(), AllocError>
+        ensures ran { spec.Keeps self.old self.new }
+        ensures book { self.new.book ≡ self.old.book }
+        ensures lines { spec.HasLines self.old → spec.HasLines self.new }
+        ensures told { OnOk result (spec.HasActs self.new) }
+    {
+        self.reported.follow(self.number, &self.client)
     }
 
     /// What the client has counted since, and the errors of its server, are to be in the files.
@@ -70,7 +80,7 @@ impl Session {
             self.tell_errors()?;
         }
         if self.run.contacts.is_some() {
-            self.reported.follow(self.number, &self.client)?;
+            self.tell_contacts()?;
         }
         if self.run.grows(Kept::Features) {
             self.listed.follow(self.alloc, &self.client)?;
@@ -174,6 +184,7 @@ impl Session {
         ensures book { self.new.book ≡ spec.filed self.old }
         ensures pauses { self.new.book.pauses ≡ self.old.book.pauses }
         ensures short { self.new.book.short ≡ self.old.book.short }
+        ensures reports { self.new.reports ≡ self.old.reports }
         ensures told { spec.StaysTold self.old self.new }
         ensures whole { spec.HasFiled self.new }
     {
@@ -187,6 +198,7 @@ impl Session {
     fn lose_record(&mut self)
         ensures pair { self.new.pair ≡ self.old.pair }
         ensures book { self.new.book ≡ record (self.old.book) { lost = true } }
+        ensures reports { self.new.reports ≡ self.old.reports }
         ensures told { spec.StaysTold self.old self.new }
         ensures whole { spec.HasFiled self.new }
     {
@@ -195,7 +207,7 @@ impl Session {
 
     /// The record has what it lacked, or cannot be kept.
     pub(crate) fn recorded(&mut self, answer: Answer<'_>) -> Result<(), AllocError>
-        requires { is_some (spec.writes self.old.stage) ≡ true }
+        requires { spec.is_record (spec.writes self.old.stage) ≡ true }
         ensures goes { spec.GoesOn self.old (the_reply answer.entry) self.new }
         ensures pauses { self.new.book.pauses ≡ self.old.book.pauses }
         ensures short { self.new.book.short ≡ self.old.book.short }
@@ -229,18 +241,36 @@ impl Session {
         Ok(())
     }
 
+    /// The file of contacts has all of its text.
+    fn file_contacts(&mut self)
+        ensures { self.new ≡ spec.with_marks (record (self.old.reports.marks) {
+          filed = length self.old.reports.text;
+        }) self.old }
+    {
+        self.reported.settle();
+    }
+
+    /// The file of contacts could not be kept.
+    fn lose_contacts(&mut self)
+        ensures { self.new
+            ≡ spec.with_marks (record (self.old.reports.marks) { lost = true }) self.old }
+    {
+        self.reported.has_failed = true;
+    }
+
     /// The file of contacts has it, or cannot be kept.
     pub(crate) fn has_reported(&mut self, answer: Answer<'_>) -> Result<(), AllocError>
-        ensures ran { spec.Keeps self.old self.new }
+        requires { self.old.stage ≡ Stage.Reporting }
+        ensures goes { spec.GoesOn self.old (the_reply answer.entry) self.new }
         ensures book { self.new.book ≡ self.old.book }
         ensures due { OnOk result (spec.IsDue self.new) }
         ensures followed { OnOk result (spec.Follows self.old self.new) }
     {
         if let Answer::Done = answer {
-            self.reported.settle();
+            self.file_contacts();
             return self.list();
         }
-        self.reported.has_failed = true;
+        self.lose_contacts();
         let cause = cause_of(answer);
         self.lose(Kept::Contacts, cause, why_unwritten(cause))?;
         self.list()

@@ -6,7 +6,6 @@ ghost use Rattle.protocol_model.specs.Ends.{end_connected};
 ghost use Rattle.order_parts.specs.Pauses.{pauses_of, place_seen};
 ghost use Rattle.record_text.specs.Growths.{begun};
 ghost use Rattle.client_core.specs.Clients.{may_connect};
-ghost use Rattle.protocol_model.specs.declared.states.State.TheVariants.{Done};
 ghost use Rattle.run_session.specs.Records as spec;
 
 use crate::calling::NOT_DONE;
@@ -50,12 +49,24 @@ impl Model for Begun {
 
     ghost Value = { Start };
 
-    ghost use Rattle.std.specs.Prelude.{is_some};
+    ghost use Rattle.std.specs.Prelude.{is_some, false};
 
     ghost view = { λ b. record {
       growth = b.growth;
       pauses = b.pauses.items;
       keeps = is_some b.run.record;
+      reports = record {
+        named = is_some b.run.contacts;
+        number = b.number;
+        text = b.reported.text.items;
+        told = b.reported.told;
+        marks = record {
+          filed = b.reported.filed;
+          lost = b.reported.has_failed;
+          printed = false;
+          failed = false;
+        };
+      };
     } };
 }
 
@@ -79,6 +90,8 @@ impl Begun {
         ensures pauses { IfOk result (λ b. b.pauses
             ≡ pauses_of (map place_seen places.items)) }
         ensures keeps { IfOk result (λ b. b.keeps ≡ is_some run.record) }
+        ensures reports { IfOk result (λ b. b.reports
+            ≡ spec.first_reports (is_some run.contacts) number told.now) }
     {
         let pauses = pauses(alloc, places.as_slice())?;
         let reported = Reported::new(alloc, told)?;
@@ -155,6 +168,9 @@ pub struct Session {
     pub(crate) has_ended: bool,
     /// How often it has looked whether a server that is left leaves, too.
     pub(crate) looks: u32,
+    /// Whether the report was printed, and whether a file was not written at the end.
+    pub(crate) is_printed: bool,
+    pub(crate) is_unwritten: bool,
     /// What is added to the log, or printed.
     pub(crate) text: Vec<u8>,
     /// What is said last, and the verdict in it.
@@ -186,6 +202,18 @@ impl Model for Session {
         keeps = is_some s.run.record;
         short = s.is_short;
       };
+      reports = record {
+        named = is_some s.run.contacts;
+        number = s.number;
+        text = s.reported.text.items;
+        told = s.reported.told;
+        marks = record {
+          filed = s.reported.filed;
+          lost = s.reported.has_failed;
+          printed = s.is_printed;
+          failed = s.is_unwritten;
+        };
+      };
       text = s.text.items;
       list = s.listed.text.items;
     } };
@@ -204,6 +232,7 @@ impl Session {
           keeps = begun.keeps;
           short = false;
         } }
+        ensures reports { result.reports ≡ begun.reports }
         ensures due { spec.IsDue result }
         ensures followed { spec.HasTold result → spec.HasFollowed result }
     {
@@ -260,6 +289,8 @@ impl Session {
             last: Vec::new(alloc),
             has_ended: false,
             looks: 0,
+            is_printed: false,
+            is_unwritten: false,
             text: Vec::new(alloc),
             said: String::new(alloc),
             verdict: String::new(alloc),
@@ -346,14 +377,16 @@ impl Session {
         }
     }
 
-    /// The exit status: 0 only once all that was asked for is measured.
+    /// The exit status: 0 only once all that was asked for is measured and written.
     fn exit_status(&self) -> u8
-        ensures { result ≡ 0 → self.now.pair.end.client.state ≡ Done }
+        ensures { result ≡ 0 → spec.HasDone self.now }
     {
-        if self.status == 0 && self.client.state() != State::Done {
-            NOT_DONE
-        } else {
+        if self.status != 0 {
             self.status
+        } else if self.is_printed && !self.is_unwritten && self.client.state() == State::Done {
+            0
+        } else {
+            NOT_DONE
         }
     }
 

@@ -1,5 +1,5 @@
 use Rattle.run_session.proofs.Names.{ap, Book, Filed, refl, Stage, State, the_reply, Told}
-use Rattle.run_session.proofs.Filing.{is_quiet, or_quiet, arm, arm_on}
+use Rattle.run_session.proofs.Filing.{is_other, is_quiet, or_other, or_quiet, arm, arm_on, quiet_goes}
 use Rattle.run_session.proofs.Paces.{also_filed, is_paced, on_filed, on_told, or_paced}
 use Rattle.run_session.proofs.sessions.Session.step.Goals as goal
 
@@ -35,10 +35,6 @@ pub returns-in-Tracing-clause-goes : goal.returns-in-Tracing-clause-goes
 returns-in-Tracing-clause-goes c = arm _ c.args.self.now c.show_on.new.self (the_reply c.args.answer) c.self.view_is
     (or_quiet c.self.inside.stage Stage.Tracing refl (or_quiet c.self.inside.stage Stage.Stamping refl (is_quiet c.self.inside.stage Stage.Logging refl)) c.in-Tracing.is) c.show_on.ensures.ran c.show_on.ensures.book
 
-pub returns-in-Reporting-clause-goes : goal.returns-in-Reporting-clause-goes
-returns-in-Reporting-clause-goes c = arm _ c.args.self.now c.has_reported.new.self (the_reply c.args.answer) c.self.view_is
-    (is_quiet c.self.inside.stage Stage.Reporting refl c.in-Reporting.is) c.has_reported.ensures.ran c.has_reported.ensures.book
-
 pub returns-in-Listing-clause-goes : goal.returns-in-Listing-clause-goes
 returns-in-Listing-clause-goes c = arm _ c.args.self.now c.has_listed.new.self (the_reply c.args.answer) c.self.view_is
     (is_quiet c.self.inside.stage Stage.Listing refl c.in-Listing.is) c.has_listed.ensures.ran c.has_listed.ensures.book
@@ -46,6 +42,18 @@ returns-in-Listing-clause-goes c = arm _ c.args.self.now c.has_listed.new.self (
 pub returns-in-Showing-clause-goes : goal.returns-in-Showing-clause-goes
 returns-in-Showing-clause-goes c = arm _ c.args.self.now c.has_shown.new.self (the_reply c.args.answer) c.self.view_is
     (is_quiet c.self.inside.stage Stage.Showing refl c.in-Showing.is) c.has_shown.ensures.ran c.has_shown.ensures.book
+
+pub returns-in-ReplacingFeatures-clause-goes : goal.returns-in-ReplacingFeatures-clause-goes
+returns-in-ReplacingFeatures-clause-goes c = quiet_goes _ c.args.self.now c.end_on.new.self (the_reply c.args.answer) c.self.view_is
+    (or_other c.self.inside.stage Stage.ReplacingFeatures Stage.Printing refl refl c.in-ReplacingFeatures.is) c.end_on.ensures.quiet
+
+pub returns-in-Standing-clause-goes : goal.returns-in-Standing-clause-goes
+returns-in-Standing-clause-goes c = quiet_goes _ c.args.self.now c.close_on.new.self (the_reply c.args.answer) c.self.view_is
+    (or_other c.self.inside.stage Stage.Standing Stage.ReplacingRecord refl refl c.in-Standing.is) c.close_on.ensures.quiet
+
+pub returns-in-ReplacingContacts-clause-goes : goal.returns-in-ReplacingContacts-clause-goes
+returns-in-ReplacingContacts-clause-goes c = quiet_goes _ c.args.self.now c.close_on-in-ReplacingContacts.new.self (the_reply c.args.answer) c.self.view_is
+    (is_other c.self.inside.stage Stage.ReplacingContacts refl c.in-ReplacingContacts.is) c.close_on-in-ReplacingContacts.ensures.quiet
 
 pub returns-in-Logged-clause-followed : goal.returns-in-Logged-clause-followed
 returns-in-Logged-clause-followed c = on_filed c.call.result _ c.args.self.now c.call.new.self c.self.view_is
