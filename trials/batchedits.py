@@ -32,6 +32,8 @@ if not L.is_dir():
     L.mkdir(); shutil.copy(TOP/'crates.txt',L); shutil.copy('/work/stand/HANDLES',L); (L/'crates').mkdir()
     for d in pathlib.Path('/work/stand/crates').iterdir():
         if d.name!=crate: (L/'crates'/d.name).symlink_to(d)
+    for d in (TOP/'crates').iterdir():
+        if d.name!=crate and not (L/'crates'/d.name).exists(): (L/'crates'/d.name).symlink_to(d)
 def fresh():
     shutil.rmtree(L/'crates'/crate,ignore_errors=True)
     shutil.copytree(TOP/'crates'/crate,L/'crates'/crate,ignore=shutil.ignore_patterns('out','must-fail*'))
