@@ -1,23 +1,17 @@
 -- All files that a call names are compared, one after another.
 use Rattle.run_opening.proofs.Names.{[], ◌++◌, ◌<◌, ◌∙◌, ◌≡◌, arith, Bool, false, is_some, List, None, Ok, Option, Err, OnOk, Result, Run, Some, subst, sym, true, true≢false, ℕ}
 use Rattle.std.proofs.Common.{◌∷◌, ◌≤◌, ◌⊎◌, ap, inl, inr, map, refl, suc}
-use Rattle.std.proofs.lemmas.Bool.{ltb-true, ltb-false}
 use Rattle.std.proofs.lemmas.List.{map-append}
-use Rattle.std.specs.Prelude.{nat_lt, option_map, string_bytes}
-use Rattle.std.specs.List.{AllByRecursion}
+use Rattle.std.specs.Prelude.{option_map, string_bytes}
 use Rattle.effects.specs.Effects.{Reply}
-use Rattle.run_opening.specs.Naming.{AreApart, AreCompared, AreNone, Covers, Disturbs, IsClear, IsIn, IsSeen, Seen, seen_of}
-use Rattle.run_opening.specs.Openings.{Answered, bytes_of, Core, GoesOn, Holds, IsComparing, Known, outcome, Outside, placed, State, untouched}
-use Rattle.run_opening.specs.declared.naming.Called.{Called}
+use Rattle.named_files.proofs.Comparing.{apart_more, or_not, same_or_less, seen_last, seen_more}
+use Rattle.named_files.specs.Comparing.{bytes_of}
+use Rattle.named_files.specs.Naming.{IsIn, IsSeen, Seen, seen_of}
+use Rattle.named_files.specs.declared.called.Called.{Called}
+use Rattle.run_opening.specs.Naming.{AreCompared, AreNone, Covers, IsClear, written}
+use Rattle.run_opening.specs.Openings.{Answered, Core, GoesOn, Holds, IsComparing, Known, outcome, Outside, placed, State, untouched}
 use Rattle.run_opening.specs.declared.stages.Stage.{Stage}
 use Rattle.run_opening.specs.declared.stages.Stage.TheVariants as stage
-
-or_not : (A : Type 0) (n m : ℕ) → (n < m → A) → (m ≤ n → A) → A
-or_not A n m below above = cases (nat_lt n m) refl
-  where
-    cases : (b : Bool) → nat_lt n m ≡ b → A
-    cases true is = below (ltb-true n m is)
-    cases false is = above (ltb-false n m is)
 
 -- those that are not named need not be looked for
 covers_next : (run : Run) (from at : ℕ) (placeless : List ℕ) (seen : List Seen) → AreNone from at run → Covers run from placeless seen
@@ -27,9 +21,6 @@ covers_next run from at placeless seen none covers = record {
       (λ more. absurd (true≢false (sym named ∙ ap (λ (o : Option (List ℕ)). is_some o) (none n more below))));
 }
 
-same_or_less : (n at next : ℕ) → next ≤ suc at → n < next → at ≤ n → n ≡ at
-same_or_less n at next few below more = omega (arith, few, below, more)
-
 covers_one : (run : Run) (at next : ℕ) (placeless placeless_now : List ℕ) (seen seen_now : List Seen) → next ≤ suc at
     → ((n : ℕ) → IsIn n placeless ⊎ IsSeen n seen → IsIn n placeless_now ⊎ IsSeen n seen_now)
     → IsIn at placeless_now ⊎ IsSeen at seen_now → Covers run at placeless seen → Covers run next placeless_now seen_now
@@ -37,24 +28,6 @@ covers_one run at next placeless placeless_now seen seen_now few grows now cover
   each = λ n below named. or_not (IsIn n placeless_now ⊎ IsSeen n seen_now) n at (λ less. grows n (covers.each n less named))
       (λ more. subst (λ (m : ℕ). IsIn m placeless_now ⊎ IsSeen m seen_now) (sym (same_or_less n at next few below more)) now);
 }
-
-apart_more : (seen : List Seen) (x : Seen) → AreApart seen → IsClear seen x → AreApart (seen ++ x ∷ [])
-apart_more [] x apart clear = (tt, tt)
-apart_more (s ∷ seen) x apart clear = (all_more seen x apart.0 clear.0, apart_more seen x apart.1 clear.1)
-  where
-    all_more : (later : List Seen) (x : Seen) → AllByRecursion (λ y. Disturbs s y → ⊥) later → (Disturbs s x → ⊥)
-        → AllByRecursion (λ y. Disturbs s y → ⊥) (later ++ x ∷ [])
-    all_more [] x all last = (last, tt)
-    all_more (y ∷ later) x all last = (all.0, all_more later x all.1 last)
-
-seen_more : (n : ℕ) (seen : List Seen) (x : Seen) → IsSeen n seen → IsSeen n (seen ++ x ∷ [])
-seen_more n [] x h = absurd h
-seen_more n (s ∷ seen) x (inl is) = inl is
-seen_more n (s ∷ seen) x (inr h) = inr (seen_more n seen x h)
-
-seen_last : (seen : List Seen) (x : Seen) → IsSeen x.at (seen ++ x ∷ [])
-seen_last [] x = inl refl
-seen_last (s ∷ seen) x = inr (seen_last seen x)
 
 -- a file lacks a place
 placeless_covers : (run : Run) (at next : ℕ) (placeless : List ℕ) (seen : List Seen) → next ≤ suc at → Covers run at placeless seen
@@ -118,7 +91,7 @@ pub joined : (run : Run) (x : Called) (next : ℕ) (cs pushed : List Called) (c 
 joined run x next cs pushed c a h clear few more = record {
   fresh = h.fresh;
   seen = ap (λ (l : List Seen). l ++ seen_of x ∷ []) h.seen ∙ (sym (map-append seen_of cs (x ∷ [])) ∙ ap (λ (l : List Called). map seen_of l) (sym more));
-  apart = apart_more a.seen (seen_of x) h.apart (subst (λ (l : List Seen). IsClear l (seen_of x)) (sym h.seen) clear);
+  apart = apart_more false written a.seen (seen_of x) h.apart (subst (λ (l : List Seen). IsClear l (seen_of x)) (sym h.seen) clear);
   covers = joined_covers run (seen_of x) next a.placeless a.seen few h.covers;
 }
 

@@ -13,7 +13,9 @@ use Rattle.record_text.specs.Growths.{begun}
 use Rattle.record_text.specs.declared.opening.Beginning.{Beginning}
 use Rattle.run_session.specs.Records.{Start}
 use Rattle.tool_rack.specs.Setups.{SetupValue, setup_of}
-use Rattle.run_opening.specs.Naming.{Seen, AreApart, AreCompared, Covers}
+use Rattle.named_files.specs.Comparing.{bytes_of}
+use Rattle.named_files.specs.Naming.{Seen}
+use Rattle.run_opening.specs.Naming.{AreApart, AreCompared, Covers}
 use Rattle.run_opening.specs.declared.stages.Text.{Text}
 use Rattle.run_opening.specs.declared.stages.Text.TheVariants as text
 use Rattle.run_opening.specs.declared.stages.Stage.{Stage}
@@ -134,10 +136,6 @@ typed before (Bytes bytes) o = record o { typed = before ++ bytes }
 typed before reply o = o
 
 -- the place of a file, or none; and its number on its device, if it exists
-abbrev pub bytes_of : Reply → Option (List ℕ)
-bytes_of (Bytes bytes) = Some bytes
-bytes_of reply = None
-
 abbrev pub placed : ℕ → Option (List ℕ) → Answered → Answered
 placed at (Some place) a = record a { place = place; last = at }
 placed at None a = record a { placeless = at ∷ a.placeless }

@@ -1,17 +1,17 @@
 // Examples: what comes of an answer, and what is known. Each function has laws for its contract and does nothing.
 
 ghost use Rattle.std.specs.Prelude.{◌≡◌, [], ◌∷◌, true, false, Some, None, is_some, codes};
-ghost use Rattle.run_opening.specs.Names.{Run, Bytes, End, Missing, Done, Found, State, Outside, Known, outcome, read, is_there, untouched, Disturbs, AreApart, Covers, given, is_written, name_at};
+ghost use Rattle.run_opening.specs.Names.{Run, Bytes, End, Missing, Done, Found, State, Outside, Known, outcome, read, is_there, untouched, Disturbs, AreApart, Covers, given, is_written, name_at, written};
 ghost use Rattle.run_opening.specs.declared.stages.Stage.TheVariants as stage;
 ghost use Rattle.run_opening.specs.declared.stages.Text.TheVariants as text;
 
 /// Features, record, contacts and log are written, the program and the stop file are not; standard input is no file. Two files disturb one
 /// another, if either is written, that have one place or one number on their device, or of which one is made next to the other.
 pub fn meeting_rows()
-    ensures program { is_written 1 ≡ false }
-    ensures features { is_written 2 ≡ true }
-    ensures log { is_written 5 ≡ true }
-    ensures stop { is_written 6 ≡ false }
+    ensures program { is_written written 1 ≡ false }
+    ensures features { is_written written 2 ≡ true }
+    ensures log { is_written written 5 ≡ true }
+    ensures stop { is_written written 6 ≡ false }
     ensures input { given (codes "-") ≡ None }
     ensures file { given (codes "a") ≡ Some (codes "a") }
     ensures place { Disturbs (record { at = 3; place = codes "r"; node = None })

@@ -1,25 +1,19 @@
 // The files that a run names: none that is written may be another, or take the place of another's next text.
 
-ghost use Rattle.std.specs.Prelude.{◌≡◌, ◌↔◌, ◌≤◌, ◌<◌, true, map, length, OnOk, IfOk, IsNone, IfSome, option_map};
-ghost use Rattle.run_opening.specs.Names.{the_reply, IsNext, Meet, AreOne, Disturbs, IsClear, AreNone, seen_of, name_at, given, or_nothing, is_written};
+ghost use Rattle.std.specs.Prelude.{◌≡◌, ◌<◌, OnOk, IsNone, IfSome, option_map};
+ghost use Rattle.named_files.specs.Naming.{seen_of};
+ghost use Rattle.run_opening.specs.Names.{the_reply, AreNone, name_at, given, or_nothing, written};
 ghost use Rattle.run_opening.specs.Openings as spec;
 
 use crate::openings::Opening;
 use crate::stages::Stage;
 use dme_words::Run;
 use effects::Answer;
-use std::alloc::{AllocError, Global};
+use named_files::{Called, bytes_of, is_beside, kept, met, refusal};
+use std::alloc::AllocError;
 
 /// How many files a run may name.
 const COUNT: usize = 7;
-
-/// A file that an option names, with its place and its number on its device, if it exists.
-#[derive(Drop)]
-pub(crate) struct Called {
-    pub(crate) at: usize,
-    place: Vec<u8>,
-    node: Option<Vec<u8>>,
-}
 
 /// The option of a file, in the order in which they are compared.
 fn option_of(at: usize) -> &'static str {
@@ -34,11 +28,11 @@ fn option_of(at: usize) -> &'static str {
     }
 }
 
-/// Whether it is written.
-fn is_written(at: usize) -> bool
-    ensures { result ≡ is_written at }
+/// Those of features, record and contacts, and the log, are written.
+fn written() -> [bool; COUNT]
+    ensures { result ≡ written }
 {
-    at >= 2 && at <= 5
+    [false, false, true, true, true, true, false]
 }
 
 /// A name that is not that of standard input.
@@ -64,45 +58,6 @@ fn name_of(order: &Run, at: usize) -> Option<&str>
     }
 }
 
-/// Whether the second name is that of the file next to the first, in which its next text is made.
-fn is_next(name: &[u8], next: &[u8]) -> bool
-    ensures { result ≡ true ↔ IsNext name.now next.now }
-{
-    match next.strip_suffix(b".new") {
-        Some(front) => front == name,
-        None => false,
-    }
-}
-
-/// Whether two files meet: they are one, or one is made next to the other.
-fn meet(first: &[u8], second: &[u8]) -> bool
-    ensures { result ≡ true ↔ Meet first.now second.now }
-{
-    first == second || is_next(first, second) || is_next(second, first)
-}
-
-/// Whether two numbers are known, and one.
-fn are_one(first: &Option<Vec<u8>>, second: &Option<Vec<u8>>) -> bool
-    ensures { result ≡ true ↔ AreOne (option_map (λ node. node.items) first.now)
-        (option_map (λ node. node.items) second.now) }
-{
-    match (first, second) {
-        (Some(node), Some(number)) => node.as_slice() == number.as_slice(),
-        _ => false,
-    }
-}
-
-impl Called {
-    /// Whether two files are one, or one is made next to the other, and either is written.
-    fn disturbs(&self, other: &Called) -> bool
-        ensures { result ≡ true ↔ Disturbs (seen_of self.now) (seen_of other.now) }
-    {
-        let is_one = are_one(&self.node, &other.node);
-        (is_written(self.at) || is_written(other.at))
-            && (is_one || meet(self.place.as_slice(), other.place.as_slice()))
-    }
-}
-
 /// The number of the next file that is named, from this one on.
 fn next_named(order: &Run, from: usize) -> Option<usize>
     ensures some { IfSome result (λ at. AreNone from at order.now) }
@@ -114,41 +69,6 @@ fn next_named(order: &Run, from: usize) -> Option<usize>
         }
     }
     None
-}
-
-/// The first of these files that the other one meets, by its place.
-fn met(called: &[Called], other: &Called) -> Option<usize>
-    ensures within { IfSome result (λ at. at < length called.now) }
-    ensures none { IsNone result → IsClear (map seen_of called.now) (seen_of other.now) }
-{
-    for at in 0..called.len() {
-        if called[at].disturbs(other) {
-            return Some(at);
-        }
-    }
-    None
-}
-
-/// The bytes of an answer.
-fn bytes_of<'a>(answer: Answer<'a>) -> Option<&'a [u8]>
-    ensures { option_map (λ bytes. bytes.now) result ≡ spec.bytes_of (the_reply answer.entry) }
-{
-    match answer {
-        Answer::Bytes(bytes) => Some(bytes),
-        Answer::Done | Answer::Missing | Answer::Found | Answer::Nothing | Answer::End => None,
-        Answer::At(_) | Answer::Took(_) | Answer::Failed(_) | Answer::Short => None,
-    }
-}
-
-/// They are kept. Fails only if out of memory.
-fn kept(alloc: Global, bytes: Option<&[u8]>) -> Result<Option<Vec<u8>>, AllocError>
-    ensures { IfOk result (λ kept. option_map (λ kept. kept.items) kept
-        ≡ option_map (λ bytes. bytes.now) bytes.entry) }
-{
-    match bytes {
-        Some(bytes) => Ok(Some(Vec::from_slice(alloc, bytes)?)),
-        None => Ok(None),
-    }
 }
 
 impl Opening {
@@ -207,9 +127,10 @@ impl Opening {
     fn add(&mut self, called: Called) -> Result<(), AllocError>
         ensures { OnOk result (spec.Joins (seen_of called) self.old self.new) }
     {
-        if let Some(earlier) = met(self.called.as_slice(), &called) {
+        let earlier = met(false, written().as_slice(), self.called.as_slice(), &called);
+        if let Some(earlier) = earlier {
             let earlier = &self.called[earlier];
-            let is_before = is_next(called.place.as_slice(), earlier.place.as_slice());
+            let is_before = is_beside(false, called.place.as_slice(), earlier.place.as_slice());
             let (first, second) = (earlier.at, called.at);
             return self.refuse_meeting(first, second, if is_before { first } else { second });
         }
@@ -230,9 +151,7 @@ impl Opening {
     {
         let (first, second) = (option_of(first), option_of(second));
         let name = name_of(&self.order, named).unwrap_or("");
-        let said = format!(in self.alloc;
-            "error: '{first}' and '{second}' name one file, '{name}'\n\nFor more information, try '--help'.\n"
-        )?;
+        let said = refusal(self.alloc, first, second, name)?;
         self.refuse(said, 2);
         Ok(())
     }

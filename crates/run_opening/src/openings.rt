@@ -6,13 +6,13 @@ ghost use Rattle.effects.specs.Effects.{the_ask, the_reply, the_place, Reply};
 ghost use Rattle.run_opening.specs.Openings as spec;
 ghost use Rattle.run_opening.specs.Asking as asking;
 
-use crate::naming::Called;
 use crate::stages::{Stage, Text};
 use client_core::Client;
 use contact_ledger::FeatureLedger;
 use dme_words::Run;
 use dmis_program::Program;
 use effects::{Answer, Effect, Growth, Place, Slot};
+use named_files::Called;
 use program_review::{OperatorText, TaskLine};
 use record_text::Beginning;
 use refusal_guide::InputFiles;
@@ -61,7 +61,7 @@ pub struct Opening {
 impl Model for Opening {
     ghost use Rattle.run_opening.specs.Openings.{State as OneState};
     ghost use Rattle.client_core.specs.Clients.{is_window};
-    ghost use Rattle.run_opening.specs.Naming.{seen_of};
+    ghost use Rattle.named_files.specs.Naming.{seen_of};
     ghost use Rattle.std.specs.Prelude.{◌≡◌, true, map};
 
     ghost Value = { OneState };

@@ -36,30 +36,15 @@ serving_ready Stage.Saying c o e k = absurd (true≢false (sym e))
 serving_ready Stage.Telling c o e k = absurd (true≢false (sym e))
 serving_ready Stage.Exiting c o e k = absurd (true≢false (sym e))
 
--- what was to be added is in the file
-pub kept_ready : (t : State) (c : Core) (o : Outside) → is_serving (due t) ≡ true → t.core ≡ record c { text = [] } → HasAllBut c.text c o
-    → Ready (due t) t.core (kept o c.text Done)
-kept_ready t c o e f a = serving_ready (due t) t.core (kept o c.text Done) e (subst (λ (d : Core). IsKept d (kept o c.text Done)) (sym f)
-    (record { all = λ g l. (append-nil (o.safe ++ c.text) ∙ (a g l).0, (a g l).1); text = λ g l. refl }))
-
--- the file has begun
-pub begun_ready : (t : State) (c : Core) (o : Outside) → is_serving (due t) ≡ true → t.core ≡ record c { text = [] } → c.grows ≡ true → IsBefore c o
-    → Ready (due t) t.core (begun o Done)
-begun_ready t c o e f g b = serving_ready (due t) t.core (begun o Done) e (subst (λ (d : Core). IsKept d (begun o Done)) (sym f)
-    (record {
-      all = λ g l. (append-nil o.next ∙ ((b.made g).1 ∙ (b.text ∙ sym (ap contacts_text b.ledger))), b.held ∙ sym (ap length b.ledger));
-      text = λ g l. refl;
-    }))
-
 -- the text of more acts
 pub more_text : (front more : List (ℕ × Act)) → contacts_text (front ++ more) ≡ contacts_text front ++ text_of (map act_line more)
 more_text front more = ap (λ (lines : List (List ℕ)). text_of (codes "DME-CONTACTS 1" ∷ lines)) (map-append act_line front more)
     ∙ text_more (contact_lines front) (map act_line more)
 
 -- the server has done more, and that is to be added
-pub worked_all : (c d e : Core) (o : Outside) → IsMore c.ledger d.ledger → d ≡ record c { ledger = d.ledger } → e ≡ followed d → IsKept c o
+pub worked_all : (c d e : Core) (o : Outside) → IsMore c.ledger d.ledger → d ≡ record c { ledger = d.ledger; broken = d.broken } → e ≡ followed d → IsKept c o
     → HasAllBut e.text e o
-worked_all c d e o m h f k = subst (λ (x : Core). HasAllBut x.text x o) (sym (f ∙ ap followed (h ∙ ap (λ (l : List (ℕ × Act)). record c { ledger = l }) m.1)))
+worked_all c d e o m h f k = subst (λ (x : Core). HasAllBut x.text x o) (sym (f ∙ ap followed (h ∙ ap (λ (l : List (ℕ × Act)). record c { ledger = l; broken = d.broken }) m.1)))
     (λ g l. (
       ap (λ (r : List (ℕ × Act)). o.safe ++ (c.text ++ text_of (map act_line r)))
           (ap (λ (n : ℕ). drop n (c.ledger ++ m.0)) ((k.all g l).1) ∙ drop-append_seam c.ledger m.0)
@@ -70,25 +55,15 @@ worked_all c d e o m h f k = subst (λ (x : Core). HasAllBut x.text x o) (sym (f
     ))
 
 -- likewise, if it has done nothing that is kept
-pub worked_nothing : (c d e : Core) (o : Outside) → IsMore c.ledger d.ledger → d ≡ record c { ledger = d.ledger } → e ≡ followed d → IsKept c o
+pub worked_nothing : (c d e : Core) (o : Outside) → IsMore c.ledger d.ledger → d ≡ record c { ledger = d.ledger; broken = d.broken } → e ≡ followed d → IsKept c o
     → e.text ≡ [] → IsKept e o
 worked_nothing c d e o m h f k n = record {
   all = λ g l. (subst (λ (t : List ℕ). o.safe ++ t ≡ contacts_text e.ledger) n (worked_all c d e o m h f k g l).0, (worked_all c d e o m h f k g l).1);
   text = λ g l. n;
+  listened = k.listened;
 }
 
--- nothing is promised of a file that does not grow, or was lost
-pub unkept : (d : Core) (o : Outside) → (d.grows && not d.lost) ≡ false → IsKept d o
-unkept d o e = record {
-  all = λ g l. absurd (true≢false (sym (ap (λ (b : Bool). b && not d.lost) g ∙ ap not l) ∙ e));
-  text = λ g l. absurd (true≢false (sym (ap (λ (b : Bool). b && not d.lost) g ∙ ap not l) ∙ e));
-}
-
-pub unkept_ready : (d : Core) (t : State) (o : Outside) → (d.grows && not d.lost) ≡ false → t.core ≡ d → is_serving (due t) ≡ true
-    → Ready (due t) t.core o
-unkept_ready d t o e f s = serving_ready (due t) t.core o s (subst (λ (x : Core). IsKept x o) (sym f) (unkept d o e))
-
-pub nothing_ready : (c d e : Core) (t : State) (o : Outside) → IsMore c.ledger d.ledger → d ≡ record c { ledger = d.ledger } → e ≡ followed d
+pub nothing_ready : (c d e : Core) (t : State) (o : Outside) → IsMore c.ledger d.ledger → d ≡ record c { ledger = d.ledger; broken = d.broken } → e ≡ followed d
     → IsKept c o → e.text ≡ [] → t.core ≡ e → is_serving (due t) ≡ true → Ready (due t) t.core o
 nothing_ready c d e t o m h f k n g s = serving_ready (due t) t.core o s (subst (λ (x : Core). IsKept x o) (sym g) (worked_nothing c d e o m h f k n))
 

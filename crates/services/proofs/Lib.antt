@@ -1,3 +1,4 @@
+pub mod Breaking
 pub mod Courses
 pub mod Keeping
 pub mod Leading

@@ -279,7 +279,7 @@ pub on_err : {A E : Type 0} (r : Result A E) (P : Type 0) → P → OnErr r P
 on_err (Ok a) P p = tt
 on_err (Err e) P p = p
 
-on_ok : {A E : Type 0} (r : Result A E) (P Q : Type 0) → (P → Q) → OnOk r P → OnOk r Q
+pub on_ok : {A E : Type 0} (r : Result A E) (P Q : Type 0) → (P → Q) → OnOk r P → OnOk r Q
 on_ok (Ok a) P Q f p = f p
 on_ok (Err e) P Q f p = tt
 
@@ -315,21 +315,13 @@ moved_lost t u last piece taken from left sent moved from_is sent_is m end answe
     worked_off setup t u f piece taken left moved last
     (now_moved (simulated t.shifts) (length piece) t.end last piece from left sent (Some taken) moved from_is sent_is m) end answers number on s
 
-stopped_hears : (t u : Talk) (piece : List ℕ) (from left sent taken : Option (List ℕ)) (why : PumpFault ServerFault) → from ≡ Some piece
+pub stopped_hears : (t u : Talk) (piece : List ℕ) (from left sent taken : Option (List ℕ)) (why : PumpFault ServerFault) → from ≡ Some piece
     → sent ≡ Some [] → IsOfTurn why → ServerStopped (simulated t.shifts) (length piece) (2 ^ 64 - 1) t.end u.end from left sent taken why
     → simulated u.shifts ≡ simulated t.shifts → u.number ≡ t.number → Hears false t piece u
 stopped_hears t u piece from left sent taken why from_is sent_is of h answers number = λ on setup f s.
     let g = now_stopped (simulated t.shifts) (length piece) t.end u.end piece from left sent taken why from_is sent_is h in
     stopped setup t u f piece left taken why g
     (told (length piece) (length g.read) (length g.written) (length t.end.input.rest) left g.last why of) answers number on s
-
--- a fault is one of the turn, or memory has run out
-pub broken_hears : {A E : Type 0} (r : Result A E) (t u : Talk) (piece : List ℕ) (from left sent taken : Option (List ℕ)) (why : PumpFault ServerFault)
-    → from ≡ Some piece → sent ≡ Some [] → OnOk r (IsOfTurn why)
-    → ServerStopped (simulated t.shifts) (length piece) (2 ^ 64 - 1) t.end u.end from left sent taken why
-    → simulated u.shifts ≡ simulated t.shifts → u.number ≡ t.number → OnOk r (Hears false t piece u)
-broken_hears r t u piece from left sent taken why from_is sent_is of h answers number = on_ok r (IsOfTurn why) (Hears false t piece u)
-    (λ is. stopped_hears t u piece from left sent taken why from_is sent_is is h answers number) of
 
 pub stopped_lost : (t u : Talk) (last : ServerEnd) (piece : List ℕ) (from left sent taken : Option (List ℕ)) (why : PumpFault ServerFault)
     → from ≡ Some piece → sent ≡ Some []
@@ -344,15 +336,15 @@ pub unheard_lost : (t u : Talk) (piece : List ℕ) → u.end ≡ serving_left t.
 unheard_lost t u piece end answers number = λ on setup f s. unheard setup t u f piece end answers number on s
 
 -- the connection continues after a whole turn, or has broken off
-pub moved_goes : (t u : Talk) (piece : List ℕ) (from left sent taken : Option (List ℕ)) (moved : Moved)
-    → ServerMoved (simulated t.shifts) (length piece) t.end u.end from left sent taken moved → GoesOnWith t piece u
-moved_goes t u piece from left sent taken moved m = λ on.
-    inl ((turn_same (simulated t.shifts) (length piece) t.end Writing m.read m.written u.end m.turn).0 ∙ on)
+pub moved_on : (t u : Talk) (piece : List ℕ) (from left sent taken : Option (List ℕ)) (moved : Moved)
+    → ServerMoved (simulated t.shifts) (length piece) t.end u.end from left sent taken moved → t.end.server.on ≡ true → u.end.server.on ≡ true
+moved_on t u piece from left sent taken moved m on =
+    (turn_same (simulated t.shifts) (length piece) t.end Writing m.read m.written u.end m.turn).0 ∙ on
 
-pub broken_goes : {A E : Type 0} (r : Result A E) (t u : Talk) (piece : List ℕ) (from left sent taken : Option (List ℕ)) (why : PumpFault ServerFault)
-    → from ≡ Some piece → OnOk r (IsOfTurn why)
-    → ServerStopped (simulated t.shifts) (length piece) (2 ^ 64 - 1) t.end u.end from left sent taken why → OnOk r (GoesOnWith t piece u)
-broken_goes r t u piece from left sent taken why from_is of h = on_ok r (IsOfTurn why) (GoesOnWith t piece u) (λ is on.
+pub broken_goes : (t u : Talk) (piece : List ℕ) (from left sent taken : Option (List ℕ)) (why : PumpFault ServerFault)
+    → from ≡ Some piece → IsOfTurn why
+    → ServerStopped (simulated t.shifts) (length piece) (2 ^ 64 - 1) t.end u.end from left sent taken why → GoesOnWith t piece u
+broken_goes t u piece from left sent taken why from_is is h = λ on.
     let two : Halves piece h.read = halves piece left h.read h.lost
     (subst (λ (x : Option (List ℕ)). Consumes x left (h.read ++ h.lost)) from_is h.consumed) in
     inr (record {
@@ -366,7 +358,7 @@ broken_goes r t u piece from left sent taken why from_is of h = on_ok r (IsOfTur
       turn = h.turn;
       is = told (length piece) (length h.read) (length h.written) (length t.end.input.rest) left h.last why is h.why;
       leaves = h.leaves;
-    })) of
+    })
 
 -- ---- a connection is taken
 

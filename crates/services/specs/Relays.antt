@@ -11,11 +11,12 @@ use Rattle.services.specs.declared.relay_stages.RelayStage.TheVariants as stage
 use Rattle.witness.specs.Relaying.{Relaying, Course, Relays as IsCourse}
 use Rattle.watched_ends.specs.Limits.{Limited, fresh, client_came, server_came, up_of, up_sent, down_of, down_sent, due_of, without_due, IsTold, IsRead}
 
--- the relay of the present connection, the number of that, and whether the told file is kept
+-- the relay of the present connection, the number of that, whether the told file is kept, and whether the client has ended what it sends
 pub record RelayTalk : Type 0 where
   pub relay : Limited
   pub number : ℕ
   pub is_told : Bool
+  pub has_ended : Bool
 
 -- the status, which is 0 as long as all that was asked for was done, and how many connections are still to come
 pub record RelayEnd : Type 0 where
@@ -40,12 +41,14 @@ due_at s next = if is_aside s then next else s
 abbrev pub due : RelayState → RelayStage
 due s = due_at s.stage s.next
 
--- where a stage is: before the port is listened on; before the told file grows, or a recording is made; between two connections; on one; at the end
+-- where a stage is: before the port is listened on; before the told file grows, or a recording is made; between two connections; on one; at its
+-- end; at the end of all
 pub data Phase : Type 0 where
   Before : Phase
   Opening : Phase
   Between : Phase
   Joined : Phase
+  Ending : Phase
   Closing : Phase
 
 abbrev pub phase_of : RelayStage → Phase
@@ -59,9 +62,9 @@ phase_of stage.Beginning = Opening
 phase_of stage.Logged = Between
 phase_of stage.Accepting = Between
 phase_of stage.Pausing = Between
-phase_of stage.Forcing = Between
-phase_of stage.Settling = Between
-phase_of stage.Leaving = Between
+phase_of stage.Forcing = Ending
+phase_of stage.Settling = Ending
+phase_of stage.Leaving = Ending
 phase_of stage.Discarding = Closing
 phase_of stage.Saying = Closing
 phase_of stage.Removing = Closing
@@ -324,6 +327,7 @@ ReadyAt Before n o = 0 < n → IsBegun o
 ReadyAt Opening n o = (o.is_made ≡ true) × (0 < n → o.is_begun ≡ true)
 ReadyAt Between n o = IsBegun o
 ReadyAt Joined n o = IsBegun o
+ReadyAt Ending n o = IsBegun o
 ReadyAt Closing n o = ⊤
 
 abbrev pub Ready : RelayState → RelayOutside → Type 0
@@ -427,28 +431,53 @@ pub record HasCourse (number : ℕ) (f : RelayTraffic) (r : Relaying) : Type 0 w
   pub to_client : course.sent_down ≡ f.to_client
   pub told : course.written ≡ f.told
 
--- no bytes are received or sent on between two connections and at the end
-abbrev pub is_off : Phase → Bool
-is_off Between = true
-is_off Closing = true
-is_off p = false
+-- nothing is known of the relay between two connections, at the end of one that has failed, and at the end of all
+abbrev pub is_off : Phase → RelayEnd → Bool
+is_off Between e = true
+is_off Closing e = true
+is_off Ending e = has_failed e
+is_off p e = false
 
--- what was reported is written before anything is sent on; bytes go to the client only if, with that, all whole lines were read; and a relay that ends has
--- its status
-abbrev pub IsAt : RelayStage → Limited → RelayEnd → Type 0
-IsAt stage.PassingUp r e = due_of r ≡ []
-IsAt stage.PassingDown r e = IsTold r
-IsAt stage.Discarding r e = IsVerdict e
-IsAt stage.Parting r e = IsVerdict e
-IsAt stage.Exiting r e = IsVerdict e
-IsAt s r e = ⊤
+abbrev pub is_over : RelayState → Bool
+is_over s = is_off (phase s) s.end
+
+-- nothing is left: all that came from the client was sent on, and what was reported was written; and so was sent on what came from the server,
+-- unless the client has ended what it sends
+pub record IsPassed (t : RelayTalk) : Type 0 where
+  pub up : up_of t.relay ≡ []
+  pub written : due_of t.relay ≡ []
+  pub down : (IsTold t.relay × (down_of t.relay ≡ [])) ⊎ (t.has_ended ≡ true)
+
+-- what was reported is written before anything is sent on; bytes go to the client only if, with that, all whole lines were read; nothing is left
+-- at the end of a connection, unless something has failed; and a relay that ends has its status
+abbrev pub IsAt : RelayStage → RelayTalk → RelayEnd → Type 0
+IsAt stage.PassingUp t e = due_of t.relay ≡ []
+IsAt stage.PassingDown t e = IsTold t.relay
+IsAt stage.Forcing t e = e.status ≡ 0 → IsPassed t
+IsAt stage.Settling t e = e.status ≡ 0 → IsPassed t
+IsAt stage.Leaving t e = e.status ≡ 0 → IsPassed t
+IsAt stage.Discarding t e = IsVerdict e
+IsAt stage.Parting t e = IsVerdict e
+IsAt stage.Exiting t e = IsVerdict e
+IsAt s t e = ⊤
 
 abbrev pub Stands : RelayState → Type 0
-Stands s = IsAt (due s) s.talk.relay s.end
+Stands s = IsAt (due s) s.talk s.end
 
 -- its relay is one with this traffic
 abbrev pub IsRelaying : RelayState → RelayTraffic → Type 0
-IsRelaying s f = is_off (phase s) ≡ false → Relayed s.talk.number s.talk.is_told f s.talk.relay
+IsRelaying s f = is_over s ≡ false → Relayed s.talk.number s.talk.is_told f s.talk.relay
+
+-- what each end was sent is all that came from the other; that of the client, unless it has ended what it sends; and what was reported was written
+pub record HasPassed (s : RelayState) (f : RelayTraffic) : Type 0 where
+  pub up : f.to_server ≡ f.from_client
+  pub written : due_of s.talk.relay ≡ []
+  pub down : (IsTold s.talk.relay × (f.to_client ≡ f.from_server)) ⊎ (s.talk.has_ended ≡ true)
+
+-- the client has ended what it sends only if that was answered on the present connection
+abbrev pub EndsAt : RelayStage → Reply → RelayTalk → RelayTalk → Type 0
+EndsAt st reply t u = u.has_ended ≡ true
+    → ((t.has_ended ≡ true) × (event_of st reply ≡ Taken → ⊥)) ⊎ ((st ≡ stage.HearingClient) × (reply ≡ End))
 
 abbrev pub Relays : RelayState → Reply → RelayState → Type 0
 Relays s reply t = Stands s → (f : RelayTraffic) → IsRelaying s f → IsRelaying t (passed (event_of s.stage reply) s.talk.relay f)
@@ -494,6 +523,7 @@ pub record Steps (s : RelayState) (reply : Reply) (t : RelayState) : Type 0 wher
   pub stands : Stands s → Stands t
   pub relays : Relays s reply t
   pub numbers : Numbers s.stage reply s.talk t.talk
+  pub ended : EndsAt s.stage reply s.talk t.talk
   pub keeps : Keeps s reply t
   pub fails : Fails s reply t
   pub counts : Counts s.stage s.end t.end
@@ -502,6 +532,7 @@ pub record Steps (s : RelayState) (reply : Reply) (t : RelayState) : Type 0 wher
 pub record Stops (s : RelayState) (reply : Reply) (t : RelayState) : Type 0 where
   pub stage : t.stage ≡ s.stage
   pub numbers : Numbers s.stage reply s.talk t.talk
+  pub ended : EndsAt s.stage reply s.talk t.talk
   pub keeps : s.talk.is_told ≡ true → (t.talk.is_told ≡ true) ⊎ (may_lose s.stage reply ≡ true)
   pub left : t.end.left ≡ s.end.left
 
@@ -517,7 +548,7 @@ pub record IsShort (s t : RelayState) : Type 0 where
   pub talk : t.talk ≡ s.talk
   pub failed : has_failed t.end ≡ true
   pub left : t.end.left ≡ s.end.left
-  pub off : is_off (phase t) ≡ true
+  pub off : is_over t ≡ true
   pub stands : Stands t
   pub at : IsOnly s.stage ⊎ (phase t ≡ Closing)
 
@@ -526,12 +557,17 @@ pub record Turns (s t : RelayState) : Type 0 where
   pub talk : t.talk ≡ s.talk
   pub end : t.end ≡ s.end
   pub plain : is_aside t.stage ≡ false
-  pub stands : IsAt t.stage t.talk.relay t.end
+  pub stands : IsAt t.stage t.talk t.end
 
 -- likewise; before the told file grows, a server is called only if connections were taken before
 pub record Opens (s t : RelayState) : Type 0 where
   pub turns : Turns s t
   pub next : (0 < s.talk.number) ⊎ (phase t ≡ Opening)
+
+-- an end sends nothing more
+abbrev pub with_end : Peer → RelayState → RelayState
+with_end Client s = record s { talk = record (s.talk) { has_ended = true } }
+with_end Server s = s
 
 -- a message is to be said, and then this is next
 abbrev pub saying : RelayStage → RelayState → RelayState

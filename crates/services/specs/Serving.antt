@@ -1,7 +1,7 @@
 -- What the server of `serve` was given and has answered, connection after connection (this profile).
 use Rattle.std.specs.Prelude.{◌≡◌, ◌⊎◌, ◌+◌, ◌*◌, ◌-◌, ◌^◌, ◌<◌, ◌≤◌, ⊤, ℕ, suc, Bool, true, false, List, [], ◌∷◌, ◌++◌, length}
 use Rattle.contact_ledger.specs.Ledgers.{connection_most}
-use Rattle.effects.specs.Effects.{Reply, Done, Bytes, Found, Nothing, At}
+use Rattle.effects.specs.Effects.{Reply, Done, Bytes, End, Found, Nothing, At}
 use Rattle.fixed_um.specs.declared.lengths.Point.{Point}
 use Rattle.link_world.specs.Machines.{simulated}
 use Rattle.link_world.specs.Pumps.{Stage as Step, Writing}
@@ -65,6 +65,12 @@ pub record IsBroken (t : Talk) (piece : List ℕ) (u : Talk) : Type 0 where
 -- the connection continues with this piece, unless that has broken it off
 abbrev pub GoesOnWith : Talk → List ℕ → Talk → Type 0
 GoesOnWith t piece u = t.end.server.on ≡ true → (u.end.server.on ≡ true) ⊎ IsBroken t piece u
+
+-- a connection ends as it should: its client has ended it, or the stop file is there
+abbrev pub may_end : Stage → Reply → Bool
+may_end stage.Checking Found = true
+may_end stage.Receiving End = true
+may_end s reply = false
 
 -- the answers at which a connection may be left: its client has ended it, a port has failed, a limit of time may be over, or the stop file
 -- is there

@@ -10,7 +10,7 @@ use Rattle.effects.specs.declared.vocabulary.Peer.TheVariants.{Client}
 use Rattle.effects.specs.Effects.{Ask, Exists, Look, Make, Discard, SetAside, Begin, Keep, Replace, Extend, Add, Stamp, Now, Sleep, Listen, Accept, Receive, Send, Leave, Print, Say, Exit, Reply, Done, Found, Did}
 use Rattle.services.specs.declared.stages.Stage.{Stage}
 use Rattle.services.specs.declared.stages.Stage.TheVariants as stage
-use Rattle.services.specs.Serving.{Talk, Traffic, passed, heard_more, is_over, may_leave, HasBroken, IsServing, IsAt, IsFree}
+use Rattle.services.specs.Serving.{Talk, Traffic, passed, heard_more, is_over, may_end, may_leave, HasBroken, IsServing, IsAt, IsFree}
 use Rattle.tool_rack.specs.Setups.{SetupValue}
 
 -- the contacts file, and what the server has done
@@ -22,6 +22,7 @@ pub record Core : Type 0 where
   pub held : ℕ  -- how many acts it has with that
   pub ledger : List (ℕ × Act)
   pub rows : List ℕ  -- what is printed at the end
+  pub broken : Bool  -- whether a connection was broken off, or memory has run out
   pub status : ℕ  -- with which it exits
 
 pub record State : Type 0 where
@@ -71,8 +72,22 @@ StaysOn s reply t = s.talk.end.server.on ≡ true → (t.talk.end.server.on ≡ 
 abbrev pub left : State → State
 left s = record s { stage = stage.Leaving; talk = record (s.talk) { end = serving_left s.talk.end } }
 
+-- and was broken off
+abbrev pub broken_off : State → State
+broken_off s = record (left s) { core = record (s.core) { broken = true } }
+
+-- a connection that was taken, before or just now, is broken off: it is left, and neither has its client ended it nor is the stop file there
+abbrev pub IsBrokenOff : State → Reply → State → Type 0
+IsBrokenOff s reply t = (t.talk.end.server.on ≡ false) × ((may_end s.stage reply ≡ false)
+    × ((s.talk.end.server.on ≡ true) ⊎ ((s.stage ≡ stage.Accepting) × (reply ≡ Done))))
+
+-- that is kept to the end
+abbrev pub Breaks : State → Reply → State → Type 0
+Breaks s reply t = (s.core.broken ≡ true) ⊎ IsBrokenOff s reply t → t.core.broken ≡ true
+
 -- what the outside has answered so far
 pub record Outside : Type 0 where
+  pub is_listened : Bool  -- the port was listened on
   pub is_other : Bool  -- the contacts file is a link, a device or the like, which is written at the end alone
   pub is_made : Bool  -- it is locked, and its next text was made
   pub next : List ℕ  -- that text
@@ -81,7 +96,7 @@ pub record Outside : Type 0 where
   pub is_printed : Bool  -- the contacts were printed
 
 abbrev pub untouched : Outside
-untouched = record { is_other = false; is_made = false; next = []; safe = []; is_whole = false; is_printed = false }
+untouched = record { is_listened = false; is_other = false; is_made = false; next = []; safe = []; is_whole = false; is_printed = false }
 
 -- the outside after the effect of a stage was answered
 abbrev pub looked : Outside → Reply → Outside
@@ -92,6 +107,10 @@ abbrev pub made : Outside → List ℕ → Reply → Outside
 made o text Done = record o { is_made = true; next = text }
 made o text Found = record o { is_made = true; next = text }
 made o text reply = o
+
+abbrev pub listened : Outside → Reply → Outside
+listened o Done = record o { is_listened = true }
+listened o reply = o
 
 abbrev pub begun : Outside → Reply → Outside
 begun o Done = record o { safe = o.next }
@@ -112,6 +131,7 @@ printed o reply = o
 abbrev pub outcome : Stage → Core → Reply → Outside → Outside
 outcome stage.Looking c reply o = looked o reply
 outcome stage.Making c reply o = made o c.text reply
+outcome stage.Listening c reply o = listened o reply
 outcome stage.Beginning c reply o = begun o reply
 outcome stage.Keeping c reply o = kept o c.text reply
 outcome stage.Replacing c reply o = replaced o reply
@@ -138,13 +158,21 @@ HasAllBut text c o = c.grows ≡ true → c.lost ≡ false → (o.safe ++ text �
 pub record IsKept (c : Core) (o : Outside) : Type 0 where
   pub all : HasAllBut [] c o
   pub text : c.grows ≡ true → c.lost ≡ false → c.text ≡ []
+  pub listened : o.is_listened ≡ true
+
+-- the port is had, unless something was broken off
+abbrev pub IsHad : Core → Outside → Type 0
+IsHad c o = c.broken ≡ false → o.is_listened ≡ true
 
 -- the whole contacts file was written at the end, if one is named, unless it could not be kept
 abbrev pub IsWhole : Core → Outside → Type 0
 IsWhole c o = c.lost ≡ false → c.named ≡ true → o.is_whole ≡ true
 
--- all that was asked for was done: the contacts file was kept and written, and the contacts were printed
+-- all that was asked for was done: the port was listened on, nothing was broken off, the contacts file was kept and written, and the contacts
+-- were printed
 pub record HasServed (c : Core) (o : Outside) : Type 0 where
+  pub listened : o.is_listened ≡ true
+  pub unbroken : c.broken ≡ false
   pub kept : c.lost ≡ false
   pub whole : c.named ≡ true → o.is_whole ≡ true
   pub printed : o.is_printed ≡ true
@@ -165,12 +193,12 @@ Ready stage.Logged c o = IsBefore c o
 Ready stage.Looking c o = IsBefore c o
 Ready stage.Making c o = IsBefore c o
 Ready stage.Listening c o = IsBefore c o × IsPrepared c o
-Ready stage.SettingAside c o = IsBefore c o × (c.grows ≡ true)
-Ready stage.Beginning c o = IsBefore c o × (c.grows ≡ true)
-Ready stage.Keeping c o = HasAllBut c.text c o
+Ready stage.SettingAside c o = IsBefore c o × ((c.grows ≡ true) × (o.is_listened ≡ true))
+Ready stage.Beginning c o = IsBefore c o × ((c.grows ≡ true) × (o.is_listened ≡ true))
+Ready stage.Keeping c o = HasAllBut c.text c o × (o.is_listened ≡ true)
 Ready stage.Discarding c o = IsEnding c o
-Ready stage.Replacing c o = c.text ≡ contacts_text c.ledger
-Ready stage.Printing c o = (c.rows ≡ contact_rows (reported c.ledger)) × IsWhole c o
+Ready stage.Replacing c o = (c.text ≡ contacts_text c.ledger) × IsHad c o
+Ready stage.Printing c o = (c.rows ≡ contact_rows (reported c.ledger)) × (IsWhole c o × IsHad c o)
 Ready stage.Telling c o = IsEnding c o
 Ready stage.Exiting c o = IsEnding c o
 Ready s c o = IsKept c o
@@ -181,7 +209,11 @@ GoesOn s reply t = (o : Outside) → Ready (due s) s.core o → Ready (due t) t.
 
 -- the service ends, whatever else holds
 abbrev pub Ends : State → Type 0
-Ends t = (o : Outside) → Ready (due t) t.core o
+Ends t = (o : Outside) → IsHad t.core o → Ready (due t) t.core o
+
+-- what is kept stays so
+abbrev pub Keeps : State → State → Type 0
+Keeps s t = (o : Outside) → IsKept s.core o → IsKept t.core o
 
 -- the contacts are to be printed
 abbrev pub Prints : Core → State → Type 0
@@ -230,7 +262,7 @@ is_taking s = false
 
 -- the next effect is one that keeps nothing, or the service ends
 pub data Continues (s t : State) : Type 0 where
-  serves : is_serving (due t) ≡ true → t.core ≡ s.core → Continues s t
+  serves : is_serving (due t) ≡ true → Keeps s t → Continues s t
   ends : Ends t → Continues s t
 
 -- the server has done more
@@ -348,6 +380,7 @@ pub record Steps (s : State) (reply : Reply) (t : State) : Type 0 where
   pub goes : GoesOn s reply t
   pub served : Serves s reply t
   pub stays : StaysOn s reply t
+  pub breaks : Breaks s reply t
   pub stands : Stands s → Stands t
 
 -- what was asked and answered, the last first, has led a session to another state, and the outside with it: it asked for no exit
@@ -355,6 +388,11 @@ pub data Led (first : State) : List Did → State → Outside → Type 0 where
   starts : Led first [] first untouched
   follows : (past : List Did) (s t : State) (o : Outside) (ask : Ask) (reply : Reply) → Led first past s o → (s.stage ≡ stage.Exiting → ⊥)
       → Asks s ask → Steps s reply t → Led first ((ask, reply) ∷ past) t (outcome s.stage s.core reply o)
+
+-- no connection was broken off on the way
+abbrev pub NoneBroken : (first : State) (past : List Did) (s : State) (o : Outside) → Led first past s o → Type 0
+NoneBroken first _ _ _ starts = ⊤
+NoneBroken first _ _ _ (follows past s t o ask reply led on asks steps) = NoneBroken first past s o led × (IsBrokenOff s reply t → ⊥)
 
 -- to its exit, with this status
 abbrev pub IsRun : State → List Did → ℕ → Type 0

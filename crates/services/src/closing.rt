@@ -34,6 +34,7 @@ impl Session {
         ensures plain { OnOk result (spec.due self.new ≡ self.new.stage) }
         ensures ends { OnOk result (spec.Ends self.new) }
         ensures talk { self.new.talk ≡ self.old.talk }
+        ensures broken { self.new.core.broken ≡ self.old.core.broken }
         ensures over { OnOk result (serving.is_over (spec.due self.new) ≡ true) }
         ensures stands { OnOk result (spec.Stands self.new) }
     {
@@ -49,6 +50,7 @@ impl Session {
         ensures plain { OnOk result (spec.due self.new ≡ self.new.stage) }
         ensures prints { OnOk result (spec.Prints self.old.core self.new) }
         ensures talk { self.new.talk ≡ self.old.talk }
+        ensures broken { self.new.core.broken ≡ self.old.core.broken }
         ensures over { OnOk result (serving.is_over (spec.due self.new) ≡ true) }
         ensures stands { OnOk result (spec.Stands self.new) }
     {
@@ -62,6 +64,7 @@ impl Session {
         requires { spec.is_closing self.old.stage ≡ true }
         ensures goes { OnOk result (spec.GoesOn self.old (the_reply answer.entry) self.new) }
         ensures talk { self.new.talk ≡ self.old.talk }
+        ensures broken { OnOk result (self.new.core.broken ≡ self.old.core.broken) }
         ensures over { OnOk result (serving.is_over (spec.due self.new) ≡ true) }
         ensures stands { OnOk result (spec.Stands self.new) }
     {
@@ -103,7 +106,8 @@ impl Session {
         ensures core { OnOk result (self.new.core
             ≡ record (self.old.core) { status = self.new.core.status }) }
         ensures status { OnOk result
-            (spec.IsStatus self.new.core.status (self.old.core.lost ≡ false)) }
+            (spec.IsStatus self.new.core.status
+            ((self.old.core.lost ≡ false) × (self.old.core.broken ≡ false))) }
         ensures talk { self.new.talk ≡ self.old.talk }
     {
         self.status = match self.broken {

@@ -1,14 +1,15 @@
 // What follows from the definitions. Each function has laws for its contract and does nothing.
 
 ghost use Rattle.std.specs.Prelude.{◌≡◌, ⊤, ℕ, Bool, List, [], ◌∷◌, true, false, None, Ok};
-ghost use Rattle.effects.specs.Effects.{At, Bytes, Did, Discard, Done, End, Exit, Found, Nothing, Remove};
+ghost use Rattle.effects.specs.declared.vocabulary.Cause.TheVariants.{InUse, Reset};
+ghost use Rattle.effects.specs.Effects.{At, Bytes, Did, Discard, Done, End, Exit, Failed, Found, Nothing, Remove};
 ghost use Rattle.effects.specs.declared.vocabulary.Growth.TheVariants.{Told};
 ghost use Rattle.line_framing.specs.Next.{next_of};
 ghost use Rattle.protocol_model.specs.Ends.{ServerEnd};
 ghost use Rattle.protocol_model.specs.Server.{running_job};
 ghost use Rattle.server_core.specs.Serving.{may_turn};
 ghost use Rattle.tool_rack.specs.Setups.{SetupValue};
-ghost use Rattle.services.specs.Sessions.{AsksAt, Core, HasServed, IsStatus, Led, Outside, Ready, State, due, untouched};
+ghost use Rattle.services.specs.Sessions.{AsksAt, Breaks, Core, HasServed, IsBrokenOff, IsStatus, Led, NoneBroken, Outside, Ready, State, due, listened, untouched};
 ghost use Rattle.services.specs.Serving.{Talk, Traffic, Served, IsBreak, IsServing, IsAt, is_over, may_leave, passed};
 ghost use Rattle.link_world.specs.declared.connections.pumps.PumpFault.TheVariants as fault;
 ghost use Rattle.services.specs.declared.stages.Stage.TheVariants as stage;
@@ -25,26 +26,53 @@ pub fn servers_of_sessions_have_worked()
         → (may_turn e.server ≡ false) × (running_job e.server ≡ None) }
 {}
 
-/// A session that was led to its exit from one that is `Ready`, as a new one is, exits with status 0 only if its contacts file was kept and
-/// written, and its contacts were printed; and else with 1, or with 4 if memory has run out.
+/// A session that was led to its exit from one that is `Ready`, as a new one is, exits with status 0 only if its port was listened on, no
+/// connection was broken off, its contacts file was kept and written, and its contacts were printed; and else with 1, or with 4 if memory has
+/// run out.
 pub fn services_exit_with_their_status()
     ensures { (first s : State) (past : List Did) (o : Outside)
-        → Ready (due first) first.core untouched → Led first past s o → s.stage ≡ stage.Exiting
-        → IsStatus s.core.status (HasServed s.core o) }
+        → Ready (due first) first.core untouched → (led : Led first past s o)
+        → s.stage ≡ stage.Exiting
+        → IsStatus s.core.status (HasServed s.core o × NoneBroken first past s o led) }
 {}
 
-/// What a service asks for nowhere but at its own stage; the contacts that were not kept, or not printed, are no success; no other status is
-/// known.
+/// What a service asks for nowhere but at its own stage; a port that was not had, a connection that was broken off, and contacts that were not
+/// kept, or not printed, are no success; no other status is known.
 pub fn asking_rows()
     ensures exit { (s : State) → AsksAt stage.Saying s (Exit 0) → ⊥ }
     ensures other_exit { (s : State) → s.core.status ≡ 1 → AsksAt stage.Exiting s (Exit 0) → ⊥ }
     ensures removed { (s : State) → AsksAt stage.Checking s (Remove []) → ⊥ }
     ensures other_file { (s : State) → AsksAt stage.Discarding s (Discard Told) → ⊥ }
+    ensures unlistened { (c : Core) (o : Outside) → o.is_listened ≡ false → HasServed c o → ⊥ }
+    ensures broken { (c : Core) (o : Outside) → c.broken ≡ true → HasServed c o → ⊥ }
     ensures lost { (c : Core) (o : Outside) → c.lost ≡ true → HasServed c o → ⊥ }
     ensures unwritten { (c : Core) (o : Outside) → c.named ≡ true → o.is_whole ≡ false
         → HasServed c o → ⊥ }
     ensures unprinted { (c : Core) (o : Outside) → o.is_printed ≡ false → HasServed c o → ⊥ }
     ensures other_status { IsStatus 3 ⊤ → ⊥ }
+{}
+
+/// The port is had only if it was listened on. A connection is broken off if its client has reset it, takes no answers or is refused, or if a
+/// turn or the time ends it, and that is never forgotten; but not if its client has ended it, or at the stop file.
+pub fn breaking_rows()
+    ensures had { (listened untouched Done).is_listened ≡ true }
+    ensures unhad { (listened untouched (Failed InUse)).is_listened ≡ false }
+    ensures reset { (s t : State) → s.stage ≡ stage.Receiving → s.talk.end.server.on ≡ true
+        → t.talk.end.server.on ≡ false → t.core.broken ≡ false → Breaks s (Failed Reset) t → ⊥ }
+    ensures turned { (s t : State) → s.stage ≡ stage.Receiving → s.talk.end.server.on ≡ true
+        → t.talk.end.server.on ≡ false → t.core.broken ≡ false → Breaks s (Bytes (7 ∷ [])) t → ⊥ }
+    ensures untaken { (s t : State) → s.stage ≡ stage.Sending → s.talk.end.server.on ≡ true
+        → t.talk.end.server.on ≡ false → t.core.broken ≡ false → Breaks s Nothing t → ⊥ }
+    ensures refused { (s t : State) → s.stage ≡ stage.Accepting
+        → t.talk.end.server.on ≡ false → t.core.broken ≡ false → Breaks s Done t → ⊥ }
+    ensures late { (ms : ℕ) (s t : State) → s.stage ≡ stage.Timing → s.talk.end.server.on ≡ true
+        → t.talk.end.server.on ≡ false → t.core.broken ≡ false → Breaks s (At ms) t → ⊥ }
+    ensures kept { (s t : State) → s.core.broken ≡ true → t.core.broken ≡ false
+        → Breaks s Done t → ⊥ }
+    ensures ended { (s t : State) → s.stage ≡ stage.Receiving → IsBrokenOff s End t → ⊥ }
+    ensures stopped { (s t : State) → s.stage ≡ stage.Checking → IsBrokenOff s Found t → ⊥ }
+    ensures still { (s t : State) → t.talk.end.server.on ≡ true → IsBrokenOff s Nothing t → ⊥ }
+    ensures off { (s t : State) → s.talk.end.server.on ≡ false → IsBrokenOff s Nothing t → ⊥ }
 {}
 
 /// What is received joins what was before on the connection, of which nothing is on the next one; nothing is received while something is

@@ -6,12 +6,14 @@
 //! - `contacts`: its contacts file
 //! - `relaying`: the session of `watch`; `relay_stages`: where it is; `relays`: what it is to do; `relay_files`: its files; `relay_turns`: its
 //!   turns; `relay_ends`: the end of a connection; `recordings`: the files of its bytes
+//! - `naming`: the files that both name
 //! - `running`: the session with hands that carry its effects out; `laws`: what its server was given; `relay_laws`: what relays keep
 #![tactic(auto)]
 
 mod closing;
 mod contacts;
 pub mod laws;
+mod naming;
 mod preparing;
 mod recordings;
 mod relay_ends;

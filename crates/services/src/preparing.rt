@@ -75,6 +75,7 @@ impl Session {
         requires { spec.is_preparing self.old.stage ≡ true }
         ensures goes { OnOk result (spec.GoesOn self.old (the_reply answer.entry) self.new) }
         ensures talk { self.new.talk ≡ self.old.talk }
+        ensures broken { OnOk result (self.new.core.broken ≡ self.old.core.broken) }
         ensures rests { OnOk result (spec.Rests self.old.talk self.new) }
     {
         match (self.stage, answer) {
@@ -110,6 +111,7 @@ impl Session {
         requires { self.old.stage ≡ Stage.Listening }
         ensures goes { OnOk result (spec.GoesOn self.old (the_reply answer.entry) self.new) }
         ensures talk { self.new.talk ≡ self.old.talk }
+        ensures broken { OnOk result (self.new.core.broken ≡ self.old.core.broken) }
         ensures rests { OnOk result (spec.Rests self.old.talk self.new) }
     {
         if let Answer::Done = answer {
@@ -137,6 +139,7 @@ impl Session {
         requires { self.old.stage ≡ Stage.Discarding }
         ensures goes { (reply : Reply) → spec.GoesOn self.old reply self.new }
         ensures talk { self.new.talk ≡ self.old.talk }
+        ensures broken { self.new.core.broken ≡ self.old.core.broken }
         ensures over { serving.is_over (spec.due self.new) ≡ true }
         ensures stands { spec.Stands self.new }
     {
@@ -164,6 +167,7 @@ impl Session {
         requires { spec.is_beginning self.old.stage ≡ true }
         ensures goes { OnOk result (spec.GoesOn self.old (the_reply answer.entry) self.new) }
         ensures talk { self.new.talk ≡ self.old.talk }
+        ensures broken { OnOk result (self.new.core.broken ≡ self.old.core.broken) }
         ensures over { serving.is_over self.old.stage ≡ true
             → OnOk result (serving.is_over (spec.due self.new) ≡ true) }
         ensures stands { OnOk result (spec.Stands self.old → spec.Stands self.new) }
@@ -189,6 +193,7 @@ impl Session {
     /// The contacts file could not be kept: that is said, once, and it is not written any more until the end.
     pub(crate) fn lose_contacts(&mut self, answer: Answer<'_>) -> Result<(), AllocError>
         ensures lost { OnOk result (self.new.core.lost ≡ true) }
+        ensures broken { OnOk result (self.new.core.broken ≡ self.old.core.broken) }
         ensures due { OnOk result (spec.is_serving (spec.due self.new) ≡ true) }
         ensures talk { self.new.talk ≡ self.old.talk }
         ensures stands { OnOk result (spec.Stands self.new) }

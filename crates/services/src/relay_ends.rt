@@ -14,8 +14,9 @@ use std::alloc::AllocError;
 impl RelaySession {
     /// The connection is no longer relayed: what is kept of it is forced to the device, and it is left.
     pub(crate) fn finish(&mut self)
+        requires { self.old.end.status ≡ 0 → spec.IsPassed self.old.talk }
         ensures turns { spec.Turns self.old self.new }
-        ensures off { spec.is_off (spec.phase self.new) ≡ true }
+        ensures ending { spec.phase self.new ≡ spec.Ending }
     {
         self.stage = if self.is_told {
             Stage::Forcing
@@ -27,7 +28,7 @@ impl RelaySession {
     /// Likewise if it could not be relayed to its end.
     pub(crate) fn fail(&mut self, ended: Ended)
         ensures turns { spec.Turns (spec.failing self.old) self.new }
-        ensures off { spec.is_off (spec.phase self.new) ≡ true }
+        ensures ending { spec.phase self.new ≡ spec.Ending }
     {
         self.ended = ended;
         self.status = 1;
@@ -48,7 +49,7 @@ impl RelaySession {
         }
     }
 
-    #[tactic(auto, using(crate::proofs::Relayed::rest_steps, crate::proofs::Relayed::forced_steps, crate::proofs::Relayed::forced_stops))]
+    #[tactic(auto, using(crate::proofs::Relayed::ending_steps, crate::proofs::Relayed::forced_steps, crate::proofs::Relayed::forced_stops))]
     pub(crate) fn end_on(&mut self, answer: Answer<'_>) -> Result<(), AllocError>
         requires { spec.is_ending self.old.stage ≡ true }
         ensures { spec.Takes result self.old (the_reply answer.entry) self.new }
@@ -67,7 +68,7 @@ impl RelaySession {
     }
 
     /// A file of the recording is on the device.
-    #[tactic(auto, using(crate::proofs::Relayed::rest_steps))]
+    #[tactic(auto, using(crate::proofs::Relayed::ending_steps))]
     fn settled(&mut self)
         requires { self.old.stage ≡ Stage.Settling }
         ensures { spec.Steps self.old Done self.new }
@@ -82,7 +83,7 @@ impl RelaySession {
     }
 
     /// A file of the recording could not be forced to the device.
-    #[tactic(auto, using(crate::proofs::Relayed::rest_fails, crate::proofs::Relayed::quiet_stops))]
+    #[tactic(auto, using(crate::proofs::Relayed::ending_fails, crate::proofs::Relayed::quiet_stops))]
     fn lose_settling(&mut self) -> Result<(), AllocError>
         requires { self.old.stage ≡ Stage.Settling }
         ensures { (reply : Reply) → spec.Takes result self.old reply self.new }
@@ -119,6 +120,18 @@ impl RelaySession {
         format!(in self.alloc; "dme: connection failed\n{line}")
     }
 
+    /// What comes after a connection.
+    fn after_leaving(&self) -> Stage
+        ensures { (result ≡ Stage.Accepting)
+            ⊎ ((result ≡ Stage.Exiting) × (self.now.end.left ≡ 0)) }
+    {
+        if self.left == 0 {
+            Stage::Exiting
+        } else {
+            Stage::Accepting
+        }
+    }
+
     /// The connection was left: what broke it off is said, and whether it counts.
     #[tactic(auto, using(crate::proofs::Relayed::left_steps, crate::proofs::Relayed::quiet_stops))]
     fn left(&mut self) -> Result<(), AllocError>
@@ -133,11 +146,7 @@ impl RelaySession {
             self.left = self.left.saturating_sub(1);
             fault
         };
-        let next = if self.left == 0 {
-            Stage::Exiting
-        } else {
-            Stage::Accepting
-        };
+        let next = self.after_leaving();
         if message.is_empty() {
             self.stage = next;
         } else {

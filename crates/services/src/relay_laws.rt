@@ -4,10 +4,10 @@ ghost use Rattle.std.specs.Prelude.{◌≡◌, ◌++◌, ℕ, Bool, [], ◌∷�
 ghost use Rattle.effects.specs.declared.vocabulary.Cause.TheVariants.{Full, Interrupted};
 ghost use Rattle.effects.specs.declared.vocabulary.Growth.TheVariants.{Told};
 ghost use Rattle.effects.specs.declared.vocabulary.Peer.TheVariants.{Client, Server};
-ghost use Rattle.effects.specs.Effects.{Append, Bytes, Done, Exit, Failed, Keep, Pass, Short, Took};
+ghost use Rattle.effects.specs.Effects.{Append, Bytes, Done, End, Exit, Failed, Keep, Nothing, Pass, Short, Took};
 ghost use Rattle.watched_ends.specs.Limits.{Past, Within, Limited, up_of, down_of};
 ghost use Rattle.witness.specs.Relaying.{Relaying};
-ghost use Rattle.services.specs.Relays.{RelayEnd, RelayOutside, RelayState, RelayTalk, RelayTraffic, AsksAt, Sends, IsVerdict, must_fail, Fails, Counts, Numbers, ReadyAt, phase_of, event_of, passed, nothing_passed, Relayed, HasCourse, IsAt, Keeps};
+ghost use Rattle.services.specs.Relays.{RelayEnd, RelayOutside, RelayState, RelayTalk, RelayTraffic, AsksAt, EndsAt, Ending, HasPassed, IsRelaying, Sends, Stands, phase, IsVerdict, must_fail, Fails, Counts, Numbers, ReadyAt, phase_of, event_of, passed, nothing_passed, Relayed, HasCourse, IsAt, Keeps};
 ghost use Rattle.services.specs.declared.relay_stages.RelayStage.TheVariants as stage;
 
 /// Whatever is answered, on each connection:
@@ -24,6 +24,13 @@ pub fn relays_pass_on_what_came()
         → Relayed number true f (Within r) → HasCourse number f r }
 {}
 
+/// At the end of a connection, if nothing has failed so far, what each end was sent is all that came from the other, that of the client unless it
+/// has ended what it sends; and what was reported was written.
+pub fn relays_leave_nothing()
+    ensures { (s : RelayState) (f : RelayTraffic) → phase s ≡ Ending → s.end.status ≡ 0
+        → Stands s → IsRelaying s f → HasPassed s f }
+{}
+
 /// What a stage asks for alone: the exit has the status, and all that is due is written, and sent on only where nothing is.
 pub fn asking_rows()
     ensures exited { (s : RelayState) → AsksAt stage.Leaving s (Exit 0) → ⊥ }
@@ -35,10 +42,10 @@ pub fn asking_rows()
     ensures due { (s : RelayState) → s.talk.relay ≡ Past [] [] (9 ∷ [])
         → AsksAt stage.Telling s (Append Told []) → ⊥ }
     ensures held { Sends (Past [] (7 ∷ []) (9 ∷ [])) (Pass Client (7 ∷ [])) → ⊥ }
-    ensures first { IsAt stage.PassingUp (Past (5 ∷ []) [] (9 ∷ []))
-        (record { status = 0; left = 1 }) → ⊥ }
-    ensures down { IsAt stage.PassingDown (Past [] (7 ∷ []) (9 ∷ []))
-        (record { status = 0; left = 1 }) → ⊥ }
+    ensures first { (t : RelayTalk) (e : RelayEnd) → t.relay ≡ Past (5 ∷ []) [] (9 ∷ [])
+        → IsAt stage.PassingUp t e → ⊥ }
+    ensures down { (t : RelayTalk) (e : RelayEnd) → t.relay ≡ Past [] (7 ∷ []) (9 ∷ [])
+        → IsAt stage.PassingDown t e → ⊥ }
 {}
 
 /// A status of 0 is refused after a failure, and while a connection is to come; what fails is the told file, the port and an end, but neither the
@@ -56,6 +63,23 @@ pub fn ending_rows()
         → Counts stage.Accepting e f → ⊥ }
     ensures counted { (e f : RelayEnd) → e.left ≡ 2 → f.left ≡ 0
         → Counts stage.Leaving e f → ⊥ }
+{}
+
+/// No connection ends well while anything waits for the server, or is to be written, or waits for a client that has not ended what it sends; and a
+/// client has ended that only if it was answered so, on this connection.
+pub fn leaving_rows()
+    ensures up { (t : RelayTalk) (e : RelayEnd) → t.relay ≡ Past (5 ∷ []) [] [] → e.status ≡ 0
+        → IsAt stage.Forcing t e → ⊥ }
+    ensures due { (t : RelayTalk) (e : RelayEnd) → t.relay ≡ Past [] [] (9 ∷ []) → e.status ≡ 0
+        → IsAt stage.Settling t e → ⊥ }
+    ensures down { (t : RelayTalk) (e : RelayEnd) → t.relay ≡ Past [] (7 ∷ []) []
+        → t.has_ended ≡ false → e.status ≡ 0 → IsAt stage.Leaving t e → ⊥ }
+    ensures server { (t u : RelayTalk) → t.has_ended ≡ false → u.has_ended ≡ true
+        → EndsAt stage.HearingServer End t u → ⊥ }
+    ensures silent { (t u : RelayTalk) → t.has_ended ≡ false → u.has_ended ≡ true
+        → EndsAt stage.HearingClient Nothing t u → ⊥ }
+    ensures next { (t u : RelayTalk) → u.has_ended ≡ true
+        → EndsAt stage.Accepting Done t u → ⊥ }
 {}
 
 /// The second connection has the number 2, and no number changes unless a client is taken; nothing is listened for before the told file was made, and

@@ -120,7 +120,7 @@ impl RelaySession {
         }
     }
 
-    #[tactic(auto, using(crate::proofs::Relayed::hears_quiet, crate::proofs::Relayed::turn_steps, crate::proofs::Relayed::turn_fails, crate::proofs::Relayed::quiet_stops))]
+    #[tactic(auto, using(crate::proofs::Relayed::hears_quiet, crate::proofs::Relayed::ended_steps, crate::proofs::Relayed::turn_steps, crate::proofs::Relayed::turn_fails, crate::proofs::Relayed::quiet_stops))]
     pub(crate) fn hear(&mut self, peer: Peer, answer: Answer<'_>) -> Result<(), AllocError>
         requires { self.old.stage ≡ spec.hearing peer }
         ensures { spec.Takes result self.old (the_reply answer.entry) self.new }
@@ -137,14 +137,19 @@ impl RelaySession {
 
     /// An end sends nothing more.
     fn ended_by(&mut self, peer: Peer)
-        ensures { spec.Turns self.old self.new }
+        ensures { spec.Turns (spec.with_end peer self.old) self.new }
     {
         self.has_moved = true;
         match peer {
-            Peer::Client => self.ends.client = true,
-            Peer::Server => self.ends.server = true,
+            Peer::Client => {
+                self.ends.client = true;
+                self.after_client();
+            }
+            Peer::Server => {
+                self.ends.server = true;
+                self.after_server();
+            }
         }
-        self.after(peer);
     }
 
     /// The relay is given bytes of an end, and reads what it can.
@@ -297,11 +302,29 @@ impl RelaySession {
         }
     }
 
+    /// Whether nothing is left: all that came was sent on, and what the server told was written.
+    #[tactic(auto, using(crate::proofs::Relayed::told_due))]
+    fn has_passed(&self) -> bool
+        ensures { result ≡ true → spec.IsPassed self.now.talk }
+    {
+        self.relay.to_server().is_empty() && self.relay.is_all_told() && self.to_client().is_empty()
+    }
+
+    /// Likewise, but for what the client is to get, which has ended what it sends.
+    fn has_ended(&self) -> bool
+        ensures { result ≡ true → spec.IsPassed self.now.talk }
+    {
+        self.ends.client
+            && self.ends.up
+            && self.relay.to_server().is_empty()
+            && self.relay.due().is_empty()
+    }
+
     /// The next turn begins, at once if anything has moved.
     fn end_turn(&mut self)
         ensures { spec.Turns self.old self.new }
     {
-        if self.ends.up && self.ends.down {
+        if self.ends.up && self.ends.down && self.has_passed() {
             self.finish();
         } else if self.has_moved {
             self.wait = Wait::new(self.order.timeout);
@@ -337,7 +360,7 @@ impl RelaySession {
                 self.wait.limit = self.limit();
                 if self.wait.lapse(now).is_none() {
                     self.stage = Stage::Waiting;
-                } else if self.ends.up {
+                } else if self.has_ended() {
                     self.finish();
                 } else {
                     self.fail(Ended::Silent);

@@ -1,6 +1,6 @@
 // The relay: what it asks, and what it does with an answer.
 
-ghost use Rattle.std.specs.Prelude.{◌≡◌, ◌⊎◌, [], true, IfOk};
+ghost use Rattle.std.specs.Prelude.{◌≡◌, ◌⊎◌, [], true, false, IfOk};
 ghost use Rattle.effects.specs.Effects.{the_ask, the_reply, Reply};
 ghost use Rattle.watched_ends.specs.Limits.{IsTold, down_of};
 ghost use Rattle.services.specs.Relays as spec;
@@ -67,7 +67,9 @@ pub struct Ends {
 }
 
 impl Ends {
-    pub fn new() -> Ends {
+    pub fn new() -> Ends
+        ensures { result.client ≡ false }
+    {
         Ends {
             client: false,
             server: false,
@@ -126,7 +128,12 @@ impl Model for RelaySession {
     ghost view = { λ s. record {
       stage = s.stage;
       next = s.next;
-      talk = record { relay = s.relay; number = s.number; is_told = s.is_told };
+      talk = record {
+        relay = s.relay;
+        number = s.number;
+        is_told = s.is_told;
+        has_ended = s.ends.client;
+      };
       end = record { status = s.status; left = s.left };
     } };
 }

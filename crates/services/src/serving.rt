@@ -1,7 +1,7 @@
 // On a connection: bytes are received, the server works, and its answers are sent.
 
 ghost use Rattle.std.specs.Prelude.{◌≡◌, true, false, [], OnOk, OnErr};
-ghost use Rattle.effects.specs.Effects.{the_reply};
+ghost use Rattle.effects.specs.Effects.{the_reply, Bytes};
 ghost use Rattle.services.specs.Sessions as spec;
 ghost use Rattle.services.specs.Serving as serving;
 
@@ -23,11 +23,11 @@ fn is_on(server: &Server) -> bool
 }
 
 /// A fault of a turn, or else memory has run out, since the ports of a turn meet nothing else.
-fn of_turn(fault: PumpFault<ServerFault>) -> Result<Option<PumpFault<ServerFault>>, AllocError>
+fn of_turn(fault: PumpFault<ServerFault>) -> Result<PumpFault<ServerFault>, AllocError>
     ensures { OnOk result (serving.IsOfTurn fault) }
 {
     match fault {
-        PumpFault::Core(_) | PumpFault::TurnsSpent => Ok(Some(fault)),
+        PumpFault::Core(_) | PumpFault::TurnsSpent => Ok(fault),
         _ => Err(AllocError),
     }
 }
@@ -69,19 +69,21 @@ impl Session {
 
     /// The connection is broken off and left.
     fn fail(&mut self, why: Break)
-        ensures { self.new ≡ spec.left self.old }
+        ensures new { self.new ≡ spec.broken_off self.old }
+        ensures keeps { spec.Keeps self.old self.new }
     {
         self.break_off(why);
         self.leave();
     }
 
-    #[tactic(auto, using(crate::proofs::Served::end_stays, crate::proofs::Served::may_stay))]
+    #[tactic(auto, using(crate::proofs::Served::end_stays, crate::proofs::Served::may_stay, crate::proofs::Breaking::quiet_breaks, crate::proofs::Breaking::ended_breaks))]
     pub(crate) fn receive(&mut self, answer: Answer<'_>) -> Result<(), AllocError>
         requires { spec.is_receiving self.old.stage ≡ true }
         ensures goes { OnOk result (spec.GoesOn self.old (the_reply answer.entry) self.new) }
         ensures served { OnOk result
             (spec.Brings false self.old (the_reply answer.entry) self.new) }
         ensures stays { OnOk result (spec.StaysOn self.old (the_reply answer.entry) self.new) }
+        ensures breaks { OnOk result (spec.Breaks self.old (the_reply answer.entry) self.new) }
         ensures lost { OnErr result
             (spec.Brings true self.old (the_reply answer.entry) (spec.left self.new)) }
         ensures stands { OnOk result (spec.Stands self.old → spec.Stands self.new) }
@@ -100,13 +102,14 @@ impl Session {
     }
 
     /// Bytes may have come.
-    #[tactic(auto, using(crate::proofs::Served::end_stays, crate::proofs::Served::may_stay, crate::proofs::Served::heard_stays))]
+    #[tactic(auto, using(crate::proofs::Served::end_stays, crate::proofs::Served::may_stay, crate::proofs::Served::heard_stays, crate::proofs::Breaking::quiet_breaks, crate::proofs::Breaking::ended_breaks))]
     fn received(&mut self, answer: Answer<'_>) -> Result<(), AllocError>
         requires { self.old.stage ≡ Stage.Receiving }
         ensures goes { OnOk result (spec.GoesOn self.old (the_reply answer.entry) self.new) }
         ensures served { OnOk result
             (spec.Brings false self.old (the_reply answer.entry) self.new) }
         ensures stays { OnOk result (spec.StaysOn self.old (the_reply answer.entry) self.new) }
+        ensures breaks { OnOk result (spec.Breaks self.old (the_reply answer.entry) self.new) }
         ensures lost { OnErr result
             (spec.Brings true self.old (the_reply answer.entry) (spec.left self.new)) }
         ensures stands { OnOk result (spec.Stands self.old → spec.Stands self.new) }
@@ -121,11 +124,14 @@ impl Session {
         Ok(())
     }
 
-    /// The server reads these bytes and does all that it has to do. Fails only if out of memory.
-    fn work(&mut self, piece: &[u8]) -> Result<Option<PumpFault<ServerFault>>, AllocError>
+    /// The server reads these bytes and does all that it has to do, or its turn breaks the connection off. Fails only if out of memory.
+    fn work(&mut self, piece: &[u8]) -> Result<(), AllocError>
         ensures more { OnOk result (spec.IsMore self.old.core.ledger self.new.core.ledger) }
-        ensures core { OnOk result (self.new.core
-            ≡ record (self.old.core) { ledger = self.new.core.ledger }) }
+        ensures core { OnOk result (self.new.core ≡ record (self.old.core) {
+          ledger = self.new.core.ledger;
+          broken = self.new.core.broken;
+        }) }
+        ensures breaks { OnOk result (spec.Breaks self.old (Bytes piece.now) self.new) }
         ensures hears { OnOk result (spec.Hears false self.old.talk piece.now self.new.talk) }
         ensures goes { OnOk result (serving.GoesOnWith self.old.talk piece.now self.new.talk) }
         ensures lost { OnErr result (spec.Hears true self.old.talk piece.now
@@ -145,9 +151,13 @@ impl Session {
         match turned {
             Ok(_) => {
                 self.out.extend_from_slice(sink.taken())?;
-                Ok(None)
+                Ok(())
             }
-            Err(fault) => of_turn(fault),
+            Err(fault) => {
+                let why = of_turn(fault)?;
+                self.break_off(Break::Fault(why));
+                Ok(())
+            }
         }
     }
 
@@ -158,15 +168,14 @@ impl Session {
             → spec.Ready (spec.due self.new) self.new.core o) }
         ensures hears { OnOk result (spec.Hears false self.old.talk piece.now self.new.talk) }
         ensures goes { OnOk result (serving.GoesOnWith self.old.talk piece.now self.new.talk) }
+        ensures breaks { OnOk result (spec.Breaks self.old (Bytes piece.now) self.new) }
         ensures lost { OnErr result (spec.Hears true self.old.talk piece.now
             (spec.left self.new).talk) }
         ensures stands { OnOk result (spec.Stands self.new) }
     {
         self.wait.came(piece);
         self.lines.went(Side::Client, piece)?;
-        if let Some(fault) = self.work(piece)? {
-            self.break_off(Break::Fault(fault));
-        }
+        self.work(piece)?;
         self.note()
     }
 
@@ -174,9 +183,10 @@ impl Session {
     fn note(&mut self) -> Result<(), AllocError>
         ensures kept { OnOk result ((c : spec.Core) (o : spec.Outside)
             → spec.IsMore c.ledger self.old.core.ledger
-            → self.old.core ≡ record c { ledger = self.old.core.ledger } → spec.IsKept c o
-            → spec.Ready (spec.due self.new) self.new.core o) }
+            → self.old.core ≡ record c { ledger = self.old.core.ledger; broken = self.old.core.broken }
+            → spec.IsKept c o → spec.Ready (spec.due self.new) self.new.core o) }
         ensures talk { self.new.talk ≡ self.old.talk }
+        ensures broken { OnOk result (self.new.core.broken ≡ self.old.core.broken) }
         ensures stands { OnOk result (spec.Stands self.new) }
     {
         if !self.contacts.is_kept() {
@@ -272,12 +282,13 @@ impl Session {
         Ok(())
     }
 
-    #[tactic(auto, using(crate::proofs::Served::end_stays))]
+    #[tactic(auto, using(crate::proofs::Served::end_stays, crate::proofs::Breaking::quiet_breaks))]
     pub(crate) fn answer(&mut self, answer: Answer<'_>) -> Result<(), AllocError>
         requires { spec.is_answering self.old.stage ≡ true }
         ensures goes { OnOk result (spec.GoesOn self.old (the_reply answer.entry) self.new) }
         ensures served { spec.Brings false self.old (the_reply answer.entry) self.new }
         ensures stays { OnOk result (spec.StaysOn self.old (the_reply answer.entry) self.new) }
+        ensures breaks { OnOk result (spec.Breaks self.old (the_reply answer.entry) self.new) }
         ensures stands { OnOk result (spec.Stands self.old → spec.Stands self.new) }
     {
         match (self.stage, answer) {
@@ -290,12 +301,13 @@ impl Session {
     }
 
     /// The answers went, or the connection is broken off.
-    #[tactic(auto, using(crate::proofs::Served::end_stays))]
+    #[tactic(auto, using(crate::proofs::Served::end_stays, crate::proofs::Breaking::quiet_breaks))]
     fn went(&mut self, answer: Answer<'_>) -> Result<(), AllocError>
         requires { self.old.stage ≡ Stage.Sending }
         ensures goes { OnOk result (spec.GoesOn self.old (the_reply answer.entry) self.new) }
         ensures served { spec.Brings false self.old (the_reply answer.entry) self.new }
         ensures stays { OnOk result (spec.StaysOn self.old (the_reply answer.entry) self.new) }
+        ensures breaks { OnOk result (spec.Breaks self.old (the_reply answer.entry) self.new) }
         ensures stands { OnOk result (spec.Stands self.old → spec.Stands self.new) }
     {
         match answer {
@@ -326,6 +338,7 @@ impl Session {
         requires { self.old.stage ≡ Stage.Leaving }
         ensures goes { OnOk result (spec.Continues self.old self.new) }
         ensures talk { self.new.talk ≡ self.old.talk }
+        ensures broken { OnOk result (self.new.core.broken ≡ self.old.core.broken) }
         ensures stands { OnOk result (self.old.talk.end.server.on ≡ false
             → spec.Stands self.new) }
     {

@@ -80,6 +80,7 @@ impl Model for Session {
         held = s.contacts.held;
         ledger = s.server.end.server.ledger;
         rows = s.rows.items;
+        broken = is_some s.broken;
         status = s.status;
       };
       talk = record {
@@ -211,6 +212,7 @@ impl Session {
         ensures goes { spec.GoesOn self.old (the_reply answer.entry) self.new }
         ensures served { spec.Serves self.old (the_reply answer.entry) self.new }
         ensures stays { spec.StaysOn self.old (the_reply answer.entry) self.new }
+        ensures breaks { spec.Breaks self.old (the_reply answer.entry) self.new }
         ensures stands { spec.Stands self.old → spec.Stands self.new }
     {
         if self.step(answer).is_err() {
@@ -218,10 +220,12 @@ impl Session {
         }
     }
 
+    #[tactic(auto, using(crate::proofs::Breaking::quiet_breaks))]
     fn step(&mut self, answer: Answer<'_>) -> Result<(), AllocError>
         ensures goes { OnOk result (spec.GoesOn self.old (the_reply answer.entry) self.new) }
         ensures served { OnOk result (spec.Serves self.old (the_reply answer.entry) self.new) }
         ensures stays { OnOk result (spec.StaysOn self.old (the_reply answer.entry) self.new) }
+        ensures breaks { OnOk result (spec.Breaks self.old (the_reply answer.entry) self.new) }
         ensures lost { OnErr result
             (spec.Brings true self.old (the_reply answer.entry) (spec.left self.new)) }
         ensures stands { OnOk result (spec.Stands self.old → spec.Stands self.new) }
@@ -253,6 +257,7 @@ impl Session {
         ensures goes { (reply : Reply) → spec.GoesOn self.old reply self.new }
         ensures due { spec.due self.new ≡ spec.due self.old }
         ensures talk { self.new.talk ≡ self.old.talk }
+        ensures broken { self.new.core.broken ≡ self.old.core.broken }
         ensures stands { spec.Stands self.old → spec.Stands self.new }
     {
         self.stage = self.next;
@@ -285,6 +290,7 @@ impl Session {
     fn give_up(&mut self)
         ensures ends { spec.Ends self.new }
         ensures talk { self.new.talk ≡ self.old.talk }
+        ensures broken { self.new.core.broken ≡ self.old.core.broken }
         ensures over { serving.is_over (spec.due self.new) ≡ true }
         ensures stands { spec.Stands self.new }
     {
@@ -298,10 +304,10 @@ impl Session {
     fn give_in(&mut self)
         ensures ends { spec.Ends self.new }
         ensures talk { self.new.talk ≡ self.old.talk }
+        ensures broken { self.new.core.broken ≡ self.old.core.broken }
         ensures over { serving.is_over (spec.due self.new) ≡ true }
         ensures stands { spec.Stands self.new }
     {
-        self.broken = Some(Break::Fault(PumpFault::Memory));
         if self.close().is_err() {
             self.tell(OUT_OF_MEMORY, 4);
         }
@@ -312,10 +318,12 @@ impl Session {
         ensures ends { spec.Ends self.new }
         ensures talk { self.new.talk
             ≡ record (self.old.talk) { end = serving_left self.old.talk.end } }
+        ensures broken { self.new.core.broken ≡ true }
         ensures over { serving.is_over (spec.due self.new) ≡ true }
         ensures stands { spec.Stands self.new }
     {
         self.server.leave();
+        self.broken = Some(Break::Fault(PumpFault::Memory));
         match self.stage {
             Stage::Logged | Stage::Looking | Stage::Making | Stage::Listening => self.give_up(),
             Stage::Discarding | Stage::SettingAside | Stage::Beginning => self.give_up(),

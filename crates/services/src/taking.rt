@@ -32,6 +32,7 @@ impl Session {
         ensures plain { OnOk result (spec.due self.new ≡ self.new.stage) }
         ensures goes { OnOk result (spec.Continues self.old self.new) }
         ensures talk { self.new.talk ≡ self.old.talk }
+        ensures broken { OnOk result (self.new.core.broken ≡ self.old.core.broken) }
         ensures stands { OnOk result (self.old.talk.end.server.on ≡ false
             → spec.Stands self.new) }
     {
@@ -43,12 +44,13 @@ impl Session {
         Ok(())
     }
 
-    #[tactic(auto, using(crate::proofs::Served::end_stays))]
+    #[tactic(auto, using(crate::proofs::Served::end_stays, crate::proofs::Breaking::quiet_breaks))]
     pub(crate) fn take_next(&mut self, answer: Answer<'_>) -> Result<(), AllocError>
         requires { spec.is_taking self.old.stage ≡ true }
         ensures goes { OnOk result (spec.Continues self.old self.new) }
         ensures served { spec.Brings false self.old (the_reply answer.entry) self.new }
         ensures stays { OnOk result (spec.StaysOn self.old (the_reply answer.entry) self.new) }
+        ensures breaks { OnOk result (spec.Breaks self.old (the_reply answer.entry) self.new) }
         ensures stands { OnOk result (spec.Stands self.old → spec.Stands self.new) }
     {
         match (self.stage, answer) {
@@ -67,6 +69,7 @@ impl Session {
         ensures goes { OnOk result (spec.Continues self.old self.new) }
         ensures served { spec.Brings false self.old (the_reply answer.entry) self.new }
         ensures stays { OnOk result (spec.StaysOn self.old (the_reply answer.entry) self.new) }
+        ensures breaks { OnOk result (spec.Breaks self.old (the_reply answer.entry) self.new) }
         ensures stands { OnOk result (spec.Stands self.old → spec.Stands self.new) }
     {
         match answer {
@@ -80,6 +83,7 @@ impl Session {
         requires { self.old.stage ≡ Stage.Accepting }
         ensures goes { OnOk result (spec.Continues self.old self.new) }
         ensures talk { self.new.talk ≡ self.old.talk }
+        ensures broken { OnOk result (self.new.core.broken ≡ self.old.core.broken) }
         ensures stands { OnOk result (spec.Stands self.old → spec.Stands self.new) }
     {
         match answer {
@@ -103,6 +107,7 @@ impl Session {
         ensures served { spec.Brings false self.old Done self.new }
         ensures stays { OnOk result (self.old.talk.end.server.on ≡ true
             → self.new.talk.end.server.on ≡ true) }
+        ensures breaks { OnOk result (spec.Breaks self.old Done self.new) }
         ensures stands { OnOk result (spec.Stands self.old → spec.Stands self.new) }
     {
         self.number = self.number.saturating_add(1);
@@ -127,7 +132,9 @@ impl Session {
 
     /// A connection was broken off. The first cause is kept.
     pub(crate) fn break_off(&mut self, why: Break)
-        ensures { self.new ≡ self.old }
+        ensures new { self.new
+            ≡ record self.old { core = record (self.old.core) { broken = true } } }
+        ensures keeps { spec.Keeps self.old self.new }
     {
         if self.broken.is_none() {
             self.broken = Some(why);

@@ -13,5 +13,6 @@ loop-turn-preserved g c = λ none. led_more _ _ _ _ _ _ _ _ (c.loop-turn.invaria
       goes = c.take.ensures.goes;
       served = c.take.ensures.served;
       stays = c.take.ensures.stays;
+      breaks = c.take.ensures.breaks;
       stands = c.take.ensures.stands;
     })

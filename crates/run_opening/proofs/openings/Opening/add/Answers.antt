@@ -1,6 +1,7 @@
 use Rattle.run_opening.proofs.Names.{[], ◌++◌, ◌≡◌, rules, State, subst, sym}
 use Rattle.std.proofs.Common.{◌∷◌, ◌≤◌, arith, map, suc}
-use Rattle.run_opening.specs.Naming.{IsClear, seen_of}
+use Rattle.named_files.specs.Naming.{seen_of}
+use Rattle.run_opening.specs.Naming.{IsClear}
 use Rattle.run_opening.specs.Openings.{IsComparing}
 use Rattle.run_opening.proofs.Comparing.{joined}
 use Rattle.run_opening.proofs.openings.Opening.add.Goals as goal

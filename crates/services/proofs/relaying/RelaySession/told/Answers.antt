@@ -10,6 +10,6 @@ pub returns-in-Done : goal.returns-in-Done
 returns-in-Done c = (
   told_steps _ _ _ _ c.self.view_is c.requires
       (ap (λ (a : Answer). event_of stage.Telling (the_reply a)) c.in-Done.is)
-      (ap (λ (a : Answer). must_fail stage.Telling (the_reply a)) c.in-Done.is) c.clear_due.ensures refl refl refl refl,
+      (ap (λ (a : Answer). must_fail stage.Telling (the_reply a)) c.in-Done.is) c.clear_due.ensures refl refl refl refl refl,
   tt,
 )

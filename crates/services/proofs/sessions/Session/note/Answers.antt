@@ -12,5 +12,8 @@ returns-then-is_empty-clause-kept c =
     c.show_worked-then-is_empty.ensures.core c.show_worked-then-is_empty.ensures.due
 
 pub returns-else-is_empty-clause-kept : goal.returns-else-is_empty-clause-kept
-returns-else-is_empty-clause-kept c = λ d o m h k. subst (λ (s : State). HasAllBut s.core.text s.core o) (sym c.self-2.view_is)
-    (worked_all d _ _ o m h c.in_ok-follow.ensures.core k)
+returns-else-is_empty-clause-kept c = λ d o m h k. (
+  subst (λ (s : State). HasAllBut s.core.text s.core o) (sym c.self-2.view_is)
+      (worked_all d _ _ o m h c.in_ok-follow.ensures.core k),
+  k.listened,
+)

@@ -14,4 +14,4 @@ returns-in-Checking-Found-clause-served c =
 pub returns-in-Some-clause-served : goal.returns-in-Some-clause-served
 returns-in-Some-clause-served c =
     gone_serves false _ c.args.self.now c.fail.new.self Stage.Timing (the_reply c.args.answer) c.self.view_is c.in-Timing-At.is-0
-    (λ out f. refl) (λ next. refl) (ap (λ (s : State). s.talk) c.fail.ensures)
+    (λ out f. refl) (λ next. refl) (ap (λ (s : State). s.talk) c.fail.ensures.new)

@@ -1,6 +1,6 @@
 use Rattle.std.proofs.Common.{ap, false, OnErr, OnOk, refl, subst, sym, true}
 use Rattle.effects.specs.Effects.{Reply, the_reply}
-use Rattle.services.specs.Sessions.{Brings, left, State}
+use Rattle.services.specs.Sessions.{Breaks, Brings, left, State}
 use Rattle.services.specs.declared.stages.Stage.{Stage}
 use Rattle.services.proofs.Served.{BringsNone, heard_lost, heard_ok, left_serves, may_go, unreceived}
 use Rattle.services.proofs.sessions.Session.received.Goals as goal
@@ -29,8 +29,12 @@ returns-in-End-clause-served c =
 pub returns-in_default-clause-served : goal.returns-in_default-clause-served
 returns-in_default-clause-served c =
     left_serves false c.args.self.now c.fail.new.self Stage.Receiving (the_reply c.args.answer) c.requires
-    (unreceived c.args.answer c.in_default.not-Bytes c.in_default.not-Nothing).0 (λ next. refl) (ap (λ (s : State). s.talk) c.fail.ensures)
+    (unreceived c.args.answer c.in_default.not-Bytes c.in_default.not-Nothing).0 (λ next. refl) (ap (λ (s : State). s.talk) c.fail.ensures.new)
 
 pub returns-in_default-clause-stays : goal.returns-in_default-clause-stays
 returns-in_default-clause-stays c = may_go c.args.self.now c.fail.new.self Stage.Receiving (the_reply c.args.answer) c.requires
     (unreceived c.args.answer c.in_default.not-Bytes c.in_default.not-Nothing).1
+
+pub returns-in-Bytes-clause-breaks : goal.returns-in-Bytes-clause-breaks
+returns-in-Bytes-clause-breaks c =
+    subst (λ (r : Reply). OnOk c.came.result (Breaks c.args.self.now r c.came.new.self)) (sym (ap the_reply c.in-Bytes.is)) c.came.ensures.breaks

@@ -14,7 +14,7 @@ returns-in-Err-clause-served c =
     let may : may_accept c.saturating_add-self-inside.result c.self.inside.server.end.server ≡ false = search rules in
     let end : c.accept.new.self.end ≡ c.self.inside.server.end = search rules in
     subst (λ (k : Talk). Brings false c.args.self.now Done (record (c.args.self.now) { talk = k }))
-    (sym (ap (λ (x : State). x.talk) c.self-in-Err.view_is ∙ ap (λ (x : State). x.talk) c.break_off.ensures))
+    (sym (ap (λ (x : State). x.talk) c.self-in-Err.view_is ∙ ap (λ (x : State). x.talk) c.break_off.ensures.new))
     (refused_serves _ c.args.self.now (record (c.args.self.now) { talk = u }) c.self.view_is c.requires number may end refl)
 
 pub returns-in_err-message-clause-served : goal.returns-in_err-message-clause-served

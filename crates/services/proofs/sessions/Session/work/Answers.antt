@@ -1,8 +1,9 @@
-use Rattle.std.proofs.Common.{refl, rules, subst, ◌++◌, ap, ◌∙◌, false, true, List, ℕ, OnOk, Some}
+use Rattle.std.proofs.Common.{◌≡◌, inl, inr, refl, subst, sym, ◌++◌, ap, ◌∙◌, false, true, true≢false, List, ℕ, Some}
 use Rattle.services.specs.Sessions.{Hears, State}
 use Rattle.services.specs.Serving.{GoesOnWith, Talk}
 use Rattle.protocol_model.specs.Ends.{serving_left}
-use Rattle.services.proofs.Served.{all_ok, broken_goes, broken_hears, moved_goes, moved_hears, moved_lost, on_err, one_source, stopped_lost, unheard_lost}
+use Rattle.services.proofs.Breaking.{bytes_or_done}
+use Rattle.services.proofs.Served.{broken_goes, moved_hears, moved_lost, moved_on, on_err, one_source, stopped_hears, stopped_lost, unheard_lost}
 use Rattle.services.proofs.Working.{turn_more}
 use Rattle.byte_ports.specs.Pieces.{PiecesValue}
 use Rattle.services.proofs.sessions.Session.work.Goals as goal
@@ -57,13 +58,57 @@ returns-in-Ok-clause-goes c =
       number = c.self.inside.number;
       out = c.extend_from_slice.new.self.items;
     } in
-    subst (λ (s : State). GoesOnWith s.talk c.args.piece.now u) c.self.view_is
-    (moved_goes t u c.args.piece.now _ _ _ _ _ c.in-Ok.ensures.moved.whole)
+    let on : c.args.self.now.talk.end.server.on ≡ true → u.end.server.on ≡ true =
+    subst (λ (s : State). s.talk.end.server.on ≡ true → u.end.server.on ≡ true) c.self.view_is
+    (moved_on t u c.args.piece.now _ _ _ _ _ c.in-Ok.ensures.moved.whole) in
+    λ was. inl (on was)
 
-pub returns : goal.returns
-returns c =
+pub returns-in-Ok-clause-breaks : goal.returns-in-Ok-clause-breaks
+returns-in-Ok-clause-breaks c =
+    let t : Talk = record { end = c.self.inside.server.end; shifts = c.self.inside.machine; number = c.self.inside.number; out = c.self.inside.out.items } in
+    let u : Talk = record {
+      end = c.serve_turns-turned.new.server.end;
+      shifts = c.serve_turns-turned.new.machine;
+      number = c.self.inside.number;
+      out = c.extend_from_slice.new.self.items;
+    } in
+    let on : c.args.self.now.talk.end.server.on ≡ true → u.end.server.on ≡ true =
+    subst (λ (s : State). s.talk.end.server.on ≡ true → u.end.server.on ≡ true) c.self.view_is
+    (moved_on t u c.args.piece.now _ _ _ _ _ c.in-Ok.ensures.moved.whole) in
+    λ h. elim h [
+      | inl was ↦ ap (λ (s : State). s.core.broken) c.self.view_is ∙ was
+      | inr off ↦ elim off.1.1 [
+        | inl was ↦ absurd (true≢false (sym (on was) ∙ off.0))
+        | inr taken ↦ absurd (bytes_or_done c.args.piece.now taken.1)
+      ]
+    ]
+
+pub returns-in_err-why-in-Err-clause-lost : goal.returns-in_err-why-in-Err-clause-lost
+returns-in_err-why-in-Err-clause-lost c =
+    let t : Talk = record { end = c.self.inside.server.end; shifts = c.self.inside.machine; number = c.self.inside.number; out = c.self.inside.out.items } in
+    let v : Talk = record {
+      end = serving_left c.serve_turns-turned.new.server.end;
+      shifts = c.serve_turns-turned.new.machine;
+      number = c.self.inside.number;
+      out = c.self.inside.out.items;
+    } in
+    on_err c.from_residual-in_err-why-in-Err.result (Hears true c.args.self.now.talk c.args.piece.now v)
+    (subst (λ (s : State). Hears true s.talk c.args.piece.now v) c.self.view_is
+    (stopped_lost t v c.serve_turns-turned.new.server.end c.args.piece.now _ _ _ _ _
+    (one_source c.new-source.result c.add.new.self c.args.piece.now (ap (λ (p : PiecesValue). p.pieces) c.new-source.ensures) c.in_ok-add.ensures.stored)
+    (ap Some c.new-sink.ensures.taken) c.in-Err.ensures.stopped.front refl c.in-Err.ensures.keeps refl))
+
+pub returns-clause-more : goal.returns-clause-more
+returns-clause-more c =
     let front = c.in-Err.ensures.stopped.front in
-    let more = turn_more _ _ _ _ _ _ _ front.turn in
+    let more = turn_more _ _ _ _ _ _ _ front.turn in (
+      more.0,
+      ap (λ (s : State). s.core.ledger) c.break_off.ensures.new
+          ∙ (ap (λ e. e.server.ledger) front.leaves ∙ (more.1 ∙ ap (λ (s : State). s.core.ledger ++ more.0) c.self.view_is)),
+    )
+
+pub returns-clause-hears : goal.returns-clause-hears
+returns-clause-hears c =
     let t : Talk = record { end = c.self.inside.server.end; shifts = c.self.inside.machine; number = c.self.inside.number; out = c.self.inside.out.items } in
     let u : Talk = record {
       end = c.serve_turns-turned.new.server.end;
@@ -71,16 +116,23 @@ returns c =
       number = c.self.inside.number;
       out = c.self.inside.out.items;
     } in
-    let v : Talk = record { end = serving_left u.end; shifts = u.shifts; number = u.number; out = u.out } in
-    let from = one_source c.new-source.result c.add.new.self c.args.piece.now (ap (λ (p : PiecesValue). p.pieces) c.new-source.ensures) c.in_ok-add.ensures.stored in
-    record {
-      more = all_ok c.of_turn.result _ (more.0, ap (λ e. e.server.ledger) front.leaves ∙ (more.1 ∙ ap (λ (s : State). s.core.ledger ++ more.0) c.self.view_is));
-      core = search rules;
-      hears = subst (λ (s : State). OnOk c.of_turn.result (Hears false s.talk c.args.piece.now u)) c.self.view_is
-          (broken_hears c.of_turn.result t u c.args.piece.now _ _ _ _ _ from (ap Some c.new-sink.ensures.taken) c.of_turn.ensures front c.in-Err.ensures.keeps refl);
-      goes = subst (λ (s : State). OnOk c.of_turn.result (GoesOnWith s.talk c.args.piece.now u)) c.self.view_is
-          (broken_goes c.of_turn.result t u c.args.piece.now _ _ _ _ _ from c.of_turn.ensures front);
-      lost = on_err c.of_turn.result (Hears true c.args.self.now.talk c.args.piece.now v) (subst (λ (s : State). Hears true s.talk c.args.piece.now v) c.self.view_is
-          (stopped_lost t v c.serve_turns-turned.new.server.end c.args.piece.now _ _ _ _ _ from (ap Some c.new-sink.ensures.taken) front refl
-          c.in-Err.ensures.keeps refl));
-    }
+    subst (λ (k : Talk). Hears false c.args.self.now.talk c.args.piece.now k) (sym (ap (λ (s : State). s.talk) c.break_off.ensures.new))
+    (subst (λ (s : State). Hears false s.talk c.args.piece.now u) c.self.view_is
+    (stopped_hears t u c.args.piece.now _ _ _ _ _
+    (one_source c.new-source.result c.add.new.self c.args.piece.now (ap (λ (p : PiecesValue). p.pieces) c.new-source.ensures) c.in_ok-add.ensures.stored)
+    (ap Some c.new-sink.ensures.taken) c.in_ok-why-in-Err.ensures c.in-Err.ensures.stopped.front c.in-Err.ensures.keeps refl))
+
+pub returns-clause-goes : goal.returns-clause-goes
+returns-clause-goes c =
+    let t : Talk = record { end = c.self.inside.server.end; shifts = c.self.inside.machine; number = c.self.inside.number; out = c.self.inside.out.items } in
+    let u : Talk = record {
+      end = c.serve_turns-turned.new.server.end;
+      shifts = c.serve_turns-turned.new.machine;
+      number = c.self.inside.number;
+      out = c.self.inside.out.items;
+    } in
+    subst (λ (k : Talk). GoesOnWith c.args.self.now.talk c.args.piece.now k) (sym (ap (λ (s : State). s.talk) c.break_off.ensures.new))
+    (subst (λ (s : State). GoesOnWith s.talk c.args.piece.now u) c.self.view_is
+    (broken_goes t u c.args.piece.now _ _ _ _ _
+    (one_source c.new-source.result c.add.new.self c.args.piece.now (ap (λ (p : PiecesValue). p.pieces) c.new-source.ensures) c.in_ok-add.ensures.stored)
+    c.in_ok-why-in-Err.ensures c.in-Err.ensures.stopped.front))
