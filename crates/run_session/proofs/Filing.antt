@@ -1,11 +1,14 @@
 -- What the file of a record has during its run.
+use Rattle.effects.specs.declared.vocabulary.Answer.{Answer}
+use Rattle.effects.specs.declared.vocabulary.Answer.TheVariants as answer
 use Rattle.run_session.proofs.Names.{HasFiled}
-use Rattle.run_session.proofs.Names.{[], ◌++◌, ◌∙◌, ◌∷◌, ◌≡◌, ◌≤◌, ◌⊎◌, AddsErrors, ap, append-nil, append_assoc, arith, At, begins, Book, Bool}
+use Rattle.run_session.specs.Records.{answered, Grown, is_done, is_record, Listed, marked, marked_at, Marks, Origin, Record, Report, Whole, with_marks, Write}
+use Rattle.run_session.proofs.Names.{[], ◌++◌, ◌∙◌, ◌∷◌, ◌≡◌, ◌≤◌, ◌⊎◌, Act, AddsErrors, ap, append-nil, append_assoc, arith, At, begins, Book, Bool}
 use Rattle.run_session.proofs.Names.{Bytes, calls, ClientEnd, cond, confirms, Done, drop, drop-append_seam, End, Err, error_lines, Failed, false}
-use Rattle.run_session.proofs.Names.{false≢true, filed, filed_by, Found, GoesOn, Growth, HaveLines, inl, inr, is_some, IsKept, IsSafe, Keeps, lacking}
+use Rattle.run_session.proofs.Names.{false≢true, filed, filed_by, Found, GoesOn, Growth, HasReported, HaveLines, inl, inr, IsKept, IsQuiet, IsRun, IsRunOf, IsSafe, Keeps, lacking}
 use Rattle.run_session.proofs.Names.{length, List, Missing, new_lines, None, Nothing, of_file, Ok, OnErr, OnOk, Option, outcome, outcome_by, Outside}
-use Rattle.run_session.proofs.Names.{Pair, Ran, refl, Reply, Result, Short, Some, Stage, State, subst, suc, sym, take, take-append-drop, tells}
-use Rattle.run_session.proofs.Names.{told_now, told_unless, Took, true, with_acts, with_errors, writes, zero, ℕ}
+use Rattle.run_session.proofs.Names.{Pair, Ran, refl, Reply, Reports, Result, Short, Some, Stage, State, subst, suc, sym, take, take-append-drop, tells}
+use Rattle.run_session.proofs.Names.{the_reply, told_now, told_unless, Took, true, with_acts, with_errors, writes, zero, ℕ}
 
 -- lines are added at the end
 grown_by : (lacks : Bool) (e : ClientEnd) (errors : List (List ℕ)) (g : Growth)
@@ -26,11 +29,14 @@ grows first _ _ (tells ps p lacks errors r lines) =
     (before.0 ++ added.0, added.1 ∙ (ap (λ (t : List ℕ). t ++ added.0) before.1 ∙ append_assoc first.recording.text before.0 added.0))
 
 -- the client and the record are later ones, and nothing is written
-pub moved : (first : Pair) (s t : State) (o : Outside) → Keeps s t → of_file t.book ≡ of_file s.book → IsKept first s o → IsKept first t o
-moved first s t o keeps same k =
-    let more = grows s.pair t.book.pauses t.pair (keeps s.pair (begins s.book.pauses)) in
+pub moved : (first : Pair) (before : List (ℕ × Act)) (s t : State) (o : Outside) → Keeps s t → of_file t.book ≡ of_file s.book
+    → IsKept first before s o → IsKept first before t o
+moved first before s t o keeps same k =
+    let w : Origin = record { first = s.pair; before = before; marks = o.marks } in
+    let more = grows s.pair t.book.pauses t.pair
+    (keeps w (record { ran = begins s.book.pauses; reported = k.ran.reported; same = k.ran.same })).ran in
     record {
-      ran = keeps first k.ran;
+      ran = keeps (record { first = first; before = before; marks = o.marks }) k.ran;
       front = (
         k.front.0 ++ more.0,
         sym (append_assoc o.file k.front.0 more.0)
@@ -41,31 +47,37 @@ moved first s t o keeps same k =
       safe = subst (λ (b : Book). IsSafe first b.settled o.safe) (sym same) k.safe;
     }
 
+-- what is outside after an answer at a stage that writes this
+abbrev by_write : Option Write → ℕ → State → Reply → Outside → Outside
+by_write w n s reply o =
+    record (outcome_by n w (lacking s) reply o) { marks = marked w (is_done reply) s o.marks }
+
 pub moved_on : (s t : State) (reply : Reply) → writes s.stage ≡ None → Keeps s t → of_file t.book ≡ of_file s.book → GoesOn s reply t
-moved_on s t reply quiet keeps same = λ first o n k.
-    subst (λ (w : Option Bool). IsKept first t (outcome_by n w (lacking s) reply o)) (sym quiet) (moved first s t o keeps same k)
+moved_on s t reply quiet keeps same = λ first before o n k.
+    subst (λ (w : Option Write). IsKept first before t (by_write w n s reply o)) (sym quiet) (moved first before s t o keeps same k)
 
 -- later ones after an answer
 pub goes_further : (s m t : State) (reply : Reply) → GoesOn s reply m → Keeps m t → of_file t.book ≡ of_file m.book → GoesOn s reply t
-goes_further s m t reply goes keeps same = λ first o n k. moved first m t (outcome n s reply o) keeps same (goes first o n k)
+goes_further s m t reply goes keeps same = λ first before o n k. moved first before m t (outcome n s reply o) keeps same (goes first before o n k)
 
 -- one with the same client, record and pauses
-same_ran : (first : Pair) (s t : State) → t.pair ≡ s.pair → t.book.pauses ≡ s.book.pauses → Ran first s.book.pauses s.pair
-    → Ran first t.book.pauses t.pair
-same_ran first s t same pauses ran = subst (λ (ps : List ℕ). Ran first ps t.pair) (sym pauses)
-    (subst (λ (p : Pair). Ran first s.book.pauses p) (sym same) ran)
+same_ran : (w : Origin) (s t : State) → t.pair ≡ s.pair → t.reports ≡ s.reports → t.book.pauses ≡ s.book.pauses → IsRunOf w s → IsRunOf w t
+same_ran w s t same reports pauses ran =
+    subst (λ (ps : List ℕ). IsRun w ps t.pair t.reports) (sym pauses)
+    (subst (λ (r : Reports). IsRun w s.book.pauses t.pair r) (sym reports)
+    (subst (λ (p : Pair). IsRun w s.book.pauses p s.reports) (sym same) ran))
 
 -- ---- the record's file was written, or not
 
 -- what it lacks is what is left of the text
-left_of : (first : Pair) (s : State) (o : Outside) → IsKept first s o → (lost : Bool) → s.book.lost ≡ lost
+left_of : (first : Pair) (before : List (ℕ × Act)) (s : State) (o : Outside) → IsKept first before s o → (lost : Bool) → s.book.lost ≡ lost
     → (rest : List ℕ) × ((o.file ++ lacking s) ++ rest ≡ s.pair.recording.text)
-left_of first s o k true is = (
+left_of first before s o k true is = (
   k.front.0,
   ap (λ (x : List ℕ). x ++ k.front.0)
       (ap (λ (b : Bool). o.file ++ cond b [] (drop s.book.filed s.pair.recording.text)) is ∙ append-nil o.file) ∙ k.front.1,
 )
-left_of first s o k false is = (
+left_of first before s o k false is = (
   [],
   append-nil (o.file ++ lacking s)
       ∙ (ap (λ (b : Bool). o.file ++ cond b [] (drop s.book.filed s.pair.recording.text)) is
@@ -76,8 +88,8 @@ left_of first s o k false is = (
     rest_is = ap (λ (x : List ℕ). drop s.book.filed x) (sym k.front.1)
         ∙ (ap (λ (x : ℕ). drop x (o.file ++ k.front.0)) (sym (k.filed is)) ∙ drop-append_seam o.file k.front.0)
 
-all_of : (first : Pair) (s : State) (o : Outside) → IsKept first s o → s.book.lost ≡ false → o.file ++ lacking s ≡ s.pair.recording.text
-all_of first s o k is =
+all_of : (first : Pair) (before : List (ℕ × Act)) (s : State) (o : Outside) → IsKept first before s o → s.book.lost ≡ false → o.file ++ lacking s ≡ s.pair.recording.text
+all_of first before s o k is =
     ap (λ (b : Bool). o.file ++ cond b [] (drop s.book.filed s.pair.recording.text)) is
     ∙ (ap (λ (x : List ℕ). o.file ++ x)
     (ap (λ (x : List ℕ). drop s.book.filed x) (sym k.front.1)
@@ -85,8 +97,9 @@ all_of first s o k is =
     ∙ k.front.1)
 
 -- the file has all of the text if it lacks nothing
-pub has_all : (first : Pair) (s : State) (o : Outside) → IsKept first s o → s.book.lost ≡ false → HasFiled s → o.file ≡ s.pair.recording.text
-has_all first s o k is none = sym (append-nil o.file) ∙ (ap (λ (x : List ℕ). o.file ++ x) (sym none) ∙ all_of first s o k is)
+pub has_all : (first : Pair) (before : List (ℕ × Act)) (s : State) (o : Outside) → IsKept first before s o → s.book.lost ≡ false → HasFiled s
+    → o.file ≡ s.pair.recording.text
+has_all first before s o k is none = sym (append-nil o.file) ∙ (ap (λ (x : List ℕ). o.file ++ x) (sym none) ∙ all_of first before s o k is)
 
 -- more is written after what is safe
 within_more : (o : Outside) (text : List ℕ) → (rest : List ℕ) × (o.safe ++ rest ≡ o.file)
@@ -94,51 +107,51 @@ within_more : (o : Outside) (text : List ℕ) → (rest : List ℕ) × (o.safe +
 within_more o text w = (w.0 ++ text, sym (append_assoc o.safe w.0 text) ∙ ap (λ (x : List ℕ). x ++ text) w.1)
 
 -- all of it was written
-filed_file : (first : Pair) (s t : State) (o : Outside) → s.book.lost ≡ false → t.pair ≡ s.pair → IsKept first s o
+filed_file : (first : Pair) (before : List (ℕ × Act)) (s t : State) (o : Outside) → s.book.lost ≡ false → t.pair ≡ s.pair → IsKept first before s o
     → ((o.file ++ lacking s) ++ [] ≡ t.pair.recording.text) × (length (o.file ++ lacking s) ≡ length s.pair.recording.text)
-filed_file first s t o sound same k = (
-  append-nil (o.file ++ lacking s) ∙ (all_of first s o k sound ∙ ap (λ (p : Pair). p.recording.text) (sym same)),
-  ap length (all_of first s o k sound),
+filed_file first before s t o sound same k = (
+  append-nil (o.file ++ lacking s) ∙ (all_of first before s o k sound ∙ ap (λ (p : Pair). p.recording.text) (sym same)),
+  ap length (all_of first before s o k sound),
 )
 
 -- a definite number is as small as itself
 least : (n : ℕ) → n ≤ n
 least n = omega arith
 
-pub filed_on : (s t : State) (forced : Bool) → writes s.stage ≡ Some forced → s.book.lost ≡ false → t.pair ≡ s.pair → t.book ≡ filed s
-    → GoesOn s Done t
-filed_on s t false w sound same book = λ first o n k.
-    subst (λ (x : Option Bool). IsKept first t (outcome_by n x (lacking s) Done o)) (sym w) (record {
-      ran = same_ran first s t same (ap (λ (b : Book). b.pauses) (book ∙ ap (λ (x : Option Bool). filed_by x s) w)) k.ran;
-      front = ([], (filed_file first s t o sound same k).0);
-      filed = λ l. (filed_file first s t o sound same k).1
-          ∙ sym (ap (λ (b : Book). b.filed) (book ∙ ap (λ (x : Option Bool). filed_by x s) w));
+pub filed_on : (s t : State) (forced : Bool) → writes s.stage ≡ Some (Record forced) → s.book.lost ≡ false → t.pair ≡ s.pair → t.reports ≡ s.reports
+    → t.book ≡ filed s → GoesOn s Done t
+filed_on s t false w sound same reports book = λ first before o n k.
+    subst (λ (x : Option Write). IsKept first before t (by_write x n s Done o)) (sym w) (record {
+      ran = same_ran (record { first = first; before = before; marks = o.marks }) s t same reports (ap (λ (b : Book). b.pauses) (book ∙ ap (λ (x : Option Write). filed_by x s) w)) k.ran;
+      front = ([], (filed_file first before s t o sound same k).0);
+      filed = λ l. (filed_file first before s t o sound same k).1
+          ∙ sym (ap (λ (b : Book). b.filed) (book ∙ ap (λ (x : Option Write). filed_by x s) w));
       within = within_more o (lacking s) k.within;
-      safe = subst (λ (b : Book). IsSafe first b.settled o.safe) (sym (book ∙ ap (λ (x : Option Bool). filed_by x s) w)) k.safe;
+      safe = subst (λ (b : Book). IsSafe first b.settled o.safe) (sym (book ∙ ap (λ (x : Option Write). filed_by x s) w)) k.safe;
     })
-filed_on s t true w sound same book = λ first o n k.
-    subst (λ (x : Option Bool). IsKept first t (outcome_by n x (lacking s) Done o)) (sym w) (record {
-      ran = same_ran first s t same (ap (λ (b : Book). b.pauses) (book ∙ ap (λ (x : Option Bool). filed_by x s) w)) k.ran;
-      front = ([], (filed_file first s t o sound same k).0);
-      filed = λ l. (filed_file first s t o sound same k).1
-          ∙ sym (ap (λ (b : Book). b.filed) (book ∙ ap (λ (x : Option Bool). filed_by x s) w));
+filed_on s t true w sound same reports book = λ first before o n k.
+    subst (λ (x : Option Write). IsKept first before t (by_write x n s Done o)) (sym w) (record {
+      ran = same_ran (record { first = first; before = before; marks = o.marks }) s t same reports (ap (λ (b : Book). b.pauses) (book ∙ ap (λ (x : Option Write). filed_by x s) w)) k.ran;
+      front = ([], (filed_file first before s t o sound same k).0);
+      filed = λ l. (filed_file first before s t o sound same k).1
+          ∙ sym (ap (λ (b : Book). b.filed) (book ∙ ap (λ (x : Option Write). filed_by x s) w));
       within = ([], append-nil (o.file ++ lacking s));
       safe = subst (λ (b : Book). IsSafe first b.settled (o.file ++ lacking s))
-          (sym (book ∙ ap (λ (x : Option Bool). filed_by x s) w)) (record {
+          (sym (book ∙ ap (λ (x : Option Write). filed_by x s) w)) (record {
             moment = s.pair;
             pauses = s.book.pauses;
-            ran = k.ran;
+            ran = k.ran.ran;
             rest = [];
-            text = append-nil s.pair.recording.text ∙ sym (all_of first s o k sound);
+            text = append-nil s.pair.recording.text ∙ sym (all_of first before s o k sound);
             features = least s.pair.recording.telling.counted.features;
           });
     })
 
 -- some of it was written
-some_of : (first : Pair) (s : State) (o : Outside) (n : ℕ) → IsKept first s o
+some_of : (first : Pair) (before : List (ℕ × Act)) (s : State) (o : Outside) (n : ℕ) → IsKept first before s o
     → (rest : List ℕ) × ((o.file ++ take n (lacking s)) ++ rest ≡ s.pair.recording.text)
-some_of first s o n k =
-    let all = left_of first s o k s.book.lost refl in (
+some_of first before s o n k =
+    let all = left_of first before s o k s.book.lost refl in (
       drop n (lacking s) ++ all.0,
       sym (append_assoc (o.file ++ take n (lacking s)) (drop n (lacking s)) all.0)
           ∙ (ap (λ (x : List ℕ). x ++ all.0)
@@ -156,11 +169,12 @@ safe_more first count safe more h = record {
   features = h.features;
 }
 
-lost_kept : (first : Pair) (s t : State) (o p : Outside) → Ran first s.book.pauses s.pair → t.pair ≡ s.pair → t.book ≡ record (s.book) { lost = true }
+lost_kept : (first : Pair) (before : List (ℕ × Act)) (s t : State) (p : Outside) → IsRunOf (record { first = first; before = before; marks = p.marks }) s → t.pair ≡ s.pair
+    → t.reports ≡ s.reports → t.book ≡ record (s.book) { lost = true }
     → (rest : List ℕ) × (p.file ++ rest ≡ s.pair.recording.text) → (rest : List ℕ) × (p.safe ++ rest ≡ p.file)
-    → IsSafe first s.book.settled p.safe → IsKept first t p
-lost_kept first s t o p ran same book front within safe = record {
-  ran = same_ran first s t same (ap (λ (b : Book). b.pauses) book) ran;
+    → IsSafe first s.book.settled p.safe → IsKept first before t p
+lost_kept first before s t p ran same reports book front within safe = record {
+  ran = same_ran (record { first = first; before = before; marks = p.marks }) s t same reports (ap (λ (b : Book). b.pauses) book) ran;
   front = (front.0, front.1 ∙ ap (λ (x : Pair). x.recording.text) (sym same));
   filed = λ l. absurd (false≢true (sym l ∙ ap (λ (b : Book). b.lost) book));
   within = within;
@@ -168,54 +182,64 @@ lost_kept first s t o p ran same book front within safe = record {
 }
 
 -- the file is lost: whatever was answered, it has the first bytes
-lost_on : (first : Pair) (s t : State) (o : Outside) (n : ℕ) (w : Option Bool) (reply : Reply) → t.pair ≡ s.pair
-    → t.book ≡ record (s.book) { lost = true } → IsKept first s o → IsKept first t (outcome_by n w (lacking s) reply o)
-lost_on first s t o n None reply same book k = lost_kept first s t o o k.ran same book k.front k.within k.safe
-lost_on first s t o n (Some false) Done same book k =
-    lost_kept first s t o _ k.ran same book (left_of first s o k s.book.lost refl) (within_more o (lacking s) k.within) k.safe
-lost_on first s t o n (Some true) Done same book k =
-    lost_kept first s t o _ k.ran same book (left_of first s o k s.book.lost refl) ([], append-nil (o.file ++ lacking s))
+lost_on : (first : Pair) (before : List (ℕ × Act)) (s t : State) (o : Outside) (n : ℕ) (forced : Bool) (reply : Reply) → t.pair ≡ s.pair
+    → t.reports ≡ s.reports → t.book ≡ record (s.book) { lost = true } → IsKept first before s o
+    → IsKept first before t (by_write (Some (Record forced)) n s reply o)
+lost_on first before s t o n false Done same reports book k =
+    lost_kept first before s t _ k.ran same reports book (left_of first before s o k s.book.lost refl) (within_more o (lacking s) k.within) k.safe
+lost_on first before s t o n true Done same reports book k =
+    lost_kept first before s t _ k.ran same reports book (left_of first before s o k s.book.lost refl) ([], append-nil (o.file ++ lacking s))
     (subst (λ (x : List ℕ). IsSafe first s.book.settled x) (within_more o (lacking s) k.within).1
     (safe_more first s.book.settled o.safe (within_more o (lacking s) k.within).0 k.safe))
-lost_on first s t o n (Some false) (Bytes bytes) same book k =
-    lost_kept first s t o _ k.ran same book (some_of first s o n k) (within_more o (take n (lacking s)) k.within) k.safe
-lost_on first s t o n (Some false) End same book k =
-    lost_kept first s t o _ k.ran same book (some_of first s o n k) (within_more o (take n (lacking s)) k.within) k.safe
-lost_on first s t o n (Some false) Missing same book k =
-    lost_kept first s t o _ k.ran same book (some_of first s o n k) (within_more o (take n (lacking s)) k.within) k.safe
-lost_on first s t o n (Some false) Found same book k =
-    lost_kept first s t o _ k.ran same book (some_of first s o n k) (within_more o (take n (lacking s)) k.within) k.safe
-lost_on first s t o n (Some false) Nothing same book k =
-    lost_kept first s t o _ k.ran same book (some_of first s o n k) (within_more o (take n (lacking s)) k.within) k.safe
-lost_on first s t o n (Some false) (At ms) same book k =
-    lost_kept first s t o _ k.ran same book (some_of first s o n k) (within_more o (take n (lacking s)) k.within) k.safe
-lost_on first s t o n (Some false) (Took count) same book k =
-    lost_kept first s t o _ k.ran same book (some_of first s o n k) (within_more o (take n (lacking s)) k.within) k.safe
-lost_on first s t o n (Some false) (Failed why) same book k =
-    lost_kept first s t o _ k.ran same book (some_of first s o n k) (within_more o (take n (lacking s)) k.within) k.safe
-lost_on first s t o n (Some false) Short same book k =
-    lost_kept first s t o _ k.ran same book (some_of first s o n k) (within_more o (take n (lacking s)) k.within) k.safe
-lost_on first s t o n (Some true) (Bytes bytes) same book k =
-    lost_kept first s t o _ k.ran same book (some_of first s o n k) (within_more o (take n (lacking s)) k.within) k.safe
-lost_on first s t o n (Some true) End same book k =
-    lost_kept first s t o _ k.ran same book (some_of first s o n k) (within_more o (take n (lacking s)) k.within) k.safe
-lost_on first s t o n (Some true) Missing same book k =
-    lost_kept first s t o _ k.ran same book (some_of first s o n k) (within_more o (take n (lacking s)) k.within) k.safe
-lost_on first s t o n (Some true) Found same book k =
-    lost_kept first s t o _ k.ran same book (some_of first s o n k) (within_more o (take n (lacking s)) k.within) k.safe
-lost_on first s t o n (Some true) Nothing same book k =
-    lost_kept first s t o _ k.ran same book (some_of first s o n k) (within_more o (take n (lacking s)) k.within) k.safe
-lost_on first s t o n (Some true) (At ms) same book k =
-    lost_kept first s t o _ k.ran same book (some_of first s o n k) (within_more o (take n (lacking s)) k.within) k.safe
-lost_on first s t o n (Some true) (Took count) same book k =
-    lost_kept first s t o _ k.ran same book (some_of first s o n k) (within_more o (take n (lacking s)) k.within) k.safe
-lost_on first s t o n (Some true) (Failed why) same book k =
-    lost_kept first s t o _ k.ran same book (some_of first s o n k) (within_more o (take n (lacking s)) k.within) k.safe
-lost_on first s t o n (Some true) Short same book k =
-    lost_kept first s t o _ k.ran same book (some_of first s o n k) (within_more o (take n (lacking s)) k.within) k.safe
+lost_on first before s t o n false (Bytes bytes) same reports book k =
+    lost_kept first before s t _ k.ran same reports book (some_of first before s o n k) (within_more o (take n (lacking s)) k.within) k.safe
+lost_on first before s t o n false End same reports book k =
+    lost_kept first before s t _ k.ran same reports book (some_of first before s o n k) (within_more o (take n (lacking s)) k.within) k.safe
+lost_on first before s t o n false Missing same reports book k =
+    lost_kept first before s t _ k.ran same reports book (some_of first before s o n k) (within_more o (take n (lacking s)) k.within) k.safe
+lost_on first before s t o n false Found same reports book k =
+    lost_kept first before s t _ k.ran same reports book (some_of first before s o n k) (within_more o (take n (lacking s)) k.within) k.safe
+lost_on first before s t o n false Nothing same reports book k =
+    lost_kept first before s t _ k.ran same reports book (some_of first before s o n k) (within_more o (take n (lacking s)) k.within) k.safe
+lost_on first before s t o n false (At ms) same reports book k =
+    lost_kept first before s t _ k.ran same reports book (some_of first before s o n k) (within_more o (take n (lacking s)) k.within) k.safe
+lost_on first before s t o n false (Took count) same reports book k =
+    lost_kept first before s t _ k.ran same reports book (some_of first before s o n k) (within_more o (take n (lacking s)) k.within) k.safe
+lost_on first before s t o n false (Failed why) same reports book k =
+    lost_kept first before s t _ k.ran same reports book (some_of first before s o n k) (within_more o (take n (lacking s)) k.within) k.safe
+lost_on first before s t o n false Short same reports book k =
+    lost_kept first before s t _ k.ran same reports book (some_of first before s o n k) (within_more o (take n (lacking s)) k.within) k.safe
+lost_on first before s t o n true (Bytes bytes) same reports book k =
+    lost_kept first before s t _ k.ran same reports book (some_of first before s o n k) (within_more o (take n (lacking s)) k.within) k.safe
+lost_on first before s t o n true End same reports book k =
+    lost_kept first before s t _ k.ran same reports book (some_of first before s o n k) (within_more o (take n (lacking s)) k.within) k.safe
+lost_on first before s t o n true Missing same reports book k =
+    lost_kept first before s t _ k.ran same reports book (some_of first before s o n k) (within_more o (take n (lacking s)) k.within) k.safe
+lost_on first before s t o n true Found same reports book k =
+    lost_kept first before s t _ k.ran same reports book (some_of first before s o n k) (within_more o (take n (lacking s)) k.within) k.safe
+lost_on first before s t o n true Nothing same reports book k =
+    lost_kept first before s t _ k.ran same reports book (some_of first before s o n k) (within_more o (take n (lacking s)) k.within) k.safe
+lost_on first before s t o n true (At ms) same reports book k =
+    lost_kept first before s t _ k.ran same reports book (some_of first before s o n k) (within_more o (take n (lacking s)) k.within) k.safe
+lost_on first before s t o n true (Took count) same reports book k =
+    lost_kept first before s t _ k.ran same reports book (some_of first before s o n k) (within_more o (take n (lacking s)) k.within) k.safe
+lost_on first before s t o n true (Failed why) same reports book k =
+    lost_kept first before s t _ k.ran same reports book (some_of first before s o n k) (within_more o (take n (lacking s)) k.within) k.safe
+lost_on first before s t o n true Short same reports book k =
+    lost_kept first before s t _ k.ran same reports book (some_of first before s o n k) (within_more o (take n (lacking s)) k.within) k.safe
 
-pub lost_goes : (s t : State) (reply : Reply) → t.pair ≡ s.pair → t.book ≡ record (s.book) { lost = true } → GoesOn s reply t
-lost_goes s t reply same book = λ first o n k. lost_on first s t o n (writes s.stage) reply same book k
+record_of : (w : Option Write) → is_record w ≡ true → (forced : Bool) × (w ≡ Some (Record forced))
+record_of None is = absurd (false≢true is)
+record_of (Some (Record forced)) is = (forced, refl)
+record_of (Some Grown) is = absurd (false≢true is)
+record_of (Some Listed) is = absurd (false≢true is)
+record_of (Some Report) is = absurd (false≢true is)
+record_of (Some Whole) is = absurd (false≢true is)
+
+pub lost_goes : (s t : State) (reply : Reply) → is_record (writes s.stage) ≡ true → t.pair ≡ s.pair → t.reports ≡ s.reports → t.book ≡ record (s.book) { lost = true } → GoesOn s reply t
+lost_goes s t reply is same reports book = λ first before o n k.
+    let w = record_of (writes s.stage) is in subst (λ (x : Option Write). IsKept first before t (by_write x n s reply o)) (sym w.1)
+    (lost_on first before s t o n w.0 reply same reports book k)
 
 -- ---- acts and errors
 
@@ -244,7 +268,7 @@ first_lines (suc n) (e ∷ errors) h = (h.0, first_lines n errors h.1)
 
 -- ---- a new session
 
-pub new_kept : (s : State) → s.book ≡ record {
+pub new_kept : (before : List (ℕ × Act)) (s : State) → s.book ≡ record {
   lost = false;
   filed = length s.pair.recording.text;
   settled = s.pair.recording.telling.counted.features;
@@ -252,9 +276,9 @@ pub new_kept : (s : State) → s.book ≡ record {
   keeps = s.book.keeps;
   short = s.book.short;
 }
-    → IsKept s.pair s (record { file = s.pair.recording.text; safe = s.pair.recording.text })
-new_kept s book = record {
-  ran = begins s.book.pauses;
+    → HasReported before s.pair s.reports → IsKept s.pair before s (record { file = s.pair.recording.text; safe = s.pair.recording.text; marks = s.reports.marks })
+new_kept before s book reported = record {
+  ran = record { ran = begins s.book.pauses; reported = reported; same = refl };
   front = ([], append-nil s.pair.recording.text);
   filed = λ l. sym (ap (λ (b : Book). b.filed) book);
   within = ([], append-nil s.pair.recording.text);
@@ -282,13 +306,10 @@ told_errors_keep (Ok a) ps e g h errors lines done some = errors_keep ps e g h e
 told_errors_keep (Err why) ps e g h errors lines done some =
     errors_keep ps e g h (take some.0 errors) (first_lines some.0 errors lines) some.1.added
 
-filed_by_any : (s t : State) (w : Option Bool) → writes s.stage ≡ w → is_some w ≡ true → s.book.lost ≡ false → t.pair ≡ s.pair → t.book ≡ filed s
-    → GoesOn s Done t
-filed_by_any s t None is some sound same book = absurd (false≢true some)
-filed_by_any s t (Some forced) is some sound same book = filed_on s t forced is sound same book
-
-pub filed_goes : (s t : State) → is_some (writes s.stage) ≡ true → s.book.lost ≡ false → t.pair ≡ s.pair → t.book ≡ filed s → GoesOn s Done t
-filed_goes s t some sound same book = filed_by_any s t (writes s.stage) refl some sound same book
+pub filed_goes : (s t : State) → is_record (writes s.stage) ≡ true → s.book.lost ≡ false → t.pair ≡ s.pair → t.reports ≡ s.reports
+    → t.book ≡ filed s → GoesOn s Done t
+filed_goes s t is sound same reports book =
+    let w = record_of (writes s.stage) is in filed_on s t w.0 w.1 sound same reports book
 
 -- ---- the stages that write nothing
 
@@ -304,3 +325,79 @@ arm_on v s t reply is quiet keeps same = moved_on s t reply (ap (λ (x : State).
 
 pub arm : (v s t : State) (reply : Reply) → v ≡ s → writes v.stage ≡ None → Keeps s t → t.book ≡ s.book → GoesOn s reply t
 arm v s t reply is quiet keeps same = arm_on v s t reply is quiet keeps (ap of_file same)
+
+-- ---- the others
+
+-- an answer that is not that it was done
+pub undone : (a : Answer) → (a ≡ answer.Done → ⊥) → is_done (the_reply a) ≡ false
+undone answer.Done not = absurd (not refl)
+undone (answer.Bytes bytes) not = refl
+undone answer.End not = refl
+undone answer.Missing not = refl
+undone answer.Found not = refl
+undone answer.Nothing not = refl
+undone (answer.At ms) not = refl
+undone (answer.Took count) not = refl
+undone (answer.Failed why) not = refl
+undone answer.Short not = refl
+
+-- what it does not write to is the record's file
+other_file : (w : Option Write) → is_record w ≡ false → (n : ℕ) (text : List ℕ) (reply : Reply) (o : Outside) → outcome_by n w text reply o ≡ o
+other_file None is n text reply o = refl
+other_file (Some (Record forced)) is n text reply o = absurd (false≢true (sym is))
+other_file (Some Grown) is n text reply o = refl
+other_file (Some Listed) is n text reply o = refl
+other_file (Some Report) is n text reply o = refl
+other_file (Some Whole) is n text reply o = refl
+
+-- later ones after an answer by which another file was written, or not
+pub noted_goes : (v s t : State) (reply : Reply) → v ≡ s → is_record (writes v.stage) ≡ false → Keeps (answered s reply) t
+    → of_file t.book ≡ of_file s.book → GoesOn s reply t
+noted_goes v s t reply is other keeps same = λ first before o n k.
+    moved first before (answered s reply) t (outcome n s reply o) keeps same
+    (subst (λ (p : Outside). IsKept first before (answered s reply) (record p { marks = marked_at s reply o.marks }))
+    (sym (other_file (writes s.stage) (ap (λ (x : State). is_record (writes x.stage)) (sym is) ∙ other) n (lacking s) reply o)) (record {
+      ran = record { ran = k.ran.ran; reported = k.ran.reported; same = ap (marked_at s reply) k.ran.same };
+      front = k.front;
+      filed = k.filed;
+      within = k.within;
+      safe = k.safe;
+    }))
+
+-- likewise, if nothing else has changed
+pub quiet_keeps : (s t : State) → IsQuiet s t → Keeps s t
+quiet_keeps s t quiet = λ w run. subst (λ (x : State). IsRunOf w x) (sym quiet) run
+
+pub quiet_goes : (v s t : State) (reply : Reply) → v ≡ s → is_record (writes v.stage) ≡ false → IsQuiet (answered s reply) t → GoesOn s reply t
+quiet_goes v s t reply is other quiet = noted_goes v s t reply is other (quiet_keeps (answered s reply) t quiet)
+    (ap (λ (x : State). of_file x.book) quiet)
+
+-- what is known after an answer at a stage that writes this
+pub noted : (s : State) (reply : Reply) (w : Option Write) (done : Bool) → writes s.stage ≡ w → is_done reply ≡ done
+    → with_marks (marked w done s s.reports.marks) s ≡ answered s reply
+noted s reply w done at is = sym (ap (λ (x : Option Write). with_marks (marked x (is_done reply) s s.reports.marks) s) at
+    ∙ ap (λ (b : Bool). with_marks (marked w b s s.reports.marks) s) is)
+
+pub whole_noted : (s : State) (reply : Reply) (done : Bool) → writes s.stage ≡ Some Whole → is_done reply ≡ done
+    → with_marks (marked (Some Whole) done s s.reports.marks) s ≡ answered s reply
+whole_noted s reply done at is = noted s reply (Some Whole) done at is
+
+pub report_noted : (s : State) (reply : Reply) (done : Bool) → s.stage ≡ Stage.Printing → is_done reply ≡ done
+    → with_marks (marked (Some Report) done s s.reports.marks) s ≡ answered s reply
+report_noted s reply done at is = noted s reply (Some Report) done (ap writes at) is
+
+pub contacts_noted : (s : State) (reply : Reply) (done : Bool) → s.stage ≡ Stage.Reporting → is_done reply ≡ done
+    → with_marks (marked (Some Grown) done s s.reports.marks) s ≡ answered s reply
+contacts_noted s reply done at is = noted s reply (Some Grown) done (ap writes at) is
+
+pub features_noted : (s : State) (reply : Reply) (done : Bool) → writes s.stage ≡ Some Listed → is_done reply ≡ done
+    → with_marks (marked (Some Listed) done s s.reports.marks) s ≡ answered s reply
+features_noted s reply done at is = noted s reply (Some Listed) done at is
+
+pub is_other : (st a : Stage) → is_record (writes a) ≡ false → st ≡ a → is_record (writes st) ≡ false
+is_other st a h e = ap (λ (x : Stage). is_record (writes x)) e ∙ h
+
+pub or_other : {X : Type 0} (st a : Stage) → is_record (writes a) ≡ false → (X → is_record (writes st) ≡ false) → (st ≡ a) ⊎ X
+    → is_record (writes st) ≡ false
+or_other st a h f (inl e) = is_other st a h e
+or_other st a h f (inr x) = f x

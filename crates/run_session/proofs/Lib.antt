@@ -5,5 +5,6 @@ pub mod ClientCalls
 pub mod Filing
 pub mod Paces
 pub mod Kept
+pub mod Reporting
 pub mod Moments
 pub mod Pauses

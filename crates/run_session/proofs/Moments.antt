@@ -1,5 +1,5 @@
 -- A run is a list of moments, whose record's file is what a killed run leaves.
-use Rattle.run_session.proofs.Names.{HasFollowed, HasTold, IsAt, pace, Pace, Filed}
+use Rattle.run_session.proofs.Names.{HasFollowed, HasReported, HasTold, IsAt, pace, Pace, Filed}
 use Rattle.run_session.proofs.Names.{[], ◌++◌, ◌+◌, ◌∙◌, ◌∷◌, ◌≡◌, ◌≤◌, Abort, Act, ap, append-nil, append_assoc, AreAsked, AreErrors, AreFit}
 use Rattle.run_session.proofs.Names.{AreWritten, arith, begins, behind_call, behind_calls, behind_moments, Bool, Call, Calls, calls, calls_in}
 use Rattle.run_session.proofs.Names.{ClientEnd, cond, confirms, Connected, done_by, drop, drop-length, end_connected, entry_line, false, false≢true}
@@ -7,6 +7,7 @@ use Rattle.run_session.proofs.Names.{Feed, Fits, Growth, HaveLines, inl, inr, Is
 use Rattle.run_session.proofs.Names.{Moment, new_client_end, numbered, Option, Outside, Pair, possible, Ran, ReadOne, recorded_by, refl, Restart}
 use Rattle.run_session.proofs.Names.{Resume, Send, Sent, State, subst, sym, take, take-append_seam, Tell, tells, told_behind, told_by, told_now, true}
 use Rattle.run_session.proofs.Names.{ℕ}
+use Rattle.contact_ledger.specs.ContactTexts.{contacts_text}
 use Rattle.contact_ledger.specs.Lines.{text_of}
 use Rattle.dmis_program.specs.Meaning.{Meaning}
 use Rattle.dmis_program.specs.Programs.{IsProgram}
@@ -19,6 +20,7 @@ use Rattle.record_text.specs.Tellings.{entries_of}
 use Rattle.run_session.specs.Killed.{IsBegun, IsLeft}
 use Rattle.run_session.proofs.Filing.{grows, has_all}
 use Rattle.run_session.proofs.Kept.{call_keeps, Stays, Reports, call_reports}
+use Rattle.run_session.proofs.Reporting.{all_reported}
 
 same_cond : (b : Bool) (g : Growth) → cond b g g ≡ g
 same_cond true g = refl
@@ -172,11 +174,11 @@ led p part bytes b window ps first q h ran = record {
         ∙ (ap (λ (n : ℕ). numbered n m.reports.more) (ap (λ (x : Pair). x.end.client.table.tally.connection) h.start)
         ∙ ap (numbered b.connection) more_is)
 
-pub killed : (p : Meaning) (part : Option (List ℕ)) (bytes : List ℕ) (b : Beginning) (window : ℕ) (first : Pair) (s : State) (o : Outside)
-    (left : List ℕ) → IsBegun p part bytes b window first → IsKept first s o
+pub killed : (p : Meaning) (part : Option (List ℕ)) (bytes : List ℕ) (b : Beginning) (window : ℕ) (first : Pair) (before : List (ℕ × Act)) (s : State) (o : Outside)
+    (left : List ℕ) → IsBegun p part bytes b window first → IsKept first before s o
     → AreWritten (numbered b.connection s.pair.end.client.table.tally.counted) → IsLeft o left → IsKilledRun p part bytes left
-killed p part bytes b window first s o left h k written is =
-    let l : Led p b window s.pair = led p part bytes b window s.book.pauses first s.pair h k.ran in
+killed p part bytes b window first before s o left h k written is =
+    let l : Led p b window s.pair = led p part bytes b window s.book.pauses first s.pair h k.ran.ran in
     let at = grows first k.safe.pauses k.safe.moment k.safe.ran in
     record {
       begun = b;
@@ -205,17 +207,17 @@ nothing_due e g all =
     (ap (λ (k : ℕ). drop k e.client.table.tally.counted) all ∙ drop-length e.client.table.tally.counted)
     ∙ append-nil g.text
 
-pub whole : (p : Meaning) (part : Option (List ℕ)) (bytes : List ℕ) (b : Beginning) (window : ℕ) (first : Pair) (s : State) (o : Outside)
-    → IsProgram p → IsPartGiven part → AreAsked p.features → IsBegun p part bytes b window first → IsKept first s o
+pub whole : (p : Meaning) (part : Option (List ℕ)) (bytes : List ℕ) (b : Beginning) (window : ℕ) (first : Pair) (before : List (ℕ × Act)) (s : State) (o : Outside)
+    → IsProgram p → IsPartGiven part → AreAsked p.features → IsBegun p part bytes b window first → IsKept first before s o
     → AreWritten (numbered b.connection s.pair.end.client.table.tally.counted)
     → HasFollowed s → s.book.short ≡ false → pace s.stage ≡ Filed → s.book.keeps ≡ true → s.book.lost ≡ false
     → IsRecordOf part p.features s.pair.end.client.table.tally.features
     (b.told ++ numbered b.connection s.pair.end.client.table.tally.counted) o.file
-whole p part bytes b window first s o program given asked h k written followed long filed keeps sound =
+whole p part bytes b window first before s o program given asked h k written followed long filed keeps sound =
     let at : IsAt Filed s = subst (λ (x : Pace). IsAt x s) filed (followed long) in
-    let all : s.pair.recording.told ≡ length s.pair.end.client.table.tally.counted = at.0 keeps in
-    let file : o.file ≡ s.pair.recording.text = has_all first s o k sound at.1 in
-    let l : Led p b window s.pair = led p part bytes b window s.book.pauses first s.pair h k.ran in
+    let all : s.pair.recording.told ≡ length s.pair.end.client.table.tally.counted = at.0.recorded keeps in
+    let file : o.file ≡ s.pair.recording.text = has_all first before s o k sound at.1 in
+    let l : Led p b window s.pair = led p part bytes b window s.book.pauses first s.pair h k.ran.ran in
     let start : ClientEnd = new_client_end p b.features window in
     let says = says_what_was_told p part bytes b window l.moments program given asked h.begins l.fit (subst AreWritten (sym l.told) written) in
     let end : behind_calls (calls_in l.moments) start ≡ s.pair.end =
@@ -232,6 +234,13 @@ whole p part bytes b window first s o program given asked h k written followed l
 
 -- before the client has counted anything, all of it has its line
 pub told : (p : Meaning) (part : Option (List ℕ)) (bytes : List ℕ) (b : Beginning) (window : ℕ) (s : State) → IsBegun p part bytes b window s.pair
-    → HasTold s
-told p part bytes b window s h = λ keeps.
-    ap (λ (x : Pair). x.recording.told) h.start ∙ sym (ap (λ (x : Pair). length x.end.client.table.tally.counted) h.start)
+    → s.reports.told ≡ 0 → HasTold s
+told p part bytes b window s h none =
+    let counted = sym (ap (λ (x : Pair). length x.end.client.table.tally.counted) h.start) in
+    record { recorded = λ keeps. ap (λ (x : Pair). x.recording.told) h.start ∙ counted; reported = λ named. none ∙ counted }
+
+pub contacts : (before : List (ℕ × Act)) (s : State) → HasReported before s.pair s.reports → HasFollowed s → s.book.short ≡ false
+    → pace s.stage ≡ Filed → s.reports.named ≡ true
+    → s.reports.text ≡ contacts_text (before ++ numbered s.reports.number s.pair.end.client.table.tally.counted)
+contacts before s has followed long filed named =
+    let at : IsAt Filed s = subst (λ (x : Pace). IsAt x s) filed (followed long) in all_reported before s has (at.0.reported named)

@@ -1,6 +1,6 @@
 -- How far the record has followed its client.
-use Rattle.run_session.proofs.Names.{[], ◌∙◌, ◌≡◌, ◌≤◌, ◌⊎◌, Abort, ap, Book, Bool, ClientEnd, cond, done_by, drop, Err, false, Filed, Follows, HasFiled}
-use Rattle.run_session.proofs.Names.{HasFollowed, HasTold, IfErr, inl, inr, IsAt, lacking, length, List, of_file, Ok, OnErr, OnOk, pace, Pace, Told}
+use Rattle.run_session.proofs.Names.{[], ◌∙◌, ◌≡◌, ◌≤◌, ◌⊎◌, Abort, Act, ap, Book, Bool, ClientEnd, cond, done_by, drop, Err, false, Filed, Follows, HasFiled}
+use Rattle.run_session.proofs.Names.{HasFollowed, HasTold, IsTold, IfErr, inl, inr, IsAt, lacking, length, List, of_file, Ok, OnErr, OnOk, pace, Pace, Told}
 use Rattle.run_session.proofs.Names.{FollowsTold, refl, Result, Send, Stage, State, StaysTold, subst, sym, true, ℕ}
 use Rattle.std.proofs.lemmas.List.{drop_all}
 use Rattle.client_core.specs.Refusals.{IsSendRefused}
@@ -47,9 +47,10 @@ pub writes_count : {A : Type 0} (r : Result A ClientFault) (b : Bool) (e f g : C
 writes_count (Ok a) b e f g none done refused = same_counts e f g done none
 writes_count (Err why) b e f g none done refused = refused_counts why b e f g none refused
 
-pub stays : (s t : State) → t.pair.recording.told ≡ s.pair.recording.told → t.book.keeps ≡ s.book.keeps → CountsNone s.pair.end t.pair.end
-    → StaysTold s t
-stays s t told keeps none = λ has is. told ∙ (has (sym keeps ∙ is) ∙ sym (ap length none))
+pub stays : (v s : State) (f : ClientEnd) → v ≡ s → CountsNone v.pair.end f → HasTold s
+    → IsTold v.book.keeps v.reports.named v.pair.recording.told v.reports.told (length f.client.table.tally.counted)
+stays v s f is none has = subst (IsTold v.book.keeps v.reports.named v.pair.recording.told v.reports.told)
+    (sym (ap (λ (l : List Act). length l) none)) (subst HasTold (sym is) has)
 
 -- ---- after an answer
 

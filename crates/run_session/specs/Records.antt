@@ -1,8 +1,10 @@
 -- What a run's client and its record are after any answers, and what the record's file has (this profile).
-use Rattle.std.specs.Prelude.{◌≡◌, ◌≤◌, ⊤, ℕ, Bool, true, false, if◌then◌else◌, Option, None, Some, List, [], ◌∷◌, ◌++◌, ◌<◌, length, take, drop}
+use Rattle.std.specs.Prelude.{◌≡◌, ◌≤◌, ◌&&◌, ⊤, ℕ, Bool, true, false, not, if◌then◌else◌, Option, None, Some, List, [], ◌∷◌, ◌++◌, ◌<◌, length, take, drop}
 use Rattle.std.specs.List.{AllByRecursion}
 use Rattle.std.specs.Str.{bytes_eq}
 use Rattle.client_core.specs.Calls.{Call, Send as Sends, behind_call}
+use Rattle.contact_ledger.specs.ContactTexts.{contacts_text}
+use Rattle.contact_ledger.specs.declared.acts.Act.{Act}
 use Rattle.link_world.specs.Reports.{report_text}
 use Rattle.link_world.specs.Showing.{IsRunCall}
 use Rattle.protocol_model.specs.Ends.{ClientEnd}
@@ -10,9 +12,12 @@ use Rattle.protocol_model.specs.declared.states.State.TheVariants as state
 use Rattle.record_text.specs.Entries.{IsRefusal, kept_error}
 use Rattle.record_text.specs.Growths.{Growth, with_errors}
 use Rattle.record_laws.specs.Recordings.{Pair, told_unless}
+use Rattle.record_laws.specs.Told.{numbered}
+use Rattle.effects.specs.declared.vocabulary.Growth as file
 use Rattle.effects.specs.declared.vocabulary.Growth.TheVariants as growth
 use Rattle.effects.specs.declared.vocabulary.Peer.TheVariants.{Server}
-use Rattle.effects.specs.Effects.{Ask, Byte, Append, Keep, Send, Replace, Print, Exit, Reply, Done, Bytes}
+use Rattle.effects.specs.Effects.{Ask, Byte, Exists, Make, Discard, Begin, Append, Keep, Stands, Replace, Extend, Add, Stamp, Now, Sleep, Connect, Limit, Receive, Send, Close, Leave, Print, Say, Exit}
+use Rattle.effects.specs.Effects.{Reply, Done, Bytes}
 use Rattle.order_parts.specs.Ends.{end_shown}
 use Rattle.order_parts.specs.Kept.{IsFeaturesText}
 use Rattle.run_session.specs.declared.stages.Stage.{Stage}
@@ -53,36 +58,113 @@ pub record Book : Type 0 where
   pub keeps : Bool  -- whether there is a record
   pub short : Bool  -- whether memory has run out before the client was on its connection
 
+-- what is known of the files besides the record, and of the report
+pub record Marks : Type 0 where
+  pub filed : ℕ  -- how many bytes of its text the file of contacts has
+  pub lost : Bool  -- whether that could not be kept
+  pub listed : ℕ  -- how many features are in their file, forced to the device
+  pub lists : Bool  -- whether that file grows, and could be kept
+  pub printed : Bool  -- whether the report was printed
+  pub failed : Bool  -- whether a file was not written at the end
+
+-- the file of reported contacts
+pub record Reports : Type 0 where
+  pub named : Bool  -- whether there is one
+  pub number : ℕ  -- of the client's connection
+  pub text : List ℕ  -- all that it is to have
+  pub told : ℕ  -- how many of the acts that the client has counted on its connection are in that
+  pub marks : Marks
+
 pub record State : Type 0 where
   pub stage : Stage
   pub pair : Pair
   pub book : Book
+  pub reports : Reports
   pub text : List ℕ  -- what is printed at the end
   pub list : List ℕ  -- what the features file is to have
+  pub held : ℕ  -- how many features it has then
+  pub shown : ℕ  -- how many features were shown as complete
 
--- both are later so
+-- the text of the acts that were reported before, and then of those that a client has counted on its connection, as many as are known
+abbrev pub reported_text : List (ℕ × Act) → (number told : ℕ) → List Act → List ℕ
+reported_text before number told counted = contacts_text (before ++ numbered number (take told counted))
+
+-- that is what is to be in the file of contacts
+abbrev pub HasReported : List (ℕ × Act) → Pair → Reports → Type 0
+HasReported before p r = (r.told ≤ length p.end.client.table.tally.counted)
+    × (r.text ≡ reported_text before r.number r.told p.end.client.table.tally.counted)
+
+-- before the client has counted any
+abbrev pub first_reports : (named lists : Bool) (number : ℕ) → List (ℕ × Act) → Reports
+first_reports named lists number before = record {
+  named = named;
+  number = number;
+  text = contacts_text before;
+  told = 0;
+  marks = record {
+    filed = length (contacts_text before);
+    lost = false;
+    listed = 0;
+    lists = lists;
+    printed = false;
+    failed = false;
+  };
+}
+
+-- a client and its record at first, the acts that were reported before, and what is known of the files
+pub record Origin : Type 0 where
+  pub first : Pair
+  pub before : List (ℕ × Act)
+  pub marks : Marks
+
+pub record IsRun (w : Origin) (pauses : List ℕ) (p : Pair) (r : Reports) : Type 0 where
+  pub ran : Ran w.first pauses p
+  pub reported : HasReported w.before p r
+  pub same : r.marks ≡ w.marks
+
+abbrev pub IsRunOf : Origin → State → Type 0
+IsRunOf w s = IsRun w s.book.pauses s.pair s.reports
+
+-- both are later so, and nothing else is known of the files
 abbrev pub Keeps : State → State → Type 0
-Keeps s t = (first : Pair) → Ran first s.book.pauses s.pair → Ran first t.book.pauses t.pair
+Keeps s t = (w : Origin) → IsRunOf w s → IsRunOf w t
 
 -- what a run begins with, besides its client
 pub record Start : Type 0 where
   pub growth : Growth
   pub pauses : List ℕ
   pub keeps : Bool
+  pub reports : Reports
 
--- what the record's file has: with what may not be on the device, and what no crash takes away
+-- what the record's file has: with what may not be on the device, and what no crash takes away; and what was answered of the others
 pub record Outside : Type 0 where
   pub file : List ℕ
   pub safe : List ℕ
+  pub marks : Marks
 
 -- what the file lacks of the record's text, if it could be kept so far
 abbrev pub lacking : State → List ℕ
 lacking s = if s.book.lost then [] else drop s.book.filed s.pair.recording.text
 
--- whether a stage writes to the record's file, and forces it to the device
-abbrev pub writes : Stage → Option Bool
-writes stage.Recording = Some false
-writes stage.Settling = Some true
+-- what a stage writes: to the record's file, which is forced to the device or not; to that of contacts; to that of features; the report; and a
+-- whole file
+pub data Write : Type 0 where
+  Record : (forced : Bool) → Write
+  Grown : Write
+  Listed : Write
+  Report : Write
+  Whole : Write
+
+abbrev pub writes : Stage → Option Write
+writes stage.Recording = Some (Record false)
+writes stage.Settling = Some (Record true)
+writes stage.Reporting = Some Grown
+writes stage.BeginningFeatures = Some Listed
+writes stage.Listing = Some Listed
+writes stage.Printing = Some Report
+writes stage.ReplacingFeatures = Some Whole
+writes stage.ReplacingRecord = Some Whole
+writes stage.ReplacingContacts = Some Whole
 writes s = None
 
 -- the file after an answer; one that was not written has the first bytes of what was to be added, n of them
@@ -91,16 +173,46 @@ appended n text Done o = record o { file = o.file ++ text }
 appended n text reply o = record o { file = o.file ++ take n text }
 
 abbrev pub kept : ℕ → List ℕ → Reply → Outside → Outside
-kept n text Done o = record { file = o.file ++ text; safe = o.file ++ text }
+kept n text Done o = record o { file = o.file ++ text; safe = o.file ++ text }
 kept n text reply o = record o { file = o.file ++ take n text }
 
-abbrev pub outcome_by : ℕ → Option Bool → List ℕ → Reply → Outside → Outside
+abbrev pub outcome_by : ℕ → Option Write → List ℕ → Reply → Outside → Outside
 outcome_by n None text reply o = o
-outcome_by n (Some false) text reply o = appended n text reply o
-outcome_by n (Some true) text reply o = kept n text reply o
+outcome_by n (Some (Record false)) text reply o = appended n text reply o
+outcome_by n (Some (Record true)) text reply o = kept n text reply o
+outcome_by n (Some Grown) text reply o = o
+outcome_by n (Some Listed) text reply o = o
+outcome_by n (Some Report) text reply o = o
+outcome_by n (Some Whole) text reply o = o
+
+abbrev pub is_done : Reply → Bool
+is_done Done = true
+is_done reply = false
+
+-- what is known after something was written, or not
+abbrev pub marked : Option Write → (done : Bool) → State → Marks → Marks
+marked None done s m = m
+marked (Some (Record forced)) done s m = m
+marked (Some Grown) true s m = record m { filed = length s.reports.text }
+marked (Some Grown) false s m = record m { lost = true }
+marked (Some Listed) true s m = record m { listed = s.held }
+marked (Some Listed) false s m = record m { lists = false }
+marked (Some Report) true s m = record m { printed = true }
+marked (Some Report) false s m = m
+marked (Some Whole) true s m = m
+marked (Some Whole) false s m = record m { failed = true }
+
+abbrev pub marked_at : State → Reply → Marks → Marks
+marked_at s reply m = marked (writes s.stage) (is_done reply) s m
+
+abbrev pub with_marks : Marks → State → State
+with_marks m s = record s { reports = record (s.reports) { marks = m } }
+
+abbrev pub answered : State → Reply → State
+answered s reply = with_marks (marked_at s reply s.reports.marks) s
 
 abbrev pub outcome : ℕ → State → Reply → Outside → Outside
-outcome n s reply o = outcome_by n (writes s.stage) (lacking s) reply o
+outcome n s reply o = record (outcome_by n (writes s.stage) (lacking s) reply o) { marks = marked_at s reply o.marks }
 
 -- what no crash takes away has all that the record had at some moment of the run, when that many features were complete
 pub record IsSafe (first : Pair) (count : ℕ) (safe : List ℕ) : Type 0 where
@@ -113,8 +225,8 @@ pub record IsSafe (first : Pair) (count : ℕ) (safe : List ℕ) : Type 0 where
 
 -- what holds before each effect: the client and the record are those of a run that has begun; the file has the first bytes of the record's
 -- text, as many as are known unless it could not be kept; and the features that count as settled are safe
-pub record IsKept (first : Pair) (s : State) (o : Outside) : Type 0 where
-  pub ran : Ran first s.book.pauses s.pair
+pub record IsKept (first : Pair) (before : List (ℕ × Act)) (s : State) (o : Outside) : Type 0 where
+  pub ran : IsRunOf (record { first = first; before = before; marks = o.marks }) s
   pub front : (rest : List ℕ) × (o.file ++ rest ≡ s.pair.recording.text)
   pub filed : s.book.lost ≡ false → length o.file ≡ s.book.filed
   pub within : (rest : List ℕ) × (o.safe ++ rest ≡ o.file)
@@ -122,15 +234,20 @@ pub record IsKept (first : Pair) (s : State) (o : Outside) : Type 0 where
 
 -- it holds after an answer, too, however much of a text that was not written the file has
 abbrev pub GoesOn : State → Reply → State → Type 0
-GoesOn s reply t = (first : Pair) (o : Outside) (n : ℕ) → IsKept first s o → IsKept first t (outcome n s reply o)
+GoesOn s reply t = (first : Pair) (before : List (ℕ × Act)) (o : Outside) (n : ℕ) → IsKept first before s o
+    → IsKept first before t (outcome n s reply o)
 
 -- what is known of the file once it has all of the record's text, and that is forced or not
-abbrev pub filed_by : Option Bool → State → Book
-filed_by (Some true) s = record (s.book) {
+abbrev pub filed_by : Option Write → State → Book
+filed_by (Some (Record true)) s = record (s.book) {
   filed = length s.pair.recording.text;
   settled = s.pair.recording.telling.counted.features;
 }
-filed_by forced s = record (s.book) { filed = length s.pair.recording.text }
+filed_by w s = record (s.book) { filed = length s.pair.recording.text }
+
+abbrev pub is_record : Option Write → Bool
+is_record (Some (Record forced)) = true
+is_record w = false
 
 abbrev pub filed : State → Book
 filed s = filed_by (writes s.stage) s
@@ -196,39 +313,87 @@ abbrev pub IsReplace : List ℕ → Ask → Type 0
 IsReplace text (Replace name beside whole) = whole ≡ text
 IsReplace text ask = ⊥
 
-abbrev pub IsAnyReplace : Ask → Type 0
-IsAnyReplace (Replace name beside whole) = ⊤
-IsAnyReplace ask = ⊥
+abbrev pub IsMake : file.Growth → List ℕ → Ask → Type 0
+IsMake kept text (Make one name beside first) = (one ≡ kept) × (first ≡ text)
+IsMake kept text ask = ⊥
 
--- what is asked: the record's file is written, bytes are sent, an operator is waited for, a file is replaced, a report is printed and the
--- program ends only at the stages that say so
-abbrev pub IsQuietAsk : Ask → Type 0
-IsQuietAsk (Append growth.Record text) = ⊥
-IsQuietAsk (Keep growth.Record text) = ⊥
-IsQuietAsk (Send peer bytes) = ⊥
-IsQuietAsk Byte = ⊥
-IsQuietAsk (Replace name beside whole) = ⊥
-IsQuietAsk (Print text) = ⊥
-IsQuietAsk (Exit status) = ⊥
-IsQuietAsk ask = ⊤
+abbrev pub IsExtend : Ask → Type 0
+IsExtend (Extend name) = ⊤
+IsExtend ask = ⊥
 
--- the exit status is 0 only once the client has measured all that was asked for
+abbrev pub IsSay : Ask → Type 0
+IsSay (Say text) = ⊤
+IsSay ask = ⊥
+
+abbrev pub IsExists : Ask → Type 0
+IsExists (Exists name) = ⊤
+IsExists ask = ⊥
+
+abbrev pub IsConnect : Ask → Type 0
+IsConnect (Connect host port ms) = ⊤
+IsConnect ask = ⊥
+
+abbrev pub IsLimit : Ask → Type 0
+IsLimit (Limit peer ms seconds) = peer ≡ Server
+IsLimit ask = ⊥
+
+abbrev pub IsAdd : Ask → Type 0
+IsAdd (Add text) = ⊤
+IsAdd ask = ⊥
+
+-- the client has measured all that was asked for, its report was printed, and no file was left unwritten at the end
+pub record HasDone (s : State) : Type 0 where
+  pub done : s.pair.end.client.state ≡ state.Done
+  pub printed : s.reports.marks.printed ≡ true
+  pub written : s.reports.marks.failed ≡ false
+
+-- the exit status is 0 only then
 abbrev pub IsExit : State → Ask → Type 0
-IsExit s (Exit status) = status ≡ 0 → s.pair.end.client.state ≡ state.Done
+IsExit s (Exit status) = status ≡ 0 → HasDone s
 IsExit s ask = ⊥
 
+-- what each stage asks for, and nothing else
 abbrev pub AsksAt : Stage → State → Ask → Type 0
-AsksAt stage.Recording s ask = ask ≡ Append growth.Record (lacking s)
-AsksAt stage.Settling s ask = ask ≡ Keep growth.Record (lacking s)
+AsksAt stage.Logged s ask = IsExtend ask
+AsksAt stage.Warning s ask = IsSay ask
+AsksAt stage.Beginning s ask = ask ≡ Now
+AsksAt stage.Peeking s ask = IsExists ask
+AsksAt stage.Connecting s ask = IsConnect ask
+AsksAt stage.Elapsing s ask = ask ≡ Now
+AsksAt stage.Pausing s ask = ask ≡ Sleep 100
+AsksAt stage.Limiting s ask = IsLimit ask
+AsksAt stage.MakingFeatures s ask = IsMake growth.Features s.list ask
+AsksAt stage.BeginningFeatures s ask = ask ≡ Begin growth.Features
+AsksAt stage.MakingContacts s ask = IsMake growth.Contacts s.reports.text ask
+AsksAt stage.BeginningContacts s ask = ask ≡ Begin growth.Contacts
+AsksAt stage.Checking s ask = IsExists ask
+AsksAt stage.Timing s ask = ask ≡ Now
+AsksAt stage.Receiving s ask = ask ≡ Receive Server
 AsksAt stage.Sending s ask = ask ≡ Send Server s.pair.end.out
 AsksAt stage.Awaiting s ask = ask ≡ Byte
 AsksAt stage.Returning s ask = ask ≡ Byte
-AsksAt stage.ReplacingRecord s ask = IsReplace s.pair.recording.text ask
+AsksAt stage.Tracing s ask = IsSay ask
+AsksAt stage.Stamping s ask = ask ≡ Stamp
+AsksAt stage.Logging s ask = IsAdd ask
+AsksAt stage.Recording s ask = ask ≡ Append growth.Record (lacking s)
+AsksAt stage.Settling s ask = ask ≡ Keep growth.Record (lacking s)
+AsksAt stage.Reporting s ask = ask ≡ Append growth.Contacts (drop s.reports.marks.filed s.reports.text)
+AsksAt stage.Listing s ask = ask ≡ Keep growth.Features s.list
+AsksAt stage.Showing s ask = IsSay ask
 AsksAt stage.ReplacingFeatures s ask = IsReplace s.list ask
-AsksAt stage.ReplacingContacts s ask = IsAnyReplace ask
 AsksAt stage.Printing s ask = ask ≡ Print s.text
+AsksAt stage.Parting s ask = IsLimit ask
+AsksAt stage.Closing s ask = ask ≡ Close Server
+AsksAt stage.Draining s ask = ask ≡ Receive Server
+AsksAt stage.Leaving s ask = ask ≡ Leave
+AsksAt stage.DiscardingFeatures s ask = ask ≡ Discard growth.Features
+AsksAt stage.DiscardingContacts s ask = ask ≡ Discard growth.Contacts
+AsksAt stage.Standing s ask = ask ≡ Stands growth.Record (length s.pair.recording.text)
+AsksAt stage.ReplacingRecord s ask = IsReplace s.pair.recording.text ask
+AsksAt stage.ReplacingContacts s ask = IsReplace s.reports.text ask
+AsksAt stage.Ending s ask = IsSay ask
+AsksAt stage.Telling s ask = IsSay ask
 AsksAt stage.Exiting s ask = IsExit s ask
-AsksAt st s ask = IsQuietAsk ask
 
 abbrev pub Asks : State → Ask → Type 0
 Asks s ask = AsksAt s.stage s ask
@@ -238,34 +403,59 @@ abbrev pub IsPaused : State → Type 0
 IsPaused s = (1 ≤ length s.book.pauses) × (length s.pair.end.client.table.tally.todo ≤ held s.book.pauses)
 
 -- what holds besides before an effect is asked for: what is printed is the client's report; what replaces the features file are the features
--- that the client holds; what is added to the record without being forced completes no feature; and the operator is asked at a pause
+-- that the client holds; what is added to the record without being forced completes no feature; nothing is added to a file of contacts that
+-- could not be kept; the operator is asked at a pause; and what is shown as complete is on the device
 pub data Want : Type 0 where
-  Report : Want
+  Shown : Want
   Features : Want
   Unforced : Want
+  Kept : Want
   Pause : Want
+  Complete : Want
 
 abbrev pub wants : Stage → Option Want
-wants stage.Printing = Some Report
+wants stage.Printing = Some Shown
+wants stage.MakingFeatures = Some Features
 wants stage.ReplacingFeatures = Some Features
 wants stage.Recording = Some Unforced
+wants stage.Reporting = Some Kept
 wants stage.Awaiting = Some Pause
 wants stage.Returning = Some Pause
+wants stage.Showing = Some Complete
 wants s = None
+
+-- how many features may be shown as complete: those that are in the record on the device, if it could be kept; else those in the features file
+-- on the device, if that could; else those that the client holds
+abbrev pub complete : State → ℕ
+complete s = if s.book.keeps && not s.book.lost then s.book.settled
+    else if s.reports.marks.lists then s.reports.marks.listed else length s.pair.end.client.table.tally.features
 
 abbrev pub IsDueBy : Option Want → State → Type 0
 IsDueBy None s = ⊤
-IsDueBy (Some Report) s = s.text ≡ report_text (end_shown s.pair.end)
+IsDueBy (Some Shown) s = s.text ≡ report_text (end_shown s.pair.end)
 IsDueBy (Some Features) s = IsFeaturesText s.pair.end.client.table.tally.features s.list
 IsDueBy (Some Unforced) s = s.pair.recording.telling.counted.features ≤ s.book.settled
+IsDueBy (Some Kept) s = s.reports.marks.lost ≡ false
 IsDueBy (Some Pause) s = IsPaused s
+IsDueBy (Some Complete) s = s.shown ≤ complete s
 
 abbrev pub IsDue : State → Type 0
 IsDue s = IsDueBy (wants s.stage) s
 
 -- the record has the line of each act that the client has counted, if there is one
+abbrev pub HasLines : State → Type 0
+HasLines s = s.book.keeps ≡ true → s.pair.recording.told ≡ length s.pair.end.client.table.tally.counted
+
+-- likewise what is to be in the file of contacts
+abbrev pub HasActs : State → Type 0
+HasActs s = s.reports.named ≡ true → s.reports.told ≡ length s.pair.end.client.table.tally.counted
+
+pub record IsTold (keeps named : Bool) (lines acts counted : ℕ) : Type 0 where
+  pub recorded : keeps ≡ true → lines ≡ counted
+  pub reported : named ≡ true → acts ≡ counted
+
 abbrev pub HasTold : State → Type 0
-HasTold s = s.book.keeps ≡ true → s.pair.recording.told ≡ length s.pair.end.client.table.tally.counted
+HasTold s = IsTold s.book.keeps s.reports.named s.pair.recording.told s.reports.told (length s.pair.end.client.table.tally.counted)
 
 -- its file has all of its text, or could not be kept
 abbrev pub HasFiled : State → Type 0
@@ -309,4 +499,4 @@ FollowsTold s t = HasTold s → HasFollowed t
 
 -- what is neither the client's nor the record's changes
 abbrev pub IsQuiet : State → State → Type 0
-IsQuiet s t = t ≡ record s { stage = t.stage; text = t.text; list = t.list }
+IsQuiet s t = t ≡ record s { stage = t.stage; text = t.text; list = t.list; held = t.held }

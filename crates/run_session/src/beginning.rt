@@ -1,6 +1,7 @@
 // The connection is made: the files that are replaced begin to grow.
 
 ghost use Rattle.std.specs.Prelude.{◌≡◌, OnOk};
+ghost use Rattle.effects.specs.Effects.{the_reply};
 ghost use Rattle.run_session.specs.Records as spec;
 
 use crate::runs::Kept;
@@ -17,7 +18,7 @@ impl Session {
         ensures due { OnOk result (spec.IsDue self.new) }
         ensures followed { OnOk result (spec.Follows self.old self.new) }
     {
-        if !self.run.grows(Kept::Features) {
+        if !self.listed.is_kept {
             return self.begin_contacts();
         }
         self.listed.whole(self.alloc, &self.client)?;
@@ -32,7 +33,7 @@ impl Session {
         ensures due { OnOk result (spec.IsDue self.new) }
         ensures followed { OnOk result (spec.Follows self.old self.new) }
     {
-        if self.run.grows(Kept::Contacts) {
+        if self.run.reports() {
             self.stage = Stage::MakingContacts;
             Ok(())
         } else {
@@ -66,7 +67,23 @@ impl Session {
         Ok(())
     }
 
-    /// The features file begins, and then that of contacts.
+    /// The features file grows from now on, or cannot be written.
+    pub(crate) fn begun_features(&mut self, answer: Answer<'_>) -> Result<(), AllocError>
+        requires { self.old.stage ≡ Stage.BeginningFeatures }
+        ensures ran { spec.Keeps (spec.answered self.old (the_reply answer.entry)) self.new }
+        ensures book { self.new.book ≡ self.old.book }
+        ensures due { OnOk result (spec.IsDue self.new) }
+        ensures followed { OnOk result (spec.Follows self.old self.new) }
+    {
+        self.note_listed(answer);
+        match answer {
+            Answer::Done => self.begin_contacts(),
+            Answer::Short => Err(AllocError),
+            _ => self.refuse(Kept::Features, answer),
+        }
+    }
+
+    /// The features file is made, and then that of contacts begins.
     pub(crate) fn begin(&mut self, answer: Answer<'_>) -> Result<(), AllocError>
         ensures ran { spec.Keeps self.old self.new }
         ensures book { self.new.book ≡ self.old.book }
@@ -79,18 +96,12 @@ impl Session {
                 self.stage = Stage::BeginningFeatures;
                 Ok(())
             }
-            (Stage::BeginningFeatures, Answer::Done) => {
-                self.listed.settle();
-                self.begin_contacts()
-            }
             (Stage::MakingContacts, Answer::Done | Answer::Found) => {
                 self.stage = Stage::BeginningContacts;
                 Ok(())
             }
             (Stage::BeginningContacts, Answer::Done) => self.join(),
-            (Stage::MakingFeatures | Stage::BeginningFeatures, _) => {
-                self.refuse(Kept::Features, answer)
-            }
+            (Stage::MakingFeatures, _) => self.refuse(Kept::Features, answer),
             _ => self.refuse(Kept::Contacts, answer),
         }
     }

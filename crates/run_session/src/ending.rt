@@ -1,6 +1,7 @@
 // The end of a run: its files get their whole texts, and its report is printed.
 
-ghost use Rattle.std.specs.Prelude.{◌≡◌, OnOk, None};
+ghost use Rattle.std.specs.Prelude.{◌≡◌, OnOk, None, Some};
+ghost use Rattle.effects.specs.Effects.{the_reply};
 ghost use Rattle.run_session.specs.Records as spec;
 
 use crate::runs::Kept;
@@ -40,12 +41,27 @@ impl Session {
         Ok(())
     }
 
-    /// A file could not be written in the end: that is what is said last, unless something else is.
-    fn fail_to_write(&mut self, kept: Kept, answer: Answer<'_>) -> Result<(), AllocError>
-        ensures { self.new ≡ self.old }
+    /// The file that has its whole text at the end.
+    fn replaced_file(&self) -> Kept {
+        match self.stage {
+            Stage::ReplacingFeatures => Kept::Features,
+            Stage::ReplacingRecord => Kept::Record,
+            _ => Kept::Contacts,
+        }
+    }
+
+    /// A file was written at the end, or not: then that is what is said last, unless something else is.
+    #[tactic(auto, using(crate::proofs::Filing::undone, crate::proofs::Filing::whole_noted))]
+    fn note_replaced(&mut self, answer: Answer<'_>) -> Result<(), AllocError>
+        requires { spec.writes self.old.stage ≡ Some spec.Whole }
+        ensures { self.new ≡ spec.answered self.old (the_reply answer.entry) }
     {
+        if let Answer::Done = answer {
+            return Ok(());
+        }
+        self.is_unwritten = true;
         let why = why_unwritten(cause_of(answer));
-        let name = self.run.name(kept);
+        let name = self.run.name(self.replaced_file());
         let line = format!(in self.alloc; "dme: cannot write {name}{why}\n")?;
         if self.verdict.is_empty() {
             self.verdict = line;
@@ -55,17 +71,19 @@ impl Session {
         self.unwritten.push_str(line.as_str())
     }
 
-    /// The report could not be printed.
-    fn fail_to_print(&mut self) -> Result<(), AllocError>
-        ensures quiet { spec.IsQuiet self.old self.new }
+    /// A file has its whole text, or could not be written.
+    pub(crate) fn has_replaced(&mut self, answer: Answer<'_>) -> Result<(), AllocError>
+        requires { spec.writes self.old.stage ≡ Some spec.Whole }
+        ensures quiet { spec.IsQuiet (spec.answered self.old (the_reply answer.entry)) self.new }
         ensures due { OnOk result (spec.IsDue self.new) }
         ensures followed { OnOk result (spec.Follows self.old self.new) }
     {
-        self.unwritten.clear();
-        self.verdict = String::from_str(self.alloc, UNPRINTED)?;
-        self.status = 1;
-        self.stage = Stage::Leaving;
-        Ok(())
+        self.note_replaced(answer)?;
+        match self.stage {
+            Stage::ReplacingFeatures => self.print(),
+            Stage::ReplacingRecord => self.close_contacts(),
+            _ => self.say_last(),
+        }
     }
 
     /// What comes after the report: the server is left in order if it may still end the last command.
@@ -80,23 +98,24 @@ impl Session {
         }
     }
 
-    pub(crate) fn end_on(&mut self, answer: Answer<'_>) -> Result<(), AllocError>
-        ensures quiet { spec.IsQuiet self.old self.new }
+    /// The report was printed, or could not be.
+    #[tactic(auto, using(crate::proofs::Filing::undone, crate::proofs::Filing::report_noted))]
+    pub(crate) fn has_printed(&mut self, answer: Answer<'_>) -> Result<(), AllocError>
+        requires { self.old.stage ≡ Stage.Printing }
+        ensures quiet { spec.IsQuiet (spec.answered self.old (the_reply answer.entry)) self.new }
         ensures due { OnOk result (spec.IsDue self.new) }
         ensures followed { OnOk result (spec.Follows self.old self.new) }
     {
-        match (self.stage, answer) {
-            (Stage::ReplacingFeatures, Answer::Done) => self.print(),
-            (Stage::ReplacingFeatures, _) => {
-                self.fail_to_write(Kept::Features, answer)?;
-                self.print()
-            }
-            (_, Answer::Done) => {
-                self.stage = self.after_report();
-                Ok(())
-            }
-            _ => self.fail_to_print(),
+        if let Answer::Done = answer {
+            self.is_printed = true;
+            self.stage = self.after_report();
+            return Ok(());
         }
+        self.unwritten.clear();
+        self.verdict = String::from_str(self.alloc, UNPRINTED)?;
+        self.status = 1;
+        self.stage = Stage::Leaving;
+        Ok(())
     }
 
     /// The connection is left: what comes before the record is whole.
@@ -134,26 +153,16 @@ impl Session {
         }
     }
 
-    pub(crate) fn close_on(&mut self, answer: Answer<'_>) -> Result<(), AllocError>
+    /// Whether the record stands is known: one that does not gets its whole text.
+    pub(crate) fn has_stood(&mut self, answer: Answer<'_>) -> Result<(), AllocError>
         ensures quiet { spec.IsQuiet self.old self.new }
         ensures due { OnOk result (spec.IsDue self.new) }
         ensures followed { OnOk result (spec.Follows self.old self.new) }
     {
-        match (self.stage, answer) {
-            (Stage::Standing | Stage::ReplacingRecord, Answer::Done) => self.close_contacts(),
-            (Stage::Standing, _) => {
-                self.stage = Stage::ReplacingRecord;
-                Ok(())
-            }
-            (Stage::ReplacingRecord, _) => {
-                self.fail_to_write(Kept::Record, answer)?;
-                self.close_contacts()
-            }
-            (_, Answer::Done) => self.say_last(),
-            _ => {
-                self.fail_to_write(Kept::Contacts, answer)?;
-                self.say_last()
-            }
+        if let Answer::Done = answer {
+            return self.close_contacts();
         }
+        self.stage = Stage::ReplacingRecord;
+        Ok(())
     }
 }

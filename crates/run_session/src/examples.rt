@@ -1,41 +1,82 @@
 // Examples: what is asked and what comes of it. Each function has laws for its contract and does nothing.
 
 ghost use Rattle.std.specs.Prelude.{◌≡◌, ℕ, [], ◌∷◌, true, false, length, Some};
-ghost use Rattle.effects.specs.Effects.{Append, Keep, Send, Byte, Receive, Replace, Print, Exit, Done, Bytes, Short};
+ghost use Rattle.contact_ledger.specs.ContactTexts.{contacts_text};
+ghost use Rattle.contact_ledger.specs.declared.acts.Act.TheVariants.{Homed, HomedIs};
+ghost use Rattle.record_laws.specs.Recordings.{Pair};
+ghost use Rattle.effects.specs.Effects.{Append, Keep, Send, Byte, Receive, Remove, Replace, Print, Exit, Done, Bytes, Short};
 ghost use Rattle.effects.specs.declared.vocabulary.Peer.TheVariants.{Server};
 ghost use Rattle.protocol_model.specs.declared.states.State.TheVariants.{Running};
-ghost use Rattle.effects.specs.declared.vocabulary.Growth.TheVariants.{Record, Features};
-ghost use Rattle.run_session.specs.Records.{State, Outside, IsQuietAsk, AsksAt, IsDue, IsDueBy, Unforced, HasTold, HasFollowed, appended, kept, filed_by, lacking, confirms_pause};
-ghost use Rattle.run_session.specs.declared.stages.Stage.TheVariants.{Recording, Settling, Listing, Showing, Sending, Receiving, Awaiting, Returning, Closing, Ending, Telling, Exiting};
+ghost use Rattle.effects.specs.declared.vocabulary.Growth.TheVariants.{Record, Features, Contacts};
+ghost use Rattle.run_session.specs.Records.{State, Outside, Marks, AsksAt, IsDue, IsDueBy, Unforced, HasTold, HasFollowed, appended, kept, filed_by, lacking, confirms_pause, Reports, HasReported, reported_text, marked_at};
+ghost use Rattle.run_session.specs.declared.stages.Stage.TheVariants.{Recording, Settling, Reporting, ReplacingContacts, Listing, Showing, Sending, Receiving, Awaiting, Returning, Closing, Leaving, Ending, Telling, Exiting};
 
 /// What was added is in the file, and on the device only if it was forced there; of what was not written the file has the first bytes, and
 /// what was safe stays so.
 pub fn file_rows()
-    ensures added { (n : ℕ) → appended n (7 ∷ []) Done (record { file = 5 ∷ []; safe = [] })
-        ≡ record { file = 5 ∷ 7 ∷ []; safe = [] } }
-    ensures forced { (n : ℕ) → kept n (7 ∷ []) Done (record { file = 5 ∷ []; safe = [] })
-        ≡ record { file = 5 ∷ 7 ∷ []; safe = 5 ∷ 7 ∷ [] } }
-    ensures torn { kept 1 (7 ∷ 8 ∷ []) Short (record { file = 5 ∷ []; safe = [] })
-        ≡ record { file = 5 ∷ 7 ∷ []; safe = [] } }
+    ensures added { (n : ℕ) (m : Marks)
+        → appended n (7 ∷ []) Done (record { file = 5 ∷ []; safe = []; marks = m })
+        ≡ record { file = 5 ∷ 7 ∷ []; safe = []; marks = m } }
+    ensures forced { (n : ℕ) (m : Marks)
+        → kept n (7 ∷ []) Done (record { file = 5 ∷ []; safe = []; marks = m })
+        ≡ record { file = 5 ∷ 7 ∷ []; safe = 5 ∷ 7 ∷ []; marks = m } }
+    ensures torn { (m : Marks)
+        → kept 1 (7 ∷ 8 ∷ []) Short (record { file = 5 ∷ []; safe = []; marks = m })
+        ≡ record { file = 5 ∷ 7 ∷ []; safe = []; marks = m } }
 {}
 
-/// What completes a feature is not added without being forced; the record's file is written by two stages only; the features file is another
-/// one; nothing is added to a file that could not be kept; an exit with status 0 is that of a client that is Done; and no other stage sends,
-/// asks the operator, replaces, prints or ends.
+/// What completes a feature is not added without being forced; each file is written by its own stages only, and gets what is due; nothing is
+/// added to a file that could not be kept; an exit with status 0 is that of a client that is Done, with its report printed and no file left
+/// unwritten at the end; and no other stage sends, asks the operator, replaces, removes, prints or ends.
 pub fn ask_rows()
     ensures unforced { (s : State) → s.pair.recording.telling.counted.features ≡ 2
         → s.book.settled ≡ 1 → IsDueBy (Some Unforced) s → ⊥ }
     ensures other_effect { (s : State) → AsksAt Settling s (Append Record (lacking s)) → ⊥ }
     ensures other_stage { (s : State) → AsksAt Sending s (Keep Record (lacking s)) → ⊥ }
-    ensures other_file { IsQuietAsk (Keep Features (7 ∷ [])) }
+    ensures other_file { (s : State) → s.list ≡ [] → AsksAt Listing s (Keep Features (7 ∷ [])) → ⊥ }
+    ensures other_text { (s : State) → s.reports.text ≡ []
+        → AsksAt ReplacingContacts s (Replace [] [] (7 ∷ [])) → ⊥ }
+    ensures other_acts { (s : State) → s.reports.text ≡ 7 ∷ 8 ∷ [] → s.reports.marks.filed ≡ 1
+        → AsksAt Reporting s (Append Contacts (7 ∷ 8 ∷ [])) → ⊥ }
     ensures lost { (s : State) → s.book.lost ≡ true → lacking s ≡ [] }
     ensures exit { (s : State) → s.pair.end.client.state ≡ Running → AsksAt Exiting s (Exit 0) → ⊥ }
+    ensures unwritten { (s : State) → s.reports.marks.failed ≡ true → AsksAt Exiting s (Exit 0) → ⊥ }
+    ensures unreported { (s : State) → s.reports.marks.printed ≡ false → AsksAt Exiting s (Exit 0) → ⊥ }
     ensures failure { (s : State) → AsksAt Exiting s (Exit 3) }
     ensures early { (s : State) → AsksAt Ending s (Exit 0) → ⊥ }
     ensures unsent { (s : State) → AsksAt Showing s (Send Server (7 ∷ [])) → ⊥ }
     ensures unprinted { (s : State) → AsksAt Closing s (Print (7 ∷ [])) → ⊥ }
     ensures untyped { (s : State) → AsksAt Receiving s Byte → ⊥ }
+    ensures unkept { (s : State) → s.stage ≡ Reporting → s.reports.marks.lost ≡ true → IsDue s → ⊥ }
+    ensures removed { (s : State) → AsksAt Leaving s (Remove []) → ⊥ }
     ensures replaced { (s : State) → AsksAt Listing s (Replace [] [] []) → ⊥ }
+{}
+
+/// What is to be in the file of contacts: the acts that were reported before, and then those that the client has counted on its connection, as
+/// many as are known, which are no more than those.
+pub fn report_rows()
+    ensures text { reported_text ((1, Homed) ∷ []) 2 1 (HomedIs true ∷ Homed ∷ [])
+        ≡ contacts_text ((1, Homed) ∷ (2, HomedIs true) ∷ []) }
+    ensures uncounted { (p : Pair) (r : Reports) → p.end.client.table.tally.counted ≡ []
+        → r.told ≡ 1 → HasReported [] p r → ⊥ }
+{}
+
+/// What is shown as complete is on the device: in the record, while that could be kept; or else in the features file, while that could; only
+/// where neither is kept, it is what the client holds. The features file has there what was answered as done, and nothing else.
+pub fn complete_rows()
+    ensures record { (s : State) → s.stage ≡ Showing → s.book.keeps ≡ true
+        → s.book.lost ≡ false → s.book.settled ≡ 1 → s.shown ≡ 2 → IsDue s → ⊥ }
+    ensures lost { (s : State) → s.stage ≡ Showing → s.book.keeps ≡ true → s.book.lost ≡ true
+        → s.reports.marks.lists ≡ true → s.reports.marks.listed ≡ 1 → s.shown ≡ 2 → IsDue s → ⊥ }
+    ensures features { (s : State) → s.stage ≡ Showing → s.book.keeps ≡ false
+        → s.reports.marks.lists ≡ true → s.reports.marks.listed ≡ 1 → s.shown ≡ 2 → IsDue s → ⊥ }
+    ensures neither { (s : State) → s.stage ≡ Showing → s.book.keeps ≡ false
+        → s.reports.marks.lists ≡ false → s.pair.end.client.table.tally.features ≡ []
+        → s.shown ≡ 1 → IsDue s → ⊥ }
+    ensures forced { (s : State) (m : Marks) → s.stage ≡ Listing
+        → marked_at s Done m ≡ record m { listed = s.held } }
+    ensures unforced { (s : State) (m : Marks) → s.stage ≡ Listing
+        → marked_at s Short m ≡ record m { lists = false } }
 {}
 
 /// Nothing is sent before an act that was counted has its line, nor received before the file has it; while it is added the file may lack it;
@@ -47,8 +88,8 @@ pub fn follow_rows()
     ensures unfiled { (s : State) → s.stage ≡ Receiving → s.book.short ≡ false
         → lacking s ≡ 7 ∷ [] → HasFollowed s → ⊥ }
     ensures adding { (s : State) → s.stage ≡ Recording → HasTold s → HasFollowed s }
-    ensures without { (s : State) → s.stage ≡ Sending → s.book.keeps ≡ false → lacking s ≡ []
-        → HasFollowed s }
+    ensures without { (s : State) → s.stage ≡ Sending → s.book.keeps ≡ false
+        → s.reports.named ≡ false → lacking s ≡ [] → HasFollowed s }
     ensures last { (s : State) → s.stage ≡ Telling → HasFollowed s }
 {}
 

@@ -1,6 +1,6 @@
 // What the client has counted goes to the files, and the features that are complete are shown.
 
-ghost use Rattle.std.specs.Prelude.{◌≡◌, ◌<◌, map, length, true, IsNone, IfSome, is_some, OnOk};
+ghost use Rattle.std.specs.Prelude.{◌≡◌, ◌<◌, ◌≤◌, map, length, true, IsNone, IfSome, OnOk, Some};
 ghost use Rattle.effects.specs.Effects.{the_reply};
 ghost use Rattle.record_text.specs.Entries.{IsRefusal, kept_error};
 ghost use Rattle.run_session.specs.Records as spec;
@@ -43,7 +43,7 @@ impl Session {
     fn tell_acts(&mut self) -> Result<(), AllocError>
         ensures ran { spec.Keeps self.old self.new }
         ensures book { self.new.book ≡ self.old.book }
-        ensures told { OnOk result (spec.HasTold self.new) }
+        ensures told { OnOk result (spec.HasLines self.new) }
     {
         self.growth.tell(&self.client)
     }
@@ -52,10 +52,20 @@ impl Session {
     fn tell_errors(&mut self) -> Result<(), AllocError>
         ensures ran { spec.Keeps self.old self.new }
         ensures book { self.new.book ≡ self.old.book }
-        ensures told { spec.StaysTold self.old self.new }
+        ensures told { spec.HasLines self.old → spec.HasLines self.new }
     {
         let errors = with_lines(self.errors.take());
         self.growth.tell_errors(errors.as_slice())
+    }
+
+    /// The file of contacts is to have what the client has counted since. Fails only if out of memory.
+    fn tell_contacts(&mut self) -> Result<(), AllocError>
+        ensures ran { spec.Keeps self.old self.new }
+        ensures book { self.new.book ≡ self.old.book }
+        ensures lines { spec.HasLines self.old → spec.HasLines self.new }
+        ensures told { OnOk result (spec.HasActs self.new) }
+    {
+        self.reported.follow(self.number, &self.client)
     }
 
     /// What the client has counted since, and the errors of its server, are to be in the files.
@@ -70,11 +80,9 @@ impl Session {
             self.tell_errors()?;
         }
         if self.run.contacts.is_some() {
-            self.reported.follow(self.number, &self.client)?;
+            self.tell_contacts()?;
         }
-        if self.run.grows(Kept::Features) {
-            self.listed.follow(self.alloc, &self.client)?;
-        }
+        self.listed.follow(self.alloc, &self.client)?;
         self.show()
     }
 
@@ -174,6 +182,7 @@ impl Session {
         ensures book { self.new.book ≡ spec.filed self.old }
         ensures pauses { self.new.book.pauses ≡ self.old.book.pauses }
         ensures short { self.new.book.short ≡ self.old.book.short }
+        ensures reports { self.new.reports ≡ self.old.reports }
         ensures told { spec.StaysTold self.old self.new }
         ensures whole { spec.HasFiled self.new }
     {
@@ -187,6 +196,7 @@ impl Session {
     fn lose_record(&mut self)
         ensures pair { self.new.pair ≡ self.old.pair }
         ensures book { self.new.book ≡ record (self.old.book) { lost = true } }
+        ensures reports { self.new.reports ≡ self.old.reports }
         ensures told { spec.StaysTold self.old self.new }
         ensures whole { spec.HasFiled self.new }
     {
@@ -195,7 +205,7 @@ impl Session {
 
     /// The record has what it lacked, or cannot be kept.
     pub(crate) fn recorded(&mut self, answer: Answer<'_>) -> Result<(), AllocError>
-        requires { is_some (spec.writes self.old.stage) ≡ true }
+        requires { spec.is_record (spec.writes self.old.stage) ≡ true }
         ensures goes { spec.GoesOn self.old (the_reply answer.entry) self.new }
         ensures pauses { self.new.book.pauses ≡ self.old.book.pauses }
         ensures short { self.new.book.short ≡ self.old.book.short }
@@ -221,7 +231,7 @@ impl Session {
         ensures due { OnOk result (spec.IsDue self.new) }
         ensures followed { OnOk result (spec.Follows self.old self.new) }
     {
-        let is_kept = self.run.grows(Kept::Contacts) && !self.reported.has_failed;
+        let is_kept = self.run.reports() && !self.reported.has_failed;
         if !is_kept || self.reported.lacking().is_empty() {
             return self.list();
         }
@@ -229,18 +239,31 @@ impl Session {
         Ok(())
     }
 
+    /// The file of contacts has all of its text, or could not be kept.
+    #[tactic(auto, using(crate::proofs::Filing::undone, crate::proofs::Filing::contacts_noted))]
+    fn note_reported(&mut self, answer: Answer<'_>)
+        requires { self.old.stage ≡ Stage.Reporting }
+        ensures { self.new ≡ spec.answered self.old (the_reply answer.entry) }
+    {
+        if let Answer::Done = answer {
+            self.reported.settle();
+        } else {
+            self.reported.has_failed = true;
+        }
+    }
+
     /// The file of contacts has it, or cannot be kept.
     pub(crate) fn has_reported(&mut self, answer: Answer<'_>) -> Result<(), AllocError>
-        ensures ran { spec.Keeps self.old self.new }
+        requires { self.old.stage ≡ Stage.Reporting }
+        ensures ran { spec.Keeps (spec.answered self.old (the_reply answer.entry)) self.new }
         ensures book { self.new.book ≡ self.old.book }
         ensures due { OnOk result (spec.IsDue self.new) }
         ensures followed { OnOk result (spec.Follows self.old self.new) }
     {
+        self.note_reported(answer);
         if let Answer::Done = answer {
-            self.reported.settle();
             return self.list();
         }
-        self.reported.has_failed = true;
         let cause = cause_of(answer);
         self.lose(Kept::Contacts, cause, why_unwritten(cause))?;
         self.list()
@@ -253,32 +276,47 @@ impl Session {
         ensures due { OnOk result (spec.IsDue self.new) }
         ensures followed { OnOk result (spec.Follows self.old self.new) }
     {
-        if self.listed.has_failed || self.listed.text.is_empty() {
+        if !self.listed.is_kept || self.listed.text.is_empty() {
             return self.show_features();
         }
         self.stage = Stage::Listing;
         Ok(())
     }
 
+    /// The features file has what it is to have on the device, or cannot be kept.
+    #[tactic(auto, using(crate::proofs::Filing::undone, crate::proofs::Filing::features_noted))]
+    pub(crate) fn note_listed(&mut self, answer: Answer<'_>)
+        requires { spec.writes self.old.stage ≡ Some spec.Listed }
+        ensures { spec.IsQuiet (spec.answered self.old (the_reply answer.entry)) self.new }
+    {
+        if let Answer::Done = answer {
+            self.listed.settle();
+        } else {
+            self.listed.is_kept = false;
+        }
+    }
+
     /// The features file has it, or cannot be kept.
     pub(crate) fn has_listed(&mut self, answer: Answer<'_>) -> Result<(), AllocError>
-        ensures ran { spec.Keeps self.old self.new }
+        requires { self.old.stage ≡ Stage.Listing }
+        ensures ran { spec.Keeps (spec.answered self.old (the_reply answer.entry)) self.new }
         ensures book { self.new.book ≡ self.old.book }
         ensures due { OnOk result (spec.IsDue self.new) }
         ensures followed { OnOk result (spec.Follows self.old self.new) }
     {
-        self.listed.settle();
+        self.note_listed(answer);
         if let Answer::Done = answer {
             return self.show_features();
         }
-        self.listed.has_failed = true;
         let cause = cause_of(answer);
         self.lose(Kept::Features, cause, why_unwritten(cause))?;
         self.show_features()
     }
 
-    /// The line of a feature, by its number among those of the program.
-    fn feature_line(&self, at: usize) -> Result<String, AllocError> {
+    /// The line of a feature that may be shown as complete, by its number among those of the program.
+    fn feature_line(&self, at: usize) -> Result<String, AllocError>
+        requires { at < spec.complete self.now }
+    {
         let total = self.client.program().features().len();
         let number = at.saturating_add(1);
         match self.client.features().get(at) {
@@ -291,7 +329,9 @@ impl Session {
     }
 
     /// The lines of the features up to this one that were not shown.
-    fn feature_lines(&self, count: usize) -> Result<String, AllocError> {
+    fn feature_lines(&self, count: usize) -> Result<String, AllocError>
+        requires { count ≤ spec.complete self.now }
+    {
         let mut lines = String::new(self.alloc);
         for at in self.told..count {
             let line = self.feature_line(at)?;
@@ -300,12 +340,16 @@ impl Session {
         Ok(lines)
     }
 
-    /// How many features may be shown: those that are in the record for good, if it could be kept so far.
-    fn complete(&self) -> usize {
-        if self.run.record.is_none() || self.is_lost {
-            self.client.features().len()
-        } else {
+    /// How many features may be shown: those that are on the device in the record, if it could be kept so far; or else in the features file.
+    fn complete(&self) -> usize
+        ensures { result ≡ spec.complete self.now }
+    {
+        if self.run.record.is_some() && !self.is_lost {
             self.settled
+        } else if self.listed.is_kept {
+            self.listed.settled
+        } else {
+            self.client.features().len()
         }
     }
 

@@ -1,6 +1,8 @@
 // What follows from the definitions. Each function has laws for its contract and does nothing.
 
 ghost use Rattle.std.specs.Prelude.{◌≡◌, ◌++◌, ℕ, List, Option, length, true, false};
+ghost use Rattle.contact_ledger.specs.ContactTexts.{contacts_text};
+ghost use Rattle.contact_ledger.specs.declared.acts.Act.{Act};
 ghost use Rattle.dmis_program.specs.Meaning.{Meaning};
 ghost use Rattle.dmis_program.specs.Programs.{IsProgram};
 ghost use Rattle.record_text.specs.Heads.{IsPartGiven, AreAsked};
@@ -8,7 +10,7 @@ ghost use Rattle.record_laws.specs.Told.{numbered};
 ghost use Rattle.record_text.specs.declared.opening.Beginning.{Beginning};
 ghost use Rattle.record_laws.specs.Recordings.{Pair, AreWritten};
 ghost use Rattle.record_laws.specs.Runs.{IsRecordOf, IsKilledRun};
-ghost use Rattle.run_session.specs.Records.{State, Outside, IsKept, HasFollowed, HasTold, pace, Filed};
+ghost use Rattle.run_session.specs.Records.{State, Outside, IsKept, HasReported, HasFollowed, HasTold, pace, Filed};
 ghost use Rattle.run_session.specs.Killed.{IsBegun, IsLeft};
 
 /// A run that begins as `begin_record` gives it (`IsBegun`):
@@ -19,12 +21,13 @@ ghost use Rattle.run_session.specs.Killed.{IsBegun, IsLeft};
 /// - `whole`: then the file, before whatever is sent, received, shown as complete or printed, unless it could not be kept, holds a record of the
 /// part and the program, in which the completed features are exactly those that the client holds, and the acts exactly those that were found
 /// and then those that it has counted on its connection;
+/// - `contacts`: what the file of contacts is to have, then and when it is written at the end, are the acts that were reported before, and those;
 /// - `killed`: while it is so, its record's file is what a killed run leaves, also if the program is killed and any of what is not on the device
 /// is lost: so `killed_runs_lose_nothing` speaks of it.
 ///
 /// What is assumed: that each act that was counted can be written.
 pub fn runs_keep_their_records()
-    ensures begins { (s : State) → s.book ≡ record {
+    ensures begins { (before : List (ℕ × Act)) (s : State) → s.book ≡ record {
       lost = false;
       filed = length s.pair.recording.text;
       settled = s.pair.recording.telling.counted.features;
@@ -32,14 +35,15 @@ pub fn runs_keep_their_records()
       keeps = s.book.keeps;
       short = s.book.short;
     }
-        → IsKept s.pair s (record {
+        → HasReported before s.pair s.reports → IsKept s.pair before s (record {
           file = s.pair.recording.text;
           safe = s.pair.recording.text;
+          marks = s.reports.marks;
         }) }
     ensures whole { (program : Meaning) (part : Option (List ℕ)) (bytes : List ℕ)
-        (b : Beginning) (window : ℕ) (first : Pair) (s : State) (o : Outside)
-        → IsProgram program → IsPartGiven part → AreAsked program.features
-        → IsBegun program part bytes b window first → IsKept first s o
+        (b : Beginning) (window : ℕ) (first : Pair) (before : List (ℕ × Act)) (s : State)
+        (o : Outside) → IsProgram program → IsPartGiven part → AreAsked program.features
+        → IsBegun program part bytes b window first → IsKept first before s o
         → AreWritten (numbered b.connection s.pair.end.client.table.tally.counted)
         → HasFollowed s → s.book.short ≡ false → pace s.stage ≡ Filed
         → s.book.keeps ≡ true → s.book.lost ≡ false
@@ -47,10 +51,15 @@ pub fn runs_keep_their_records()
         (b.told ++ numbered b.connection s.pair.end.client.table.tally.counted) o.file }
     ensures told { (program : Meaning) (part : Option (List ℕ)) (bytes : List ℕ)
         (b : Beginning) (window : ℕ) (s : State)
-        → IsBegun program part bytes b window s.pair → HasTold s }
+        → IsBegun program part bytes b window s.pair → s.reports.told ≡ 0 → HasTold s }
+    ensures contacts { (before : List (ℕ × Act)) (s : State)
+        → HasReported before s.pair s.reports → HasFollowed s → s.book.short ≡ false
+        → pace s.stage ≡ Filed → s.reports.named ≡ true → s.reports.text ≡ contacts_text
+        (before ++ numbered s.reports.number s.pair.end.client.table.tally.counted) }
     ensures killed { (program : Meaning) (part : Option (List ℕ)) (bytes : List ℕ)
-        (b : Beginning) (window : ℕ) (first : Pair) (s : State) (o : Outside) (left : List ℕ)
-        → IsBegun program part bytes b window first → IsKept first s o
+        (b : Beginning) (window : ℕ) (first : Pair) (before : List (ℕ × Act)) (s : State)
+        (o : Outside) (left : List ℕ)
+        → IsBegun program part bytes b window first → IsKept first before s o
         → AreWritten (numbered b.connection s.pair.end.client.table.tally.counted)
         → IsLeft o left → IsKilledRun program part bytes left }
 {}

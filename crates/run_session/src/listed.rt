@@ -1,6 +1,6 @@
 // The features file, and what it is to have next.
 
-ghost use Rattle.std.specs.Prelude.{OnOk};
+ghost use Rattle.std.specs.Prelude.{◌≡◌, OnOk};
 ghost use Rattle.order_parts.specs.Kept.{IsFeaturesText};
 
 use client_core::Client;
@@ -12,11 +12,13 @@ use std::alloc::{AllocError, Global};
 #[derive(Drop)]
 pub struct Listed {
     /// How many features it has, with those of `text`.
-    held: usize,
+    pub held: usize,
+    /// How many of them are on the device.
+    pub settled: usize,
     /// What it is to have next.
     pub text: Vec<u8>,
-    /// Whether it could not be kept.
-    pub has_failed: bool,
+    /// Whether it grows, and could be kept.
+    pub is_kept: bool,
 }
 
 /// The text by which a features file grows: the features after the first `held`. Fails only if out of memory.
@@ -35,19 +37,24 @@ fn text_after(alloc: Global, client: &Client, held: usize) -> Result<Vec<u8>, Al
 }
 
 impl Listed {
-    /// A file that has nothing.
-    pub fn new(alloc: Global) -> Listed {
+    /// A file that has nothing, and grows or not.
+    pub fn new(alloc: Global, grows: bool) -> Listed
+        ensures settled { result.settled ≡ 0 }
+        ensures kept { result.is_kept ≡ grows }
+    {
         Listed {
             held: 0,
+            settled: 0,
             text: Vec::new(alloc),
-            has_failed: false,
+            is_kept: grows,
         }
     }
 
     /// All features of a client are to be in it. Fails only if out of memory.
     pub fn whole(&mut self, alloc: Global, client: &Client) -> Result<(), AllocError>
-        ensures { OnOk result (IsFeaturesText client.now.client.table.tally.features
+        ensures text { OnOk result (IsFeaturesText client.now.client.table.tally.features
             self.new.text.items) }
+        ensures same { self.new ≡ record self.old { text = self.new.text; held = self.new.held } }
     {
         let mut text = Vec::new(alloc);
         write_features(&mut text, client.features())?;
@@ -56,14 +63,19 @@ impl Listed {
         Ok(())
     }
 
-    /// What was to be written has been.
-    pub fn settle(&mut self) {
+    /// What was to be written is on the device.
+    pub fn settle(&mut self)
+        ensures { self.new ≡ record self.old { text = self.new.text; settled = self.old.held } }
+    {
         self.text.clear();
+        self.settled = self.held;
     }
 
     /// What a client has completed since is to be added, if the file could be kept so far. Fails only if out of memory.
-    pub fn follow(&mut self, alloc: Global, client: &Client) -> Result<(), AllocError> {
-        if self.has_failed {
+    pub fn follow(&mut self, alloc: Global, client: &Client) -> Result<(), AllocError>
+        ensures { self.new ≡ record self.old { text = self.new.text; held = self.new.held } }
+    {
+        if !self.is_kept {
             return Ok(());
         }
         let more = text_after(alloc, client, self.held)?;

@@ -40,7 +40,7 @@ impl Session {
     {
         self.is_asked = true;
         self.shown.push_str(ASKED)?;
-        self.stage = Stage::Showing;
+        self.stage = Stage::Tracing;
         Ok(())
     }
 

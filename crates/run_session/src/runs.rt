@@ -1,5 +1,8 @@
 // What a run is to do.
 
+ghost use Rattle.std.specs.Prelude.{◌≡◌, false};
+ghost use Rattle.std.specs.Option.{option_map_or};
+
 /// A file that is replaced: its name, and whether it grows during the run.
 #[derive(Drop)]
 pub struct Output {
@@ -51,7 +54,9 @@ fn beside_of(file: &Option<Output>) -> &str {
 }
 
 /// Whether a file grows.
-fn grows(file: &Option<Output>) -> bool {
+fn grows(file: &Option<Output>) -> bool
+    ensures { result ≡ option_map_or (λ file. file.grows) file.now false }
+{
     match file {
         Some(file) => file.grows,
         None => false,
@@ -84,8 +89,14 @@ impl Run {
         beside_of(self.file(kept))
     }
 
-    pub(crate) fn grows(&self, kept: Kept) -> bool {
-        grows(self.file(kept))
+    pub(crate) fn lists(&self) -> bool
+        ensures { result ≡ option_map_or (λ file. file.grows) self.now.features false }
+    {
+        grows(&self.features)
+    }
+
+    pub(crate) fn reports(&self) -> bool {
+        grows(&self.contacts)
     }
 
     /// The stop file.

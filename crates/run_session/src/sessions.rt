@@ -1,12 +1,12 @@
 // A session: what it asks, and what it does with an answer.
 
 ghost use Rattle.std.specs.Prelude.{◌≡◌, true, false, length, drop, map, is_some, None, OnOk, IfOk};
+ghost use Rattle.std.specs.Option.{option_map_or};
 ghost use Rattle.effects.specs.Effects.{the_ask, the_reply};
 ghost use Rattle.protocol_model.specs.Ends.{end_connected};
 ghost use Rattle.order_parts.specs.Pauses.{pauses_of, place_seen};
 ghost use Rattle.record_text.specs.Growths.{begun};
 ghost use Rattle.client_core.specs.Clients.{may_connect};
-ghost use Rattle.protocol_model.specs.declared.states.State.TheVariants.{Done};
 ghost use Rattle.run_session.specs.Records as spec;
 
 use crate::calling::NOT_DONE;
@@ -38,6 +38,7 @@ pub struct Begun {
     number: u64,
     growth: Growth,
     reported: Reported,
+    listed: Listed,
     errors: Errors,
     wait: Wait,
     lines: Lines,
@@ -50,12 +51,26 @@ impl Model for Begun {
 
     ghost Value = { Start };
 
-    ghost use Rattle.std.specs.Prelude.{is_some};
+    ghost use Rattle.std.specs.Prelude.{is_some, false};
 
     ghost view = { λ b. record {
       growth = b.growth;
       pauses = b.pauses.items;
       keeps = is_some b.run.record;
+      reports = record {
+        named = is_some b.run.contacts;
+        number = b.number;
+        text = b.reported.text.items;
+        told = b.reported.told;
+        marks = record {
+          filed = b.reported.filed;
+          lost = b.reported.has_failed;
+          listed = b.listed.settled;
+          lists = b.listed.is_kept;
+          printed = false;
+          failed = false;
+        };
+      };
     } };
 }
 
@@ -79,9 +94,13 @@ impl Begun {
         ensures pauses { IfOk result (λ b. b.pauses
             ≡ pauses_of (map place_seen places.items)) }
         ensures keeps { IfOk result (λ b. b.keeps ≡ is_some run.record) }
+        ensures reports { IfOk result (λ b. b.reports
+            ≡ spec.first_reports (is_some run.contacts)
+            (option_map_or (λ file. file.grows) run.features false) number told.now) }
     {
         let pauses = pauses(alloc, places.as_slice())?;
         let reported = Reported::new(alloc, told)?;
+        let listed = Listed::new(alloc, run.lists());
         let kept = client.features().len();
         let growth = Growth::new(number, kept, text);
         if client.connected(number).is_err() {
@@ -96,6 +115,7 @@ impl Begun {
             number,
             growth,
             reported,
+            listed,
             errors,
             wait,
             lines,
@@ -155,6 +175,9 @@ pub struct Session {
     pub(crate) has_ended: bool,
     /// How often it has looked whether a server that is left leaves, too.
     pub(crate) looks: u32,
+    /// Whether the report was printed, and whether a file was not written at the end.
+    pub(crate) is_printed: bool,
+    pub(crate) is_unwritten: bool,
     /// What is added to the log, or printed.
     pub(crate) text: Vec<u8>,
     /// What is said last, and the verdict in it.
@@ -186,8 +209,24 @@ impl Model for Session {
         keeps = is_some s.run.record;
         short = s.is_short;
       };
+      reports = record {
+        named = is_some s.run.contacts;
+        number = s.number;
+        text = s.reported.text.items;
+        told = s.reported.told;
+        marks = record {
+          filed = s.reported.filed;
+          lost = s.reported.has_failed;
+          listed = s.listed.settled;
+          lists = s.listed.is_kept;
+          printed = s.is_printed;
+          failed = s.is_unwritten;
+        };
+      };
       text = s.text.items;
       list = s.listed.text.items;
+      held = s.listed.held;
+      shown = s.told;
     } };
 }
 
@@ -204,6 +243,7 @@ impl Session {
           keeps = begun.keeps;
           short = false;
         } }
+        ensures reports { result.reports ≡ begun.reports }
         ensures due { spec.IsDue result }
         ensures followed { spec.HasTold result → spec.HasFollowed result }
     {
@@ -213,6 +253,7 @@ impl Session {
             number,
             growth,
             reported,
+            listed,
             errors,
             wait,
             lines,
@@ -232,7 +273,7 @@ impl Session {
             filed,
             is_lost: false,
             reported,
-            listed: Listed::new(alloc),
+            listed,
             errors,
             stage: Stage::Logged,
             number,
@@ -260,6 +301,8 @@ impl Session {
             last: Vec::new(alloc),
             has_ended: false,
             looks: 0,
+            is_printed: false,
+            is_unwritten: false,
             text: Vec::new(alloc),
             said: String::new(alloc),
             verdict: String::new(alloc),
@@ -346,14 +389,16 @@ impl Session {
         }
     }
 
-    /// The exit status: 0 only once all that was asked for is measured.
+    /// The exit status: 0 only once all that was asked for is measured and written.
     fn exit_status(&self) -> u8
-        ensures { result ≡ 0 → self.now.pair.end.client.state ≡ Done }
+        ensures { result ≡ 0 → spec.HasDone self.now }
     {
-        if self.status == 0 && self.client.state() != State::Done {
-            NOT_DONE
-        } else {
+        if self.status != 0 {
             self.status
+        } else if self.is_printed && !self.is_unwritten && self.client.state() == State::Done {
+            0
+        } else {
+            NOT_DONE
         }
     }
 
@@ -448,8 +493,10 @@ impl Session {
             Stage::Warning | Stage::Elapsing | Stage::Pausing | Stage::Limiting => {
                 self.call(answer)
             }
-            Stage::MakingFeatures | Stage::BeginningFeatures => self.begin(answer),
-            Stage::MakingContacts | Stage::BeginningContacts => self.begin(answer),
+            Stage::BeginningFeatures => self.begun_features(answer),
+            Stage::MakingFeatures | Stage::MakingContacts | Stage::BeginningContacts => {
+                self.begin(answer)
+            }
             Stage::Checking | Stage::Timing | Stage::Receiving => self.receive(answer),
             Stage::Sending => self.sent(answer),
             Stage::Awaiting | Stage::Returning => self.typed(answer),
@@ -458,13 +505,15 @@ impl Session {
             Stage::Reporting => self.has_reported(answer),
             Stage::Listing => self.has_listed(answer),
             Stage::Showing => self.has_shown(),
-            Stage::ReplacingFeatures | Stage::Printing => self.end_on(answer),
+            Stage::Printing => self.has_printed(answer),
             Stage::Parting | Stage::Closing | Stage::Draining | Stage::Leaving => {
                 self.leave_on(answer)
             }
             Stage::DiscardingFeatures | Stage::DiscardingContacts => self.leave_on(answer),
-            Stage::Standing | Stage::ReplacingRecord => self.close_on(answer),
-            Stage::ReplacingContacts => self.close_on(answer),
+            Stage::Standing => self.has_stood(answer),
+            Stage::ReplacingFeatures | Stage::ReplacingRecord | Stage::ReplacingContacts => {
+                self.has_replaced(answer)
+            }
             Stage::Ending | Stage::Telling | Stage::Exiting => {
                 self.stage = Stage::Exiting;
                 Ok(())

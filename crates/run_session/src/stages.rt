@@ -35,7 +35,7 @@ pub enum Stage {
     /// The operator is to confirm a pause by an empty line: its first byte, and the one after a CR.
     Awaiting,
     Returning,
-    /// The server's errors, and the lines that came or went, are shown.
+    /// The server's errors, the lines that came or went, and what the operator is asked, are shown.
     Tracing,
     /// The time at which the lines did.
     Stamping,

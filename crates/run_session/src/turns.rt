@@ -109,7 +109,7 @@ impl Session {
         Ok(())
     }
 
-    /// The client sends each command that is due, and is not held back.
+    /// The client sends each command that is due, and is not held back, until its run is over.
     fn send_due(&mut self) -> Result<(), AllocError>
         ensures ran { spec.Keeps self.old self.new }
         ensures book { self.new.book ≡ self.old.book }
@@ -117,7 +117,10 @@ impl Session {
         ensures lacks { spec.lacking self.new ≡ spec.lacking self.old }
     {
         for _command in 0..u64::MAX {
-            if self.client.due().is_none() || self.client.unsent() <= self.held() {
+            if self.is_over() || self.client.due().is_none() {
+                break;
+            }
+            if self.client.unsent() <= self.held() {
                 break;
             }
             if let Err(fault) = self.send() {
@@ -134,9 +137,7 @@ impl Session {
         ensures due { OnOk result (spec.IsDue self.new) }
         ensures followed { OnOk result (spec.Follows self.old self.new) }
     {
-        if !self.is_over() {
-            self.send_due()?;
-        }
+        self.send_due()?;
         if self.is_over() {
             return self.end();
         }

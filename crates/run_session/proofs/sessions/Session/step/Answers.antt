@@ -1,5 +1,5 @@
-use Rattle.run_session.proofs.Names.{ap, Book, Filed, refl, Stage, State, the_reply, Told}
-use Rattle.run_session.proofs.Filing.{is_quiet, or_quiet, arm, arm_on}
+use Rattle.run_session.proofs.Names.{ap, Book, Filed, of_file, refl, Stage, State, the_reply, Told}
+use Rattle.run_session.proofs.Filing.{arm, arm_on, is_other, is_quiet, noted_goes, or_other, or_quiet, quiet_goes, quiet_keeps}
 use Rattle.run_session.proofs.Paces.{also_filed, is_paced, on_filed, on_told, or_paced}
 use Rattle.run_session.proofs.sessions.Session.step.Goals as goal
 
@@ -11,13 +11,13 @@ pub returns-in-Warning-clause-goes : goal.returns-in-Warning-clause-goes
 returns-in-Warning-clause-goes c = arm _ c.args.self.now c.call-in-Warning.new.self (the_reply c.args.answer) c.self.view_is
     (or_quiet c.self.inside.stage Stage.Warning refl (or_quiet c.self.inside.stage Stage.Elapsing refl (or_quiet c.self.inside.stage Stage.Pausing refl (is_quiet c.self.inside.stage Stage.Limiting refl))) c.in-Warning.is) c.call-in-Warning.ensures.ran c.call-in-Warning.ensures.book
 
+pub returns-in-BeginningFeatures-clause-goes : goal.returns-in-BeginningFeatures-clause-goes
+returns-in-BeginningFeatures-clause-goes c = noted_goes _ c.args.self.now c.begun_features.new.self (the_reply c.args.answer) c.self.view_is
+    (is_other c.self.inside.stage Stage.BeginningFeatures refl c.in-BeginningFeatures.is) c.begun_features.ensures.ran (ap of_file c.begun_features.ensures.book)
+
 pub returns-in-MakingFeatures-clause-goes : goal.returns-in-MakingFeatures-clause-goes
 returns-in-MakingFeatures-clause-goes c = arm _ c.args.self.now c.begin.new.self (the_reply c.args.answer) c.self.view_is
-    (or_quiet c.self.inside.stage Stage.MakingFeatures refl (is_quiet c.self.inside.stage Stage.BeginningFeatures refl) c.in-MakingFeatures.is) c.begin.ensures.ran c.begin.ensures.book
-
-pub returns-in-MakingContacts-clause-goes : goal.returns-in-MakingContacts-clause-goes
-returns-in-MakingContacts-clause-goes c = arm _ c.args.self.now c.begin-in-MakingContacts.new.self (the_reply c.args.answer) c.self.view_is
-    (or_quiet c.self.inside.stage Stage.MakingContacts refl (is_quiet c.self.inside.stage Stage.BeginningContacts refl) c.in-MakingContacts.is) c.begin-in-MakingContacts.ensures.ran c.begin-in-MakingContacts.ensures.book
+    (or_quiet c.self.inside.stage Stage.MakingFeatures refl (or_quiet c.self.inside.stage Stage.MakingContacts refl (is_quiet c.self.inside.stage Stage.BeginningContacts refl)) c.in-MakingFeatures.is) c.begin.ensures.ran c.begin.ensures.book
 
 pub returns-in-Checking-clause-goes : goal.returns-in-Checking-clause-goes
 returns-in-Checking-clause-goes c = arm _ c.args.self.now c.receive.new.self (the_reply c.args.answer) c.self.view_is
@@ -35,17 +35,31 @@ pub returns-in-Tracing-clause-goes : goal.returns-in-Tracing-clause-goes
 returns-in-Tracing-clause-goes c = arm _ c.args.self.now c.show_on.new.self (the_reply c.args.answer) c.self.view_is
     (or_quiet c.self.inside.stage Stage.Tracing refl (or_quiet c.self.inside.stage Stage.Stamping refl (is_quiet c.self.inside.stage Stage.Logging refl)) c.in-Tracing.is) c.show_on.ensures.ran c.show_on.ensures.book
 
-pub returns-in-Reporting-clause-goes : goal.returns-in-Reporting-clause-goes
-returns-in-Reporting-clause-goes c = arm _ c.args.self.now c.has_reported.new.self (the_reply c.args.answer) c.self.view_is
-    (is_quiet c.self.inside.stage Stage.Reporting refl c.in-Reporting.is) c.has_reported.ensures.ran c.has_reported.ensures.book
-
 pub returns-in-Listing-clause-goes : goal.returns-in-Listing-clause-goes
-returns-in-Listing-clause-goes c = arm _ c.args.self.now c.has_listed.new.self (the_reply c.args.answer) c.self.view_is
-    (is_quiet c.self.inside.stage Stage.Listing refl c.in-Listing.is) c.has_listed.ensures.ran c.has_listed.ensures.book
+returns-in-Listing-clause-goes c = noted_goes _ c.args.self.now c.has_listed.new.self (the_reply c.args.answer) c.self.view_is
+    (is_other c.self.inside.stage Stage.Listing refl c.in-Listing.is) c.has_listed.ensures.ran (ap of_file c.has_listed.ensures.book)
 
 pub returns-in-Showing-clause-goes : goal.returns-in-Showing-clause-goes
 returns-in-Showing-clause-goes c = arm _ c.args.self.now c.has_shown.new.self (the_reply c.args.answer) c.self.view_is
     (is_quiet c.self.inside.stage Stage.Showing refl c.in-Showing.is) c.has_shown.ensures.ran c.has_shown.ensures.book
+
+pub returns-in-Printing-clause-goes : goal.returns-in-Printing-clause-goes
+returns-in-Printing-clause-goes c = quiet_goes _ c.args.self.now c.has_printed.new.self (the_reply c.args.answer) c.self.view_is
+    (is_other c.self.inside.stage Stage.Printing refl c.in-Printing.is) c.has_printed.ensures.quiet
+
+pub returns-in-Standing-clause-goes : goal.returns-in-Standing-clause-goes
+returns-in-Standing-clause-goes c = arm _ c.args.self.now c.has_stood.new.self (the_reply c.args.answer) c.self.view_is
+    (is_quiet c.self.inside.stage Stage.Standing refl c.in-Standing.is) (quiet_keeps c.args.self.now c.has_stood.new.self c.has_stood.ensures.quiet)
+    (ap (λ (s : State). s.book) c.has_stood.ensures.quiet)
+
+pub returns-in-ReplacingFeatures-clause-goes : goal.returns-in-ReplacingFeatures-clause-goes
+returns-in-ReplacingFeatures-clause-goes c = quiet_goes _ c.args.self.now c.has_replaced.new.self (the_reply c.args.answer) c.self.view_is
+    (or_other c.self.inside.stage Stage.ReplacingFeatures refl (or_other c.self.inside.stage Stage.ReplacingRecord refl (is_other c.self.inside.stage Stage.ReplacingContacts refl)) c.in-ReplacingFeatures.is)
+    c.has_replaced.ensures.quiet
+
+pub returns-in-Reporting-clause-goes : goal.returns-in-Reporting-clause-goes
+returns-in-Reporting-clause-goes c = noted_goes _ c.args.self.now c.has_reported.new.self (the_reply c.args.answer) c.self.view_is
+    (is_other c.self.inside.stage Stage.Reporting refl c.in-Reporting.is) c.has_reported.ensures.ran (ap of_file c.has_reported.ensures.book)
 
 pub returns-in-Logged-clause-followed : goal.returns-in-Logged-clause-followed
 returns-in-Logged-clause-followed c = on_filed c.call.result _ c.args.self.now c.call.new.self c.self.view_is
@@ -55,13 +69,13 @@ pub returns-in-Warning-clause-followed : goal.returns-in-Warning-clause-followed
 returns-in-Warning-clause-followed c = on_filed c.call-in-Warning.result _ c.args.self.now c.call-in-Warning.new.self c.self.view_is
     (or_paced Filed c.self.inside.stage Stage.Warning refl (or_paced Filed c.self.inside.stage Stage.Elapsing refl (or_paced Filed c.self.inside.stage Stage.Pausing refl (is_paced Filed c.self.inside.stage Stage.Limiting refl))) c.in-Warning.is) (ap (λ (b : Book). b.short) c.call-in-Warning.ensures.book) c.call-in-Warning.ensures.followed
 
+pub returns-in-BeginningFeatures-clause-followed : goal.returns-in-BeginningFeatures-clause-followed
+returns-in-BeginningFeatures-clause-followed c = on_filed c.begun_features.result _ c.args.self.now c.begun_features.new.self c.self.view_is
+    (is_paced Filed c.self.inside.stage Stage.BeginningFeatures refl c.in-BeginningFeatures.is) (ap (λ (b : Book). b.short) c.begun_features.ensures.book) c.begun_features.ensures.followed
+
 pub returns-in-MakingFeatures-clause-followed : goal.returns-in-MakingFeatures-clause-followed
 returns-in-MakingFeatures-clause-followed c = on_filed c.begin.result _ c.args.self.now c.begin.new.self c.self.view_is
-    (or_paced Filed c.self.inside.stage Stage.MakingFeatures refl (is_paced Filed c.self.inside.stage Stage.BeginningFeatures refl) c.in-MakingFeatures.is) (ap (λ (b : Book). b.short) c.begin.ensures.book) c.begin.ensures.followed
-
-pub returns-in-MakingContacts-clause-followed : goal.returns-in-MakingContacts-clause-followed
-returns-in-MakingContacts-clause-followed c = on_filed c.begin-in-MakingContacts.result _ c.args.self.now c.begin-in-MakingContacts.new.self c.self.view_is
-    (or_paced Filed c.self.inside.stage Stage.MakingContacts refl (is_paced Filed c.self.inside.stage Stage.BeginningContacts refl) c.in-MakingContacts.is) (ap (λ (b : Book). b.short) c.begin-in-MakingContacts.ensures.book) c.begin-in-MakingContacts.ensures.followed
+    (or_paced Filed c.self.inside.stage Stage.MakingFeatures refl (or_paced Filed c.self.inside.stage Stage.MakingContacts refl (is_paced Filed c.self.inside.stage Stage.BeginningContacts refl)) c.in-MakingFeatures.is) (ap (λ (b : Book). b.short) c.begin.ensures.book) c.begin.ensures.followed
 
 pub returns-in-Checking-clause-followed : goal.returns-in-Checking-clause-followed
 returns-in-Checking-clause-followed c = on_filed c.receive.result _ c.args.self.now c.receive.new.self c.self.view_is
@@ -94,3 +108,13 @@ returns-in-Showing-clause-followed c = on_filed c.has_shown.result _ c.args.self
 pub returns-in-Parting-clause-followed : goal.returns-in-Parting-clause-followed
 returns-in-Parting-clause-followed c = on_filed c.leave_on.result _ c.args.self.now c.leave_on.new.self c.self.view_is
     (or_paced Filed c.self.inside.stage Stage.Parting refl (or_paced Filed c.self.inside.stage Stage.Closing refl (or_paced Filed c.self.inside.stage Stage.Draining refl (is_paced Filed c.self.inside.stage Stage.Leaving refl))) c.in-Parting.is) (ap (λ (s : State). s.book.short) c.leave_on.ensures.quiet) c.leave_on.ensures.followed
+
+pub returns-in-Parting-clause-goes : goal.returns-in-Parting-clause-goes
+returns-in-Parting-clause-goes c = arm _ c.args.self.now c.leave_on.new.self (the_reply c.args.answer) c.self.view_is
+    (or_quiet c.self.inside.stage Stage.Parting refl (or_quiet c.self.inside.stage Stage.Closing refl (or_quiet c.self.inside.stage Stage.Draining refl (is_quiet c.self.inside.stage Stage.Leaving refl))) c.in-Parting.is)
+    (quiet_keeps c.args.self.now c.leave_on.new.self c.leave_on.ensures.quiet) (ap (λ (s : State). s.book) c.leave_on.ensures.quiet)
+
+pub returns-in-ReplacingFeatures-clause-followed : goal.returns-in-ReplacingFeatures-clause-followed
+returns-in-ReplacingFeatures-clause-followed c = on_filed c.has_replaced.result _ c.args.self.now c.has_replaced.new.self c.self.view_is
+    (or_paced Filed c.self.inside.stage Stage.ReplacingFeatures refl (or_paced Filed c.self.inside.stage Stage.ReplacingRecord refl (is_paced Filed c.self.inside.stage Stage.ReplacingContacts refl)) c.in-ReplacingFeatures.is)
+    (ap (λ (s : State). s.book.short) c.has_replaced.ensures.quiet) c.has_replaced.ensures.followed
