@@ -3,10 +3,12 @@ use Rattle.dme_words.proofs.Names.{[], ◌∙◌, ◌≡◌, ◌≢◌, ap, App,
 use Rattle.dme_words.proofs.Names.{HasNoValue, IfErr, IfOk, inl, inr, is_simple, IsAmong, IsAskable, IsCalled, IsErrAnd, IsOrderOf, IsRefusal}
 use Rattle.dme_words.proofs.Names.{IsRefusedOf, IsSomeAnd, kind_of, List, None, Ok, Option, refl, Result, Row, Some, subcommand_of}
 use Rattle.dme_words.proofs.Names.{subcommand_rows_of, subst, sym, Text, whole_line}
+use Rattle.std.specs.Prelude.{String}
+use Rattle.std.specs.declared.alloc.Global.{Global}
 use Rattle.clap.specs.declared.parser.matches.ArgMatches.{ArgMatches}
 use Rattle.dme_words.specs.declared.orders.Order.{Order}
 use Rattle.dme_words.specs.declared.words.WordsFault.{WordsFault}
-use Rattle.dme_words.specs.declared.words.WordsFault.TheVariants.{Line, Memory, Misfits, NoCode, NoFindingForm, NoForm, NoPart, NoSeconds}
+use Rattle.dme_words.specs.declared.words.WordsFault.TheVariants.{Control, Line, Memory, Misfits, NoCode, NoFindingForm, NoForm, NoPart, NoSeconds}
 use Rattle.clap.specs.declared.error.Error.{Error}
 use Rattle.clap.specs.declared.error.kind.ErrorKind.TheVariants.{OutOfMemory}
 use Rattle.dme_words.proofs.AskedLemmas.{asked}
@@ -40,7 +42,7 @@ has_no_value a words m fault is none has asks = record {
       ∙ ap (λ (x : App). subcommand_of x words) is) asks;
 }
 
--- no subcommand is refused for a bad line
+-- no subcommand is refused for a bad line, or for a control character
 no_line : (p : Text × List Row) (told : Error) → IsRefusedOf p (Line told) → ⊥
 no_line p told (inl none) = none
 no_line p told (inr (inl (is, none))) = none
@@ -54,13 +56,31 @@ no_line p told (inr (inr (inr (inr (inr (inl (is, none))))))) = none
 no_line p told (inr (inr (inr (inr (inr (inr (inl (is, none)))))))) = none
 no_line p told (inr (inr (inr (inr (inr (inr (inr (is, none)))))))) = none
 
+no_control : (p : Text × List Row) (shown : String Global) → IsRefusedOf p (Control shown) → ⊥
+no_control p shown (inl none) = none
+no_control p shown (inr (inl (is, none))) = none
+no_control p shown (inr (inr (inl (is, none)))) = none
+no_control p shown (inr (inr (inr (inl (is, inl (inl none)))))) = none
+no_control p shown (inr (inr (inr (inl (is, inl (inr (inl none))))))) = none
+no_control p shown (inr (inr (inr (inl (is, inl (inr (inr none))))))) = none
+no_control p shown (inr (inr (inr (inl (is, inr none))))) = none
+no_control p shown (inr (inr (inr (inr (inl (is, none)))))) = none
+no_control p shown (inr (inr (inr (inr (inr (inl (is, none))))))) = none
+no_control p shown (inr (inr (inr (inr (inr (inr (inl (is, none)))))))) = none
+no_control p shown (inr (inr (inr (inr (inr (inr (inr (is, none)))))))) = none
+
 none_called : (found : Option (Text × List Row)) (told : Error) → AsksForNothing found (Line told) → ⊥
 none_called None told asks = asks
 none_called (Some p) told asks = no_line p told asks
 
+none_controlled : (found : Option (Text × List Row)) (shown : String Global) → AsksForNothing found (Control shown) → ⊥
+none_controlled None shown asks = asks
+none_controlled (Some p) shown asks = no_control p shown asks
+
 refused_value : (a : App) (words : List Text) (m : ArgMatches) (fault : WordsFault) → a ≡ whole_line → fault_of a words ≡ []
     → HasMatchesOf a words m → AsksForNothing (subcommand_rows_of m) fault → IsRefusal words fault
 refused_value a words m (Line told) is none has asks = absurd (none_called (subcommand_rows_of m) told asks)
+refused_value a words m (Control shown) is none has asks = absurd (none_controlled (subcommand_rows_of m) shown asks)
 refused_value a words m Memory is none has asks = tt
 refused_value a words m (NoCode code) is none has asks = has_no_value a words m (NoCode code) is none has asks
 refused_value a words m (NoForm word) is none has asks = has_no_value a words m (NoForm word) is none has asks
@@ -89,6 +109,7 @@ asked_or_refused a words (Err error) (Ok order) is kinds has order_is taken call
 asked_or_refused a words (Err error) (Err (Line told)) is kinds has order_is taken called =
     (tt, of_this a words error told is kinds called.0 called.1)
 asked_or_refused a words (Err error) (Err Memory) is kinds has order_is taken called = (tt, tt)
+asked_or_refused a words (Err error) (Err (Control shown)) is kinds has order_is taken called = absurd called
 asked_or_refused a words (Err error) (Err (NoCode code)) is kinds has order_is taken called = absurd called
 asked_or_refused a words (Err error) (Err (NoForm word)) is kinds has order_is taken called = absurd called
 asked_or_refused a words (Err error) (Err (NoFindingForm word)) is kinds has order_is taken called = absurd called

@@ -1,6 +1,8 @@
 -- What the words of a command line ask for.
 use Rattle.std.specs.Prelude.{◌≡◌, ◌≢◌, ◌⊎◌, ◌≤◌, ◌||◌, not, ℕ, ℤ, Bool, List, [], ◌∷◌, Option, Some, None, IsSomeAnd, codes, is_some, pos, true, false, unwrap_or}
-use Rattle.std.specs.Prelude.{string_bytes}
+use Rattle.std.specs.Prelude.{string_bytes, nat_le, ◌==◌, ◌&&◌, if◌then◌else◌}
+use Rattle.std.specs.List.{flat_map, list_all}
+use Rattle.session_telling.specs.Visible.{visible}
 use Rattle.std.specs.Option.{option_map}
 use Rattle.std.specs.Str.Parse.{signed_digits_value}
 use Rattle.clap.specs.declared.error.Error.{Error}
@@ -37,7 +39,7 @@ use Rattle.dme_words.specs.declared.orders.Service.{Service}
 use Rattle.dme_words.specs.declared.orders.Simulation.{Simulation}
 use Rattle.dme_words.specs.declared.orders.Watch.{Watch}
 use Rattle.dme_words.specs.declared.words.WordsFault.{WordsFault}
-use Rattle.dme_words.specs.declared.words.WordsFault.TheVariants.{Line, Memory, Misfits, NoCode, NoFindingForm, NoForm, NoPart, NoSeconds}
+use Rattle.dme_words.specs.declared.words.WordsFault.TheVariants.{Control, Line, Memory, Misfits, NoCode, NoFindingForm, NoForm, NoPart, NoSeconds}
 use Rattle.dme_words.specs.declared.misfits.Misfit.{Misfit}
 use Rattle.dme_words.specs.declared.misfits.Misfit.TheVariants as misfit
 use Rattle.dme_words.specs.declared.misfits.Lacks.{Lacks}
@@ -481,10 +483,29 @@ pub record HasNoValue (words : List Text) (fault : WordsFault) : Type 0 where
   pub faultless : fault_of whole_line words ≡ []
   pub named : AsksForNothing (subcommand_of whole_line words) fault
 
--- only a fault of the words is called a bad line; else a value is bad, or options do not go together
+-- a byte that is no control character, and a word of such bytes
+abbrev pub is_shown : ℕ → Bool
+is_shown b = nat_le 32 b && not (b == 127)
+
+abbrev pub is_plain : Text → Bool
+is_plain word = list_all is_shown word
+
+-- the first word that has a control character
+abbrev pub controlled : List Text → Option Text
+controlled [] = None
+controlled (word ∷ words) = if is_plain word then controlled words else Some word
+
+-- it is refused, and shown as people read it; or memory ran out
+abbrev pub IsControl : Text → WordsFault → Type 0
+IsControl word (Control shown) = string_bytes shown ≡ flat_map visible word
+IsControl word Memory = Unit {0}
+IsControl word _ = ⊥
+
+-- only a fault of the words is called a bad line; else a word has a control character, a value is bad, or options do not go together
 abbrev pub IsRefusal : List Text → WordsFault → Type 0
 IsRefusal words (Line error) = HasFault words error
 IsRefusal words Memory = Unit {0}
+IsRefusal words (Control shown) = IsSomeAnd (controlled words) (λ word. IsControl word (Control shown))
 IsRefusal words fault = HasNoValue words fault
 
 -- what an error of `clap` is called: running out of memory exactly if it is that, and a bad line, with its text, if it is any other

@@ -2,9 +2,11 @@
 //!
 //! - `line`: the command line, as `clap` is given it
 //! - `orders`: what words ask for; `misfits`: options that do not go together
+//! - `examples`: rows of what they ask for
 //! - `words`: which of these the words of a command line ask for, or why they ask for nothing
 #![tactic(auto)]
 
+pub mod examples;
 mod line;
 pub mod misfits;
 pub mod orders;

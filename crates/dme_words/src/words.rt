@@ -1,9 +1,10 @@
 // The command line.
 
-ghost use Rattle.std.specs.Prelude.{◌≡◌, ◌≤◌, IfOk, IfErr, OnOk, IsErrAnd, IsSomeAnd, MatchOption, Some, map, true, codes, string_bytes};
+ghost use Rattle.std.specs.Prelude.{◌≡◌, ◌≤◌, IfOk, IfErr, IfSome, OnOk, IsErrAnd, IsSomeAnd, MatchOption, Some, map, true, codes, string_bytes};
 ghost use Rattle.std.specs.Option.{option_map};
 ghost use Rattle.clap.specs.Words.{first_of, found_of, rows_of, subcommand_rows_of};
 ghost use Rattle.client_core.specs.Clients.{is_window};
+ghost use Rattle.dme_words.specs.Ordered as spec;
 ghost use Rattle.dme_words.specs.CommandLine.{audit_line, check_line, explain_line, export_line, judge_line, ledger_line, loop_line, lower_line, report_line, run_line, serve_line, simulate_line, watch_line};
 ghost use Rattle.dme_words.specs.Ordered.{Asks, AsksForNothing, ExportMisfits, Has, HasFlag, HasNoAudit, HasNoExport, HasNoPart, HasNoReview, HasNoRun, HasNoRunValue, HasNoSeconds, HasNoTopic, HasNone, HasNumber, HasValue, IsAnyAuditOf, IsAnyExportOf, IsAskable, IsCalled, IsCheckOf, IsCodeOf, IsConnectionsOf, IsExplainOf, IsFindingFormOf, IsFlagOf, IsJudgeOf, IsLaterAskable, IsLedgerOf, IsLoopOf, IsLowerOf, IsMaybeOf, IsNoCode, IsNoForm, IsNoSeconds, IsNumber, IsNumberOf, IsOrderOf, IsPartOf, IsProgramOf, IsReady, IsRefusal, IsRefusedOf, IsReportOf, IsReviewOf, IsRunOf, IsSecondsOf, IsServeOf, IsSimulateOf, IsValueOf, IsWatchOf, IsWindowOf, NamesItsPart, form_word, is_lacking};
 
@@ -19,6 +20,7 @@ use clap::{ArgMatches, Error};
 use deviations::Form;
 use record_text::is_part;
 use refusal_guide::Topic;
+use session_telling::visible;
 use std::alloc::{AllocError, Global};
 use std::fmt;
 
@@ -33,6 +35,8 @@ const FINDING_FORMS: &str = "\n  [possible values: json]";
 pub enum WordsFault {
     /// A bad command line, or a call for help, with `clap`'s text.
     Line(Error),
+    /// A word with a control character, as people read it.
+    Control(String),
     /// A code that names no refusal.
     NoCode(String),
     /// A word that names no form.
@@ -75,6 +79,10 @@ impl fmt::Display for WordsFault {
     fn fmt<W: fmt::Write>(&self, f: &mut fmt::Formatter<W>) -> fmt::Result {
         match self {
             WordsFault::Line(error) => write!(f, "{error}"),
+            WordsFault::Control(word) => write!(
+                f,
+                "error: control character in '{word}'\n\nFor more information, try '--help'.\n"
+            ),
             WordsFault::NoCode(code) => {
                 write_value(f, code, "<CODE>", ": no refusal has this code")
             }
@@ -714,16 +722,57 @@ fn answered(alloc: Global, answer: Result<ArgMatches, Error>) -> Result<Order, W
     }
 }
 
-/// What the words of a command line ask for. The first word names the program in `clap`'s texts.
-///
-/// Words are a bad line only for a fault that they have; a code is refused only if no refusal has it, a word only if it names no
-/// form, and options only if they do not go together.
-/// Running out of memory is reported as that alone, in building the command, in `clap`, or in copying a value.
-pub fn read_words<'a>(alloc: Global, words: &'a [&'a str]) -> Result<Order, WordsFault>
+/// What words without a control character ask for.
+fn asked<'a>(alloc: Global, words: &'a [&'a str]) -> Result<Order, WordsFault>
     ensures order { IfOk result (Asks (map (λ word. word.now) words.now)) }
     ensures refused { IfErr result (IsRefusal (map (λ word. word.now) words.now)) }
     ensures ready { IfOk result IsReady }
 {
     let command = whole_command(alloc)?;
     answered(alloc, command.try_get_matches_from(words))
+}
+
+/// Whether a byte is no control character.
+fn is_shown(byte: u8) -> bool
+    ensures { result ≡ spec.is_shown byte }
+{
+    byte >= 32 && byte != 127
+}
+
+fn is_plain(word: &[u8]) -> bool
+    ensures { result ≡ spec.is_plain word.now }
+{
+    word.iter().all(|byte| is_shown(*byte))
+}
+
+/// The first word that has a control character.
+fn controlled<'a>(words: &'a [&'a str]) -> Option<&'a str>
+    ensures { option_map (λ word. word.now) result
+        ≡ spec.controlled (map (λ word. word.now) words.now) }
+{
+    for word in words {
+        if !is_plain(word.as_bytes()) {
+            return Some(*word);
+        }
+    }
+    None
+}
+
+/// What the words of a command line ask for. The first word names the program in `clap`'s texts.
+///
+/// A word with a control character is refused before all else, so that no text that names a file has one. Words are a bad line only for a
+/// fault that they have; a code is refused only if no refusal has it, a word only if it names no form, and options only if they do not go
+/// together.
+/// Running out of memory is reported as that alone, in building the command, in `clap`, or in copying a value.
+pub fn read_words<'a>(alloc: Global, words: &'a [&'a str]) -> Result<Order, WordsFault>
+    ensures order { IfOk result (Asks (map (λ word. word.now) words.now)) }
+    ensures refused { IfErr result (IsRefusal (map (λ word. word.now) words.now)) }
+    ensures plain { IfSome (spec.controlled (map (λ word. word.now) words.now))
+        (λ word. IsErrAnd result (spec.IsControl word)) }
+    ensures ready { IfOk result IsReady }
+{
+    if let Some(word) = controlled(words) {
+        return Err(WordsFault::Control(visible(alloc, word.as_bytes())?));
+    }
+    asked(alloc, words)
 }

@@ -1,6 +1,6 @@
 use Rattle.dme_words.proofs.Names.{◌∙◌, ◌≡◌, ap, app_of, is_simple_and_free, map, refl, whole_line}
 use Rattle.dme_words.proofs.WordsLemmas.{asked_or_refused, names_askable}
-use Rattle.dme_words.proofs.words.read_words.Goals as goal
+use Rattle.dme_words.proofs.words.asked.Goals as goal
 
 pub answered-requires : goal.answered-requires
 answered-requires c =
