@@ -15,3 +15,4 @@ pub mod Recorded
 pub mod OfRecords
 pub mod RunErrors
 pub mod Reporting
+pub mod Digests

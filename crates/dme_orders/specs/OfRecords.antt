@@ -18,6 +18,7 @@ use Rattle.dme_orders.specs.Recorded.{IsOfProgram, DiffersAt, features_in, told_
 use Rattle.dme_orders.specs.declared.exporting.Exported.{Exported}
 use Rattle.deviations.specs.declared.entries.Limit.{Limit}
 use Rattle.dme_orders.specs.RunErrors.{errors_in, error_line}
+use Rattle.dme_orders.specs.Digests.{part_line}
 use Rattle.dme_orders.specs.declared.of_records.RecordNotes.{RecordNotes}
 use Rattle.dme_orders.specs.declared.of_records.RecordText.{RecordText}
 use Rattle.dme_orders.specs.declared.of_records.RecordText.TheVariants.{Table, Features, Contacts}
@@ -30,12 +31,13 @@ RefusesRecord held program cause =
     ((label : List ℕ) × (cause ≡ files.OtherProgram label) × DiffersAt held program label) ⊎ (cause ≡ files.Memory)
 
 -- the record is of the program, this is the line of a verdict on its features by its acts, with the status that goes with it, these
--- features are missing, and these lines name the errors in the runs of its features
+-- features are missing, and these lines name the errors in the runs of its features, and its part
 pub record LeavesRecordVerdict (input : RecordInput) (end : ℕ × RecordNotes) (text : List ℕ) : Type 0 where
   pub same : IsOfProgram input.held input.program
   pub verdict : LeavesVerdict input.program (features_in input.held) (told_in input.held) end.0 text
   pub lacks : IsMissing input.program.features (features_in input.held) end.1.missing
   pub errors : string_bytes end.1.errors ≡ flat_map error_line (errors_in input.held)
+  pub part : string_bytes end.1.part ≡ part_line input.held
 
 -- a text in a form: the table of the features, or the text of a features file, or the text of a contacts file
 abbrev pub IsRecordText : RecordText → Option (List Limit) → Meaning → List Feature → List (ℕ × Act) → List ℕ → Type 0

@@ -9,6 +9,7 @@
 //! - `of_records`: a record is audited and exported; `missing`: which features were not measured; `run_errors`: what the
 //!   server reported meanwhile
 //! - `reporting`: the page of a part
+//! - `digests`: by what an auditor knows the files and the part that were judged
 //! - `notes`: what an audit found, and in what a record differs from a program, besides what an order prints
 //! - `preparing`: the files of an order over a connection are read before there is one
 //! - `looping`: a program is run over one connection between both ends
@@ -21,6 +22,7 @@
 mod auditing;
 mod check;
 mod confirming;
+mod digests;
 mod explaining;
 mod exporting;
 mod looping;
@@ -39,6 +41,7 @@ mod verdicts;
 pub use auditing::{AuditFiles, audit_files};
 pub use check::{CheckFault, check_plan};
 pub use confirming::is_confirmed;
+pub use digests::{Judged, JudgedLine};
 pub use explaining::explain;
 pub use exporting::{ExportFiles, Exported, export_files};
 pub use looping::{LoopTask, loop_over};

@@ -16,6 +16,7 @@ ghost use Rattle.dme_orders.specs.Reading.{came};
 ghost use Rattle.dme_orders.specs.Recorded.{IsOfProgram, features_in, told_in};
 
 use crate::auditing::audited;
+use crate::digests::part_line;
 use crate::exporting::{Exported, compared_lines, table_text};
 use crate::missing::{Missing, missing_of};
 use crate::reading::{named_limits, named_setup, program_under, record_from};
@@ -154,6 +155,8 @@ fn audited_part(
 /// What an audit of a record says besides its verdict.
 #[derive(Debug, Drop)]
 pub struct RecordNotes {
+    /// The line of the part that the record names, as `dme: part 0042/7`; empty if it names none.
+    pub part: String,
     /// Which features of the program are missing.
     pub missing: Missing,
     /// A line for each error that the server reported during the run of a feature, as
@@ -163,8 +166,8 @@ pub struct RecordNotes {
 
 /// Reads a setup if one is named, then a record, then a program under the setup's frames, each to the end of its text and understood before
 /// the next is read; audits the record's features by the acts that it says a server reported; and writes the line of the verdict. The answer
-/// is the exit status, 0 if every feature of the record has its run, else 3; which features of the program are missing; and the errors that
-/// the server reported during the run of a feature. A record of another program is `OtherProgram`; its part is not compared.
+/// is the exit status, 0 if every feature of the record has its run, else 3; the part; which features of the program are missing; and the
+/// errors that the server reported during the run of a feature. A record of another program is `OtherProgram`; its part is not compared.
 ///
 /// It writes only once the whole line is there. A file is blamed only for its own first refusal, or because it could not be read.
 pub fn audit_record<S: Source, J: Source, R: Source, W: Sink>(
@@ -179,11 +182,17 @@ pub fn audit_record<S: Source, J: Source, R: Source, W: Sink>(
 {
     let (held, program) = record_input(alloc, files)?;
     of_program(alloc, &held, &program)?;
+    let part = part_line(alloc, &held)?;
     let errors = errors_of(alloc, &held)?;
     let (features, ledger) = parts_of(alloc, held);
     let (status, missing, text) = audited_part(alloc, features, ledger, program)?;
     write_text(sink, text.as_slice())?;
-    Ok((status, RecordNotes { missing, errors }))
+    let notes = RecordNotes {
+        part,
+        missing,
+        errors,
+    };
+    Ok((status, notes))
 }
 
 /// The text of a features file. The features are refused only if they are not the first ones of the program.
