@@ -29,6 +29,8 @@ pub struct Connections {
     client: Option<TcpStream>,
     server: Option<TcpStream>,
     joined: Option<Joined>,
+    /// What was read of a connection that is waited for alone.
+    room: [u8; PIECE],
 }
 
 /// Another handle of a socket, which is not waited for from now on.
@@ -75,6 +77,7 @@ impl Connections {
             client: None,
             server: None,
             joined: None,
+            room: [0; PIECE],
         }
     }
 
@@ -181,9 +184,8 @@ impl Connections {
         };
         match &mut self.joined {
             None => {
-                let mut room = [0u8; PIECE];
-                let count = read_all(stream, &mut room);
-                came.read(&room, count);
+                let count = read_all(stream, &mut self.room);
+                came.read(&self.room, count);
             }
             Some(joined) => {
                 let count = read_all(stream, joined.room.as_mut_slice());

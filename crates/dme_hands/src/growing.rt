@@ -201,12 +201,20 @@ impl Growing {
     }
 
     /// A text is added.
-    pub fn append(&mut self, rt: &HostRuntime, text: &[u8]) -> io::Result<()> {
-        let Growing::Grows(held) = self else {
-            return Ok(());
-        };
-        held.file.write_all(text)?;
-        held.stands(rt)
+    pub fn append(&mut self, text: &[u8]) -> io::Result<()> {
+        match self {
+            Growing::Grows(held) => held.file.write_all(text),
+            _ => Ok(()),
+        }
+    }
+
+    /// Likewise, to a file that must still have its name.
+    pub fn append_named(&mut self, rt: &HostRuntime, text: &[u8]) -> io::Result<()> {
+        self.append(text)?;
+        match self {
+            Growing::Grows(held) => held.stands(rt),
+            _ => Ok(()),
+        }
     }
 
     /// A text is added, and all is forced to the device.

@@ -74,10 +74,7 @@ fn loop_task(
 ) -> Result<u8, OrderFault>
     requires { is_window task.window ≡ true }
 {
-    let (near, far) = match own_connection(rt) {
-        Ok(ends) => ends,
-        Err(error) => return Err(no_connection(&error, is_told)),
-    };
+    let (near, far) = own_connection(rt).map_err(|error| no_connection(&error, is_told))?;
     match loop_ends(rt, &near, &far, task, is_told, is_traced) {
         Ok(ended) => ended.verdict(is_told),
         Err(fault) => Ok(refused(rt, fault, InputFiles::unnamed(rt.alloc()), false)),

@@ -78,10 +78,8 @@ impl Sources {
     pub fn maybe(&mut self, name: Option<String>) -> Option<NamedSource>
         ensures { is_some result ≡ is_some name }
     {
-        match name {
-            Some(name) => Some(self.file(name)),
-            None => None,
-        }
+        let name = name?;
+        Some(self.file(name))
     }
 }
 

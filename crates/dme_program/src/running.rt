@@ -7,25 +7,31 @@ ghost use Rattle.dme_program.specs.Blamed.{OnSetup};
 
 use crate::connecting::loop_program;
 use crate::explaining::{refused, tell_audit};
-use crate::exporting::{explain_topic, export, export_of_record, record_files, report_of_record};
+use crate::exporting::{explain_topic, export, export_of_record, report_of_record};
 use crate::faults::Fault;
 use crate::files::{NamedSource, Sources, file_of};
 use crate::serving::{read_recordings, run_program, serve, watch};
 use crate::version;
 use byte_ports::Writing;
 use dme_orders::{
-    AuditFiles, RecordFiles, SimulationFiles, audit_files, audit_record, check_under_setup,
-    review_program, simulate,
+    AuditFiles, Judged, JudgedLine, RecordFiles, SimulationFiles, audit_files, audit_record,
+    check_under_setup, review_program, simulate,
 };
 use dme_words::{Audit, Check, Lower, Order, RecordAudit, Review, Simulation, read_words};
 use order_parts::{FilesFault, status};
 use program_lowering::{Choices, SourceNames, lower_program};
 use program_review::{FindingForm, FindingStyle};
-use refusal_guide::InputFiles;
+use refusal_guide::{InputFile, InputFiles};
 use std::alloc::{AllocError, Global};
 use std::env;
 use std::io::{self, Write};
 use watched_ends::Job;
+
+/// The command line as it was given.
+fn given_words(rt: HostRuntime) -> Result<Vec<String>, Fault> {
+    let given = env::args(&rt).map_err(|error| Fault::of_words(error.kind()))?;
+    Ok(given.collect::<Vec<String>>(rt.alloc())?)
+}
 
 /// The words of the command line; the first names the program in `clap`'s texts, whatever file it runs from.
 fn words_of(alloc: Global, given: &[String]) -> Result<Vec<&str>, AllocError> {
@@ -35,14 +41,6 @@ fn words_of(alloc: Global, given: &[String]) -> Result<Vec<&str>, AllocError> {
         words.push(word.as_str())?;
     }
     Ok(words)
-}
-
-/// The command line as it was given.
-fn given_words(rt: HostRuntime) -> Result<Vec<String>, Fault> {
-    match env::args(&rt) {
-        Ok(given) => Ok(given.collect::<Vec<String>>(rt.alloc())?),
-        Err(error) => Err(Fault::of_words(error.kind())),
-    }
 }
 
 /// The order that the command line asks for.
@@ -133,14 +131,8 @@ fn lower(rt: HostRuntime, order: Lower) -> Result<u8, AllocError> {
     let mut setup = sources.maybe(order.setup);
     let mut program = sources.file(order.program);
     let mut sink = Writing::new(io::writer(&rt));
-    let lowered = lower_program(
-        rt.alloc(),
-        names,
-        choices,
-        &mut setup,
-        &mut program,
-        &mut sink,
-    );
+    let alloc = rt.alloc();
+    let lowered = lower_program(alloc, names, choices, &mut setup, &mut program, &mut sink);
     let files = program_files(rt, setup, program);
     match lowered {
         Ok(flat) => {
@@ -162,11 +154,7 @@ fn simulate_files(rt: HostRuntime, order: Simulation) -> u8
         schedule: sources.file(order.schedule),
         program: sources.file(order.program),
     };
-    let mut lines = if order.trace {
-        Some(Writing::new(rt.stderr()))
-    } else {
-        None
-    };
+    let mut lines = order.trace.then_some(Writing::new(rt.stderr()));
     let mut sink = Writing::new(io::writer(&rt));
     let simulated = simulate(rt.alloc(), &mut sought, order.window, &mut lines, &mut sink);
     let files = InputFiles {
@@ -178,6 +166,30 @@ fn simulate_files(rt: HostRuntime, order: Simulation) -> u8
     match simulated {
         Ok(state) => status(state),
         Err(fault) => refused(rt, fault, files, order.explain),
+    }
+}
+
+/// A file that was judged. If the audit was carried out, its digest is shown on standard error.
+fn judged(rt: HostRuntime, source: Judged<NamedSource>, is_done: bool) -> InputFile {
+    let (source, digest) = source.finish();
+    let file = source.into_file();
+    if is_done {
+        let name = file.name.as_str();
+        let line = JudgedLine { name, digest };
+        let _ = eprint!(rt; "{line}");
+    }
+    file
+}
+
+/// Likewise, if there is a file.
+fn judged_if_named(
+    rt: HostRuntime,
+    source: Option<Judged<NamedSource>>,
+    is_done: bool,
+) -> InputFile {
+    match source {
+        Some(source) => judged(rt, source, is_done),
+        None => file_of(rt, None),
     }
 }
 
@@ -203,43 +215,48 @@ fn audit_end(
 fn audit(rt: HostRuntime, order: Audit) -> u8 {
     let mut sources = Sources::new(rt, order.explain);
     let mut sought = AuditFiles {
-        setup: sources.file(order.setup),
-        features: sources.file(order.features),
-        contacts: sources.file(order.contacts),
-        program: sources.file(order.program),
+        setup: Judged::new(sources.file(order.setup)),
+        features: Judged::new(sources.file(order.features)),
+        contacts: Judged::new(sources.file(order.contacts)),
+        program: Judged::new(sources.file(order.program)),
     };
     let mut sink = Writing::new(io::writer(&rt));
     let result = audit_files(rt.alloc(), &mut sought, &mut sink);
+    let is_done = result.is_ok();
     let files = InputFiles {
-        setup: sought.setup.into_file(),
-        features: sought.features.into_file(),
-        contacts: sought.contacts.into_file(),
-        program: sought.program.into_file(),
+        setup: judged(rt, sought.setup, is_done),
+        features: judged(rt, sought.features, is_done),
+        contacts: judged(rt, sought.contacts, is_done),
+        program: judged(rt, sought.program, is_done),
         ..InputFiles::unnamed(rt.alloc())
     };
     audit_end(rt, result, files, order.explain)
 }
 
-/// The order `audit` for a record: its exit status. Standard error shows which features are missing, and the errors of the server.
+/// The order `audit` for a record: its exit status. Standard error shows the part, which features are missing, and the errors of the server.
 #[inline(never)]
 fn audit_of_record(rt: HostRuntime, order: RecordAudit) -> u8 {
     let mut sources = Sources::new(rt, order.explain);
+    let setup = sources.maybe(order.setup);
     let mut sought = RecordFiles {
-        setup: sources.maybe(order.setup),
-        record: sources.file(order.record),
-        program: sources.file(order.program),
+        setup: setup.map(Judged::new),
+        record: Judged::new(sources.file(order.record)),
+        program: Judged::new(sources.file(order.program)),
     };
     let mut sink = Writing::new(io::writer(&rt));
-    let result = audit_record(rt.alloc(), &mut sought, &mut sink);
-    let result = match result {
-        Ok((status, notes)) => {
-            let (missing, errors) = (&notes.missing.sentence, &notes.errors);
-            let _ = eprint!(rt; "{missing}{errors}");
-            Ok(status)
-        }
-        Err(fault) => Err(fault),
+    let result = audit_record(rt.alloc(), &mut sought, &mut sink).map(|(status, notes)| {
+        let (part, missing, errors) = (&notes.part, &notes.missing.sentence, &notes.errors);
+        let _ = eprint!(rt; "{part}{missing}{errors}");
+        status
+    });
+    let is_done = result.is_ok();
+    let files = InputFiles {
+        setup: judged_if_named(rt, sought.setup, is_done),
+        record: judged(rt, sought.record, is_done),
+        program: judged(rt, sought.program, is_done),
+        ..InputFiles::unnamed(rt.alloc())
     };
-    audit_end(rt, result, record_files(rt, sought), order.explain)
+    audit_end(rt, result, files, order.explain)
 }
 
 /// Carries out an order: its exit status. None is joined to this function, whose frame would have room for all of them.

@@ -10,6 +10,7 @@ use crate::files::Sources;
 use dme_hands::RealHands;
 use dme_orders::read_setup;
 use dme_words::{Run, Service, Watch};
+use named_files::{Comparison, NamedFiles};
 use refusal_guide::InputFiles;
 use run_opening::Opening;
 use services::{Relay, RelaySession, Service as Values, Session};
@@ -44,10 +45,17 @@ fn setup_of(rt: HostRuntime, name: String, is_explained: bool) -> Result<Setup, 
         setup: source.into_file(),
         ..InputFiles::unnamed(rt.alloc())
     };
-    match read {
-        Ok(setup) => Ok(setup),
-        Err(fault) => Err(refused(rt, fault, files, is_explained)),
-    }
+    read.map_err(|fault| refused(rt, fault, files, is_explained))
+}
+
+/// The exit status, if a file of these that is written is another of them.
+fn meeting(rt: HostRuntime, files: NamedFiles) -> Option<u8> {
+    let mut comparison = Comparison::new(rt.alloc(), files);
+    let mut hands = RealHands::new(rt);
+    let compared = named_files::run(&mut comparison, &mut hands);
+    drop(comparison);
+    drop(hands);
+    compared.err()
 }
 
 fn serve_with(rt: HostRuntime, service: Values, setup: Setup) -> Result<u8, AllocError> {
@@ -73,6 +81,10 @@ pub fn serve(rt: HostRuntime, order: Service) -> Result<u8, AllocError> {
         timeout: order.timeout,
         stop: order.stop,
     };
+    let files = service.files(rt.alloc(), order.setup.as_str())?;
+    if let Some(status) = meeting(rt, files) {
+        return Ok(status);
+    }
     match setup_of(rt, order.setup, order.explain) {
         Ok(setup) => serve_with(rt, service, setup),
         Err(status) => Ok(status),
@@ -93,6 +105,9 @@ pub fn watch(rt: HostRuntime, order: Watch) -> Result<u8, AllocError> {
         log: order.log,
         timeout: order.timeout,
     };
+    if let Some(status) = meeting(rt, relay.files(rt.alloc())?) {
+        return Ok(status);
+    }
     let mut session = RelaySession::new(rt.alloc(), relay)?;
     let mut hands = RealHands::new(rt);
     let status = services::run_relay(&mut session, &mut hands).unwrap_or(ENDLESS);

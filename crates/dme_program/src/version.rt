@@ -14,10 +14,7 @@ const TOOLCHAIN: &str = "not a release";
 
 /// Whether the words of a command line ask for the version alone.
 pub fn is_asked(words: &[String]) -> bool {
-    match words {
-        [_, word] => word.as_str() == "--version",
-        _ => false,
-    }
+    matches!(words, [_, word] if word.as_str() == "--version")
 }
 
 /// Prints the version, the commit and the toolchain: the exit status.
