@@ -3,7 +3,7 @@
 ghost use Rattle.std.specs.Prelude.{◌<◌};
 
 use crate::values::{Stop, place, summed, summed_bytes};
-use client_core::{Client, ClientFault, State};
+use client_core::{Client, State};
 use contact_ledger::{Feature, FeatureLedger};
 use dme_line::write_point;
 use dmis_program::{Frames, Program};
@@ -20,15 +20,6 @@ const LINES: u32 = 48;
 
 /// More rounds than any program needs.
 const ROUNDS: u32 = 20_000;
-
-impl From<ClientFault> for Stop {
-    fn from(fault: ClientFault) -> Stop {
-        match fault {
-            ClientFault::Memory => Stop::Memory,
-            _ => Stop::Refused,
-        }
-    }
-}
 
 /// The statements of one touch, with those that begin and end its feature.
 fn push_touch(

@@ -22,72 +22,71 @@ use std::process::ExitCode;
 use values::Stop;
 use wire::Side;
 
-fn number(word: &String) -> Result<u64, Stop> {
-    word.as_str().parse().map_err(|_| Stop::Words)
-}
-
-fn print_wire<R: Print>(
-    rt: &R,
-    alloc: Global,
-    side: Side,
-    lines: u64,
-    piece: u64,
-) -> Result<(), Stop> {
-    let piece = usize::try_from(piece).map_err(|_| Stop::Words)?;
-    let count = wire::count_lines(alloc, side, lines, piece)?;
-    let name = side.name();
-    println!(rt; "{count} {name}").map_err(|_| Stop::Refused)
-}
-
-fn print_server<R: Print>(rt: &R, alloc: Global, rounds: u64) -> Result<(), Stop> {
-    let (count, sum) = server::rounds(alloc, rounds)?;
-    println!(rt; "{count} contacts, sum {sum}").map_err(|_| Stop::Refused)
-}
-
-fn print_client<R: Print>(rt: &R, alloc: Global, touches: u64, window: u64) -> Result<(), Stop> {
-    let window = u8::try_from(window).map_err(|_| Stop::Words)?;
-    let (count, sum) = client::touches(alloc, touches, window)?;
-    println!(rt; "{count} points, sum {sum}").map_err(|_| Stop::Refused)
-}
-
-fn print_quiet<R: Print>(rt: &R, alloc: Global, touches: u64, window: u64) -> Result<(), Stop> {
-    let window = u8::try_from(window).map_err(|_| Stop::Words)?;
-    let (count, turns, sum) = quiet::counts(alloc, touches, window)?;
-    println!(rt; "{count} points, {turns} turns, sum {sum}").map_err(|_| Stop::Refused)
-}
-
 /// A few of each, and both windows' ends.
-fn samples<R: Print>(rt: &R, alloc: Global) -> Result<(), Stop> {
-    print_wire(rt, alloc, Side::Commands, 1_000, 7)?;
-    print_wire(rt, alloc, Side::Responses, 1_000, 7)?;
-    print_server(rt, alloc, 500)?;
-    print_client(rt, alloc, 700, 1)?;
-    print_client(rt, alloc, 700, 16)?;
-    print_quiet(rt, alloc, 700, 1)?;
-    print_quiet(rt, alloc, 700, 16)
+const SAMPLES: [&str; 7] = [
+    "wire commands 1000 7",
+    "wire responses 1000 7",
+    "server 500",
+    "client 700 1",
+    "client 700 16",
+    "quiet 700 1",
+    "quiet 700 16",
+];
+
+fn number(word: &str) -> Result<u64, Stop> {
+    word.parse().map_err(|_| Stop::Words)
 }
 
-fn print_words<R: Print>(rt: &R, alloc: Global, words: &[String]) -> Result<(), Stop> {
-    let [_, what, values @ ..] = words else {
-        return Err(Stop::Words);
-    };
-    match (what.as_str(), values) {
-        ("wire", [side, lines, piece]) => {
-            let side = Side::named(side.as_str())?;
-            print_wire(rt, alloc, side, number(lines)?, number(piece)?)
+/// What is counted, in words.
+fn counted(alloc: Global, what: &str, values: &[&str]) -> Result<String, Stop> {
+    match (what, values) {
+        ("wire", [name, lines, piece]) => {
+            let piece = piece.parse().map_err(|_| Stop::Words)?;
+            let count = wire::count_lines(alloc, Side::named(name)?, number(lines)?, piece)?;
+            Ok(format!(in alloc; "{count} {name}")?)
         }
-        ("server", [rounds]) => print_server(rt, alloc, number(rounds)?),
-        ("client", [touches, window]) => print_client(rt, alloc, number(touches)?, number(window)?),
-        ("quiet", [touches, window]) => print_quiet(rt, alloc, number(touches)?, number(window)?),
-        ("samples", []) => samples(rt, alloc),
+        ("server", [rounds]) => {
+            let (count, sum) = server::rounds(alloc, number(rounds)?)?;
+            Ok(format!(in alloc; "{count} contacts, sum {sum}")?)
+        }
+        ("client", [touches, window]) => {
+            let window = window.parse().map_err(|_| Stop::Words)?;
+            let (count, sum) = client::touches(alloc, number(touches)?, window)?;
+            Ok(format!(in alloc; "{count} points, sum {sum}")?)
+        }
+        ("quiet", [touches, window]) => {
+            let window = window.parse().map_err(|_| Stop::Words)?;
+            let (count, turns, sum) = quiet::counts(alloc, number(touches)?, window)?;
+            Ok(format!(in alloc; "{count} points, {turns} turns, sum {sum}")?)
+        }
         _ => Err(Stop::Words),
     }
 }
 
+/// The words of a call, or of each sample.
+fn print_words<R: Print>(rt: &R, alloc: Global, words: &[&str]) -> Result<(), Stop> {
+    let [what, values @ ..] = words else {
+        return Err(Stop::Words);
+    };
+    let line = counted(alloc, what, values)?;
+    println!(rt; "{line}").map_err(|_| Stop::Refused)
+}
+
 fn run<R: Env + Print + AllocGlobal>(rt: &R) -> Result<(), Stop> {
     let given = env::args(rt).ok().ok_or(Stop::Memory)?;
-    let words: Vec<String> = given.collect(rt.alloc())?;
-    print_words(rt, rt.alloc(), words.as_slice())
+    let given: Vec<String> = given.collect(rt.alloc())?;
+    let mut words = Vec::new(rt.alloc());
+    for word in given.as_slice().get(1..).unwrap_or(&[]) {
+        words.push(word.as_str())?;
+    }
+    if words.as_slice() != ["samples"].as_slice() {
+        return print_words(rt, rt.alloc(), words.as_slice());
+    }
+    for sample in SAMPLES {
+        let words: Vec<&str> = sample.split(" ").collect(rt.alloc())?;
+        print_words(rt, rt.alloc(), words.as_slice())?;
+    }
+    Ok(())
 }
 
 fn main(rt: HostRuntime) -> ExitCode {

@@ -8,12 +8,8 @@ use tool_rack::Setup;
 
 const SETUP: &[u8] = b"TOOL P1\nSHIFT 0.002 0 0\nSHIFT 0 0 0.004\n";
 
-fn new_setup(alloc: Global) -> Result<Setup, Stop> {
-    Setup::read(alloc, SETUP).ok().ok_or(Stop::Refused)
-}
-
 fn ran(alloc: Global, touches: u64, window: u8) -> Result<Quiet, Stop> {
-    let setup = new_setup(alloc)?;
+    let setup = Setup::read(alloc, SETUP).ok().ok_or(Stop::Refused)?;
     let mut machine = Simulated::new(alloc, &setup)?;
     let program = new_program(alloc, touches)?;
     match quiet_run(alloc, program, setup, window, &mut machine) {

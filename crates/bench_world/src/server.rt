@@ -2,18 +2,9 @@
 
 use crate::values::{Stop, place, summed_bytes};
 use dme_line::{Command, Tag, write_command};
-use server_core::{Outcome, Server, ServerFault};
+use server_core::{Outcome, Server};
 use std::alloc::Global;
 use tool_rack::Setup;
-
-impl From<ServerFault> for Stop {
-    fn from(fault: ServerFault) -> Stop {
-        match fault {
-            ServerFault::Memory => Stop::Memory,
-            _ => Stop::Refused,
-        }
-    }
-}
 
 /// Takes what the server answered, and adds it to the sum.
 fn take_answers(server: &mut Server, sum: u64) -> u64 {
@@ -31,12 +22,6 @@ fn begin(server: &mut Server, line: &[u8]) -> Result<(), Stop> {
     Ok(())
 }
 
-/// Ends the line that was written, and feeds it as `begin` does.
-fn ask(server: &mut Server, line: &mut Vec<u8>) -> Result<(), Stop> {
-    line.extend_from_slice(b"\r\n")?;
-    begin(server, line.as_slice())
-}
-
 /// Opens a session, asks whether the machine is homed and homes it, and changes to a tool.
 fn make_ready(server: &mut Server) -> Result<(), Stop> {
     server.accept(1)?;
@@ -49,22 +34,26 @@ fn make_ready(server: &mut Server) -> Result<(), Stop> {
     Ok(())
 }
 
+/// Ends the line that was written, feeds it as `begin` does, and ends what runs.
+fn carry_out(server: &mut Server, line: &mut Vec<u8>, outcome: Outcome) -> Result<(), Stop> {
+    line.extend_from_slice(b"\r\n")?;
+    begin(server, line.as_slice())?;
+    server.machine(outcome)?;
+    Ok(())
+}
+
 fn move_to(server: &mut Server, line: &mut Vec<u8>, number: u64) -> Result<(), Stop> {
     let tag = Tag::Std((number % 9999 + 1) as u32);
     line.clear();
     write_command(line, tag, &Command::GoTo(place(number)))?;
-    ask(server, line)?;
-    server.machine(Outcome::Done)?;
-    Ok(())
+    carry_out(server, line, Outcome::Done)
 }
 
 fn touch(server: &mut Server, line: &mut Vec<u8>, number: u64) -> Result<(), Stop> {
     let tag = Tag::Std((number % 9999 + 1) as u32);
     line.clear();
     write_command(line, tag, &Command::PtMeas(place(number), None))?;
-    ask(server, line)?;
-    server.machine(Outcome::Touched(place(number)))?;
-    Ok(())
+    carry_out(server, line, Outcome::Touched(place(number)))
 }
 
 /// A move and a touch. Each line is written into a text that is used again.

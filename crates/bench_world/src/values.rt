@@ -1,6 +1,9 @@
 // The points that all measured programs use, sums over what they see, and why nothing is printed.
 
+use client_core::ClientFault;
 use fixed_um::{Point, Um};
+use line_framing::LinesFault;
+use server_core::ServerFault;
 use std::alloc::{AllocError, AllocFailed};
 
 /// Why nothing is printed.
@@ -25,11 +28,20 @@ impl<T: Drop> From<AllocFailed<T>> for Stop {
     }
 }
 
+macro_rules! memory_or_refused {
+    ($($fault:ident)*) => { $(
+        impl From<$fault> for Stop {
+            fn from(fault: $fault) -> Stop {
+                if fault == $fault::Memory { Stop::Memory } else { Stop::Refused }
+            }
+        }
+    )* };
+}
+
+memory_or_refused! { ClientFault ServerFault LinesFault }
+
 fn length(number: u64) -> Um {
-    match Um::new((number % 1_000_000) as i64) {
-        Some(length) => length,
-        None => Um::zero(),
-    }
+    Um::new((number % 1_000_000) as i64).unwrap_or(Um::zero())
 }
 
 /// A point that differs from number to number.

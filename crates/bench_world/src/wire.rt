@@ -6,7 +6,7 @@ use dme_line::{
     write_command_reserved, write_complete_reserved, write_line_end_reserved,
     write_received_reserved,
 };
-use line_framing::{FramingFault, Lines, LinesFault};
+use line_framing::{FramingFault, Lines};
 use std::alloc::Global;
 
 /// What is read.
@@ -24,27 +24,11 @@ impl Side {
             _ => Err(Stop::Words),
         }
     }
-
-    pub(crate) fn name(self) -> &'static str {
-        match self {
-            Side::Commands => "commands",
-            Side::Responses => "responses",
-        }
-    }
 }
 
 impl From<FramingFault> for Stop {
     fn from(_fault: FramingFault) -> Stop {
         Stop::Refused
-    }
-}
-
-impl From<LinesFault> for Stop {
-    fn from(fault: LinesFault) -> Stop {
-        match fault {
-            LinesFault::Memory => Stop::Memory,
-            LinesFault::Framing(_) => Stop::Refused,
-        }
     }
 }
 
@@ -101,13 +85,6 @@ fn read_pieces(
     Ok(count)
 }
 
-fn push_lines(out: &mut Vec<u8>, side: Side, wanted: u64) -> Result<(), Stop> {
-    for number in 0..wanted {
-        push_line(out, side, number)?;
-    }
-    Ok(())
-}
-
 /// Writes that many lines, feeds them in pieces of this many bytes, and answers how many were read.
 pub(crate) fn count_lines(
     alloc: Global,
@@ -116,7 +93,9 @@ pub(crate) fn count_lines(
     piece: usize,
 ) -> Result<u64, Stop> {
     let mut bytes = Vec::new(alloc);
-    push_lines(&mut bytes, side, wanted)?;
+    for number in 0..wanted {
+        push_line(&mut bytes, side, number)?;
+    }
     let mut lines = Lines::new(alloc);
     read_pieces(alloc, side, &mut lines, (bytes.as_slice(), piece))
 }

@@ -8,12 +8,13 @@
 
 use crate::hostile;
 use crate::parts::Answers;
-use crate::shown::{push_acts, push_debug, push_display, push_features, push_lines, push_text};
+use crate::shown::{push_acts, push_features, push_lines};
 use crate::stop::{Pushed, Stop};
-use crate::tried::{Called, Tries, front, push_appended};
+use crate::tried::{Call, Called, Tries, push_written};
 use client_core::{Client, ClientFault};
 use link_world::{report_of, write_report};
-use std::alloc::{AllocError, Global};
+use std::alloc::Global;
+use std::io::Write;
 
 /// What was written is sent.
 fn take_out(client: &mut Client) {
@@ -21,32 +22,21 @@ fn take_out(client: &mut Client) {
     client.sent(count);
 }
 
-/// A call for which memory can be short.
-#[derive(Clone, Copy)]
-enum Call<'a> {
-    Connected(u64),
-    Send,
-    Feed(&'a [u8]),
-    Read,
-    Abort,
-    Resume,
-}
-
 impl Called<Call<'_>, ClientFault> for Client {
-    fn push_all(&self, out: &mut Vec<u8>) -> Result<(), AllocError> {
+    fn push_all(&self, out: &mut Vec<u8>) -> Pushed {
         push_due(out, self)?;
-        push_debug(out, &(self.has_line(), self.is_on()))?;
+        write!(out, "{:?}", (self.has_line(), self.is_on()))?;
         hostile::push_client(out, self)
     }
 
     fn make(&mut self, call: &Call<'_>) -> Result<bool, ClientFault> {
         match *call {
-            Call::Connected(number) => self.connected(number)?,
-            Call::Send => self.send()?,
             Call::Feed(piece) => self.feed(piece)?,
             Call::Read => return self.read_one(),
-            Call::Abort => self.abort()?,
-            Call::Resume => self.resume()?,
+            Call::Word("connected", number) => self.connected(number.parse().unwrap_or(0))?,
+            Call::Word("send", _) => self.send()?,
+            Call::Word("abort", _) => self.abort()?,
+            Call::Word(_, _) => self.resume()?,
         }
         Ok(true)
     }
@@ -92,7 +82,7 @@ impl Driven<'_> {
 
     /// The command that is due is sent, received, given its data if a text is given here or it asks whether the machine is homed, and done.
     fn end_one(&mut self, text: &str) -> Result<bool, ClientFault> {
-        self.make(Call::Send)?;
+        self.make(Call::Word("send", ""))?;
         let tag = tag_of(self.client.out());
         let data = data_for(self.client.out(), text);
         self.feed_line(&[&tag, b" &\r\n"])?;
@@ -129,10 +119,7 @@ impl Driven<'_> {
         match word {
             "sends" | "aborts" | "letters" => self.call_often(word, rest.parse().unwrap_or(0)),
             "ended" if !rest.is_empty() => self.call_often(word, rest.parse().unwrap_or(0)),
-            "connected" => self.make(Call::Connected(rest.parse().unwrap_or(0))),
-            "send" => self.make(Call::Send),
-            "abort" => self.make(Call::Abort),
-            "resume" => self.make(Call::Resume),
+            "connected" | "send" | "abort" | "resume" => self.make(Call::Word(word, rest)),
             "read" => self.make(Call::Read),
             "ended" | "touched" | "told" => self.end_one(rest),
             "bare" => self.feed_line(&[rest.as_bytes(), b"\n"]),
@@ -151,67 +138,60 @@ impl Driven<'_> {
 
 // ---- what is shown of it
 
-fn push_due(out: &mut Vec<u8>, client: &Client) -> Result<(), AllocError> {
-    match client.due() {
-        Some(command) => push_debug(out, &command.kind()),
-        None => Ok(()),
+fn push_due(out: &mut Vec<u8>, client: &Client) -> Pushed {
+    if let Some(command) = client.due() {
+        write!(out, "{:?}", command.kind())?;
     }
+    Ok(())
 }
 
 /// The lines that a call writes, which are sent, and the state or why it is refused.
 fn push_called(out: &mut Vec<u8>, client: &mut Client, action: &str) -> Pushed {
-    let tries = Tries::new(*out.allocator());
+    let tries = Tries::new(*out.allocator(), true);
     let mut driven = Driven { client, tries };
     let done = driven.call(action);
     driven.tries.push(out)?;
     push_lines(out, driven.client.out())?;
     take_out(driven.client);
     match done {
-        Ok(true) => Ok(push_debug(out, &driven.client.state())?),
-        Ok(false) => Ok(push_text(out, "no line")?),
-        Err(fault) => Ok(push_debug(out, &fault)?),
+        Ok(true) => write!(out, "{:?}", driven.client.state())?,
+        Ok(false) => write!(out, "no line")?,
+        Err(fault) => write!(out, "{fault:?}")?,
     }
+    Ok(())
 }
 
 /// The report of a client, without a server's ledger.
 fn push_report(out: &mut Vec<u8>, client: &Client) -> Pushed {
-    let alloc = *out.allocator();
-    let report = report_of(alloc, client, None).ok().ok_or(Stop::Refused)?;
-    let mut text = front(alloc)?;
-    let written = write_report(&mut text, &report);
-    push_appended(out, text.as_slice(), written)
-}
-
-/// What a reader answers, or what a call does.
-fn push_action(out: &mut Vec<u8>, client: &mut Client, action: &str) -> Pushed {
-    match action {
-        "report" => push_report(out, client),
-        "state" => Ok(push_debug(out, &client.state())?),
-        "due" => Ok(push_due(out, client)?),
-        "open" => Ok(push_display(out, &client.open())?),
-        "completed" => Ok(push_display(out, &client.completed())?),
-        "counted" => Ok(push_acts(out, client.counted())?),
-        "features" => Ok(push_features(out, client.features())?),
-        _ => push_called(out, client, action),
-    }
+    let report = report_of(*out.allocator(), client, None);
+    let report = report.ok().ok_or(Stop::Refused)?;
+    push_written(out, |text| write_report(text, &report))
 }
 
 impl Answers for Client {
-    fn answer(&mut self, alloc: Global, action: &str) -> Result<Vec<u8>, Stop> {
-        let mut text = Vec::new(alloc);
-        push_action(&mut text, self, action)?;
-        if text.is_empty() {
-            push_text(&mut text, "nothing")?;
+    /// What a reader answers, or what a call does.
+    fn answer(&mut self, out: &mut Vec<u8>, action: &str) -> Pushed {
+        match action {
+            "report" => push_report(out, self)?,
+            "state" => write!(out, "{:?}", self.state())?,
+            "due" => push_due(out, self)?,
+            "open" => write!(out, "{}", self.open())?,
+            "completed" => write!(out, "{}", self.completed())?,
+            "counted" => push_acts(out, self.counted())?,
+            "features" => push_features(out, self.features())?,
+            _ => push_called(out, self, action)?,
         }
-        Ok(text)
+        if out.is_empty() {
+            write!(out, "nothing")?;
+        }
+        Ok(())
     }
 }
 
 /// A new client is connected, and does actions that all succeed.
 pub(crate) fn call_all(alloc: Global, client: &mut Client, actions: &str) -> Pushed {
     client.connected(1)?;
-    let mut tries = Tries::new(alloc);
-    tries.make_once();
+    let tries = Tries::new(alloc, false);
     let mut driven = Driven { client, tries };
     for action in actions.split(" / ") {
         if !driven.call(action)? {

@@ -1,37 +1,24 @@
 // What became of worlds: one a line, or their files.
 
-use crate::fresh::{Made, Task, play, push_world};
-use crate::shown::{push_display, push_text};
+use crate::fresh::{Made, Task, play, push_new};
+use crate::shown::push_lines;
 use crate::stop::Pushed;
 use contact_ledger::{write_contacts, write_features};
 use dmis_program::Program;
 use ledger_audit::{Verdict, audit};
 use link_world::World;
-use std::alloc::AllocError;
+use std::io::Write;
 
 /// The verdict of an audit: `RUNS` with the numbers at which the runs begin, or `NONE` with the count of the first features that have none.
-fn push_verdict(out: &mut Vec<u8>, verdict: &Verdict) -> Result<(), AllocError> {
-    let starts = match verdict {
-        Verdict::Starts(starts) => starts,
-        Verdict::NoRun(count) => {
-            push_text(out, "NONE ")?;
-            return push_display(out, count);
+fn push_verdict(out: &mut Vec<u8>, verdict: &Verdict) -> Pushed {
+    match verdict {
+        Verdict::NoRun(count) => write!(out, "NONE {count}")?,
+        Verdict::Starts(starts) => {
+            write!(out, "RUNS")?;
+            for start in starts.as_slice() {
+                write!(out, " {start}")?;
+            }
         }
-    };
-    push_text(out, "RUNS")?;
-    for start in starts.as_slice() {
-        push_text(out, " ")?;
-        push_display(out, start)?;
-    }
-    Ok(())
-}
-
-/// The text of the features that a client holds, with `;` for the end of each line.
-fn push_features(out: &mut Vec<u8>, world: &World) -> Result<(), AllocError> {
-    let mut text = Vec::new(*out.allocator());
-    write_features(&mut text, world.features())?;
-    for byte in text.as_slice() {
-        out.push(if *byte == b'\n' { b';' } else { *byte })?;
     }
     Ok(())
 }
@@ -40,15 +27,15 @@ fn push_features(out: &mut Vec<u8>, world: &World) -> Result<(), AllocError> {
 /// both, and the features; `|` between them.
 pub(crate) fn push_ended(out: &mut Vec<u8>, program: &Program, world: &World) -> Pushed {
     let alloc = *out.allocator();
-    let state = world.state();
     let counted = world.counted().len();
     let contacts = world.ledger().contacts();
-    let text = format!(in alloc; "{state:?}|{counted}|{contacts}|")?;
-    push_text(out, text.as_str())?;
+    write!(out, "{:?}|{counted}|{contacts}|", world.state())?;
     let verdict = audit(alloc, program, world.features(), world.ledger())?;
     push_verdict(out, &verdict)?;
     out.push(b'|')?;
-    push_features(out, world)?;
+    let mut text = Vec::new(alloc);
+    write_features(&mut text, world.features())?;
+    push_lines(out, text.as_slice())?;
     Ok(out.push(b'\n')?)
 }
 
@@ -81,5 +68,5 @@ pub(crate) fn push_played(
     made: Made<'_>,
     (text, program): (&[u8], Option<&Program>),
 ) -> Pushed {
-    push_world(out, made, &mut Played { text, program })
+    push_new::<World, _>(out, made, &mut Played { text, program })
 }

@@ -5,23 +5,23 @@
 // It shows the state, how many bytes the client has written on its last connection, and how many acts are done and counted.
 
 use crate::parts::Answers;
-use crate::shown::{lined, push_acts, push_debug, push_features, push_text};
+use crate::shown::{lined, push_acts, push_features};
 use crate::stop::{Pushed, Stop};
-use crate::tried::{Called, front, push_appended, push_tried};
+use crate::tried::{Called, push_tried, push_written};
 use contact_ledger::{write_contacts, write_features};
 use link_world::{
     Event, Instruction, RunCount, Schedule, Simulated, World, WorldFault, write_report,
 };
-use std::alloc::{AllocError, Global};
+use std::io::Write;
 
 /// The state and the counts.
-fn push_told(out: &mut Vec<u8>, world: &World) -> Result<(), AllocError> {
+fn push_told(out: &mut Vec<u8>, world: &World) -> Pushed {
     let (state, written) = (world.state(), world.written().len());
     let (done, counted) = (world.ledger().acts().len(), world.counted().len());
-    let told = format!(in *out.allocator();
+    Ok(write!(
+        out,
         "{state:?}, {written} written, {done} done, {counted} counted"
-    )?;
-    push_text(out, told.as_str())
+    )?)
 }
 
 // ---- the calls
@@ -34,11 +34,11 @@ struct Call<'a> {
 }
 
 impl Called<Call<'_>, WorldFault> for World {
-    fn push_all(&self, out: &mut Vec<u8>) -> Result<(), AllocError> {
+    fn push_all(&self, out: &mut Vec<u8>) -> Pushed {
         push_told(out, self)?;
-        push_debug(out, &(self.running(), self.ledger().acts()))?;
+        write!(out, "{:?}", (self.running(), self.ledger().acts()))?;
         out.extend_from_slice(self.written())?;
-        push_debug(out, self.setup())?;
+        write!(out, "{:?}", self.setup())?;
         push_acts(out, self.counted())?;
         push_features(out, self.features())
     }
@@ -78,18 +78,12 @@ fn push_called(out: &mut Vec<u8>, world: &mut World, row: &str) -> Pushed {
 
 fn push_report(out: &mut Vec<u8>, world: &World) -> Pushed {
     let report = world.report().ok().ok_or(Stop::Refused)?;
-    let mut text = front(*out.allocator())?;
-    let written = write_report(&mut text, &report);
-    push_appended(out, text.as_slice(), written)
+    push_written(out, |text| write_report(text, &report))
 }
 
 fn push_files(out: &mut Vec<u8>, world: &World) -> Pushed {
-    let mut text = front(*out.allocator())?;
-    let written = write_features(&mut text, world.features());
-    push_appended(out, text.as_slice(), written)?;
-    let mut text = front(*out.allocator())?;
-    let written = write_contacts(&mut text, world.ledger());
-    push_appended(out, text.as_slice(), written)
+    push_written(out, |text| write_features(text, world.features()))?;
+    push_written(out, |text| write_contacts(text, world.ledger()))
 }
 
 /// A world that is brought to its end by a machine. If memory is short during that, the first of its events have happened: what
@@ -102,10 +96,10 @@ struct Finished<'a> {
 }
 
 impl Called<(), WorldFault> for Finished<'_> {
-    fn push_all(&self, out: &mut Vec<u8>) -> Result<(), AllocError> {
-        match self.world.features().split_at_checked(self.held) {
-            Some((held, _)) => push_features(out, held),
-            None => push_text(out, "fewer"),
+    fn push_all(&self, out: &mut Vec<u8>) -> Pushed {
+        match self.world.features().get(..self.held) {
+            Some(held) => push_features(out, held),
+            None => Err(Stop::Changed),
         }
     }
 
@@ -125,26 +119,23 @@ fn push_finished(out: &mut Vec<u8>, world: &mut World) -> Pushed {
         held,
     };
     push_tried(out, &mut finished, WorldFault::Memory, &())?;
-    push_debug(out, &finished.world.state())?;
+    write!(out, "{:?}", finished.world.state())?;
     for feature in finished.world.features() {
-        push_text(out, " ")?;
-        out.extend_from_slice(feature.label.as_bytes())?;
+        write!(out, " {}", feature.label)?;
     }
     Ok(())
 }
 
 impl Answers for World {
-    fn answer(&mut self, alloc: Global, row: &str) -> Result<Vec<u8>, Stop> {
-        let mut out = Vec::new(alloc);
+    fn answer(&mut self, out: &mut Vec<u8>, row: &str) -> Pushed {
         match row {
-            "report" => push_report(&mut out, self)?,
-            "files" => push_files(&mut out, self)?,
-            "finish" => push_finished(&mut out, self)?,
+            "report" => push_report(out, self),
+            "files" => push_files(out, self),
+            "finish" => push_finished(out, self),
             _ => {
-                push_called(&mut out, self, row)?;
-                push_told(&mut out, self)?;
+                push_called(out, self, row)?;
+                push_told(out, self)
             }
         }
-        Ok(out)
     }
 }

@@ -41,66 +41,53 @@ pub(crate) fn read_program(alloc: Global, made: Made<'_>) -> Result<Program, Sto
     Ok(Program::read(alloc, made.program.as_bytes(), setup.frames())?)
 }
 
-fn new_client(alloc: Global, made: Made<'_>) -> Result<Client, Stop> {
-    let program = read_program(alloc, made)?;
-    let features = if made.held.is_empty() {
-        FeatureLedger::new(alloc)
-    } else {
-        read_features(alloc, made.held.as_bytes())?
-    };
-    match Client::new(alloc, program, features, made.window) {
-        Ok(client) => Ok(client),
-        Err(_) => Err(Stop::Row),
+/// A client, a server or a world.
+pub(crate) trait Fresh: Sized + Drop {
+    fn fresh(alloc: Global, made: Made<'_>) -> Result<Self, Stop>;
+}
+
+impl Fresh for Client {
+    fn fresh(alloc: Global, made: Made<'_>) -> Result<Client, Stop> {
+        let program = read_program(alloc, made)?;
+        let features = if made.held.is_empty() {
+            FeatureLedger::new(alloc)
+        } else {
+            read_features(alloc, made.held.as_bytes())?
+        };
+        match Client::new(alloc, program, features, made.window) {
+            Ok(client) => Ok(client),
+            Err(_) => Err(Stop::Row),
+        }
     }
 }
 
-fn new_server(alloc: Global, made: Made<'_>) -> Result<Server, Stop> {
-    Ok(Server::new(alloc, read_setup(alloc, made)?)?)
-}
-
-fn new_world(alloc: Global, made: Made<'_>) -> Result<World, Stop> {
-    let program = read_program(alloc, made)?;
-    let setup = read_setup(alloc, made)?;
-    match World::new(alloc, program, setup, made.window) {
-        Ok(world) => Ok(world),
-        Err(NewFault::Memory) => Err(Stop::Refused),
-        Err(NewFault::BadWindow(_, _)) => Err(Stop::Row),
+impl Fresh for Server {
+    fn fresh(alloc: Global, made: Made<'_>) -> Result<Server, Stop> {
+        Ok(Server::new(alloc, read_setup(alloc, made)?)?)
     }
 }
 
-/// What a task of a new client shows.
-pub(crate) fn push_client<T: Task<Client>>(
-    out: &mut Vec<u8>,
-    made: Made<'_>,
-    task: &mut T,
-) -> Pushed {
-    let mut client = new_client(*out.allocator(), made)?;
-    let done = task.push(out, &mut client);
-    drop(client);
-    done
+impl Fresh for World {
+    fn fresh(alloc: Global, made: Made<'_>) -> Result<World, Stop> {
+        let program = read_program(alloc, made)?;
+        let setup = read_setup(alloc, made)?;
+        match World::new(alloc, program, setup, made.window) {
+            Ok(world) => Ok(world),
+            Err(NewFault::Memory) => Err(Stop::Refused),
+            Err(NewFault::BadWindow(_, _)) => Err(Stop::Row),
+        }
+    }
 }
 
-/// What a task of a new server shows.
-pub(crate) fn push_server<T: Task<Server>>(
+/// What a task of a new client, server or world shows.
+pub(crate) fn push_new<E: Fresh, T: Task<E>>(
     out: &mut Vec<u8>,
     made: Made<'_>,
     task: &mut T,
 ) -> Pushed {
-    let mut server = new_server(*out.allocator(), made)?;
-    let done = task.push(out, &mut server);
-    drop(server);
-    done
-}
-
-/// What a task of a new world shows.
-pub(crate) fn push_world<T: Task<World>>(
-    out: &mut Vec<u8>,
-    made: Made<'_>,
-    task: &mut T,
-) -> Pushed {
-    let mut world = new_world(*out.allocator(), made)?;
-    let done = task.push(out, &mut world);
-    drop(world);
+    let mut end = E::fresh(*out.allocator(), made)?;
+    let done = task.push(out, &mut end);
+    drop(end);
     done
 }
 
@@ -113,7 +100,7 @@ struct WithServer<'a, T> {
 
 impl<T: BothTask> Task<Client> for WithServer<'_, T> {
     fn push(&mut self, out: &mut Vec<u8>, client: &mut Client) -> Pushed {
-        let mut server = new_server(*out.allocator(), self.made)?;
+        let mut server = Server::fresh(*out.allocator(), self.made)?;
         let done = self.task.push_both(out, (client, &mut server));
         drop(server);
         done
@@ -122,7 +109,7 @@ impl<T: BothTask> Task<Client> for WithServer<'_, T> {
 
 /// What a task of a new client and a new server shows.
 pub(crate) fn push_both<T: BothTask>(out: &mut Vec<u8>, made: Made<'_>, task: &mut T) -> Pushed {
-    push_client(out, made, &mut WithServer { made, task })
+    push_new::<Client, _>(out, made, &mut WithServer { made, task })
 }
 
 /// The instructions of a text are played.

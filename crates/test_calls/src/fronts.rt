@@ -1,12 +1,11 @@
 // The worlds after each prefix of a schedule.
 
 use crate::ended::push_played;
-use crate::fresh::{Made, Task, play, push_world, read_program};
-use crate::shown::{push_display, push_text};
+use crate::fresh::{Made, Task, play, push_new, read_program};
 use crate::stop::{Pushed, Stop};
 use dmis_program::Program;
 use link_world::{Event, World, WorldFault};
-use std::alloc::AllocError;
+use std::io::Write;
 
 /// More bytes than ever wait on a way.
 const BYTES_MOST: u64 = 1_000_000;
@@ -62,11 +61,11 @@ impl Task<World> for Numbers<'_> {
 }
 
 /// Instructions, each followed by `;`, as lines; each `*` is this number.
-fn push_lined(text: &mut Vec<u8>, row: &str, number: u64) -> Result<(), AllocError> {
+fn push_lined(text: &mut Vec<u8>, row: &str, number: u64) -> Pushed {
     for byte in row.as_bytes() {
         match *byte {
             b';' => text.push(b'\n')?,
-            b'*' => push_display(text, &number)?,
+            b'*' => write!(text, "{number}")?,
             other => text.push(other)?,
         }
     }
@@ -80,10 +79,7 @@ impl Front<'_> {
         text.extend_from_slice(self.front)?;
         push_lined(&mut text, row, number)?;
         push_lined(&mut text, self.ending, number)?;
-        push_display(out, &way)?;
-        out.push(b' ')?;
-        push_display(out, &number)?;
-        out.push(b'|')?;
+        write!(out, "{way} {number}|")?;
         push_played(out, self.made, (text.as_slice(), Some(self.program)))
     }
 
@@ -95,7 +91,7 @@ impl Front<'_> {
             word,
             found: (0, 0),
         };
-        push_world(out, self.made, &mut numbers)?;
+        push_new::<World, _>(out, self.made, &mut numbers)?;
         let (first, last) = numbers.found;
         for number in first..last.saturating_add(1) {
             self.push_stopped(out, (way, row), number)?;
@@ -105,7 +101,7 @@ impl Front<'_> {
 
     /// The world after the prefix as it is, and then the worlds of each way.
     fn push(&self, out: &mut Vec<u8>) -> Pushed {
-        push_text(out, "front|")?;
+        write!(out, "front|")?;
         push_played(out, self.made, (self.front, Some(self.program)))?;
         let mut way = 0u64;
         for row in self.ways.lines() {

@@ -6,15 +6,16 @@
 // those bytes the server works and the client reads what it has written; then both leave, and are driven to the end on another connection.
 
 use crate::both::Both;
-use crate::fresh::{self, BothTask, Made, Task, read_program};
-use crate::shown::{push_acts, push_debug, push_display, push_features, push_lines, push_text};
+use crate::fresh::{BothTask, Made, Task, push_both, push_new, read_program};
+use crate::shown::{push_acts, push_entries, push_features, push_lines};
 use crate::stop::{Pushed, Stop};
+use crate::tried::{Call, Called};
 use crate::{client, server};
-use client_core::{Client, ClientFault};
+use client_core::Client;
 use ledger_audit::{Verdict, audit};
-use server_core::{Server, ServerFault};
-use std::alloc::AllocError;
+use server_core::Server;
 use std::fmt::Debug;
+use std::io::Write;
 
 /// What a row gives to a client, a server or both, in pieces of this size: what happens before, the bytes of one end, and if both get some,
 /// those of the server.
@@ -27,40 +28,15 @@ struct Cut<'a> {
     size: usize,
 }
 
-/// An end that reads lines.
-trait Reads<F> {
-    /// It takes a piece.
-    fn take(&mut self, piece: &[u8]) -> Result<(), F>;
-
-    /// It reads a line, if one is there.
-    fn read(&mut self) -> Result<bool, F>;
-}
-
-impl Reads<ClientFault> for Client {
-    fn take(&mut self, piece: &[u8]) -> Result<(), ClientFault> {
-        self.feed(piece)
-    }
-
-    fn read(&mut self) -> Result<bool, ClientFault> {
-        self.read_one()
-    }
-}
-
-impl Reads<ServerFault> for Server {
-    fn take(&mut self, piece: &[u8]) -> Result<(), ServerFault> {
-        self.feed(piece)
-    }
-
-    fn read(&mut self) -> Result<bool, ServerFault> {
-        self.read_one()
-    }
-}
-
 /// An end takes a piece and reads all lines; they are counted. Each ends with a byte of the piece.
-fn read_piece<F, E: Reads<F>>(end: &mut E, piece: &[u8], lines: &mut u64) -> Result<(), F> {
-    end.take(piece)?;
+fn read_piece<'a, F, E: Called<Call<'a>, F>>(
+    end: &mut E,
+    piece: &'a [u8],
+    lines: &mut u64,
+) -> Result<(), F> {
+    end.make(&Call::Feed(piece))?;
     for _ in 0..piece.len() {
-        if !end.read()? {
+        if !end.make(&Call::Read)? {
             return Ok(());
         }
         *lines = lines.saturating_add(1);
@@ -69,11 +45,11 @@ fn read_piece<F, E: Reads<F>>(end: &mut E, piece: &[u8], lines: &mut u64) -> Res
 }
 
 /// An end takes bytes in pieces: how many lines it has read of them, and why no more.
-fn push_read<F: Debug + Drop, E: Reads<F>>(
+fn push_read<'a, F: Debug + Drop, E: Called<Call<'a>, F>>(
     out: &mut Vec<u8>,
     end: &mut E,
-    (bytes, size): (&[u8], usize),
-) -> Result<(), AllocError> {
+    (bytes, size): (&'a [u8], usize),
+) -> Pushed {
     let mut lines = 0u64;
     let mut answer = Ok(());
     for piece in bytes.chunks(size.max(1)) {
@@ -81,40 +57,32 @@ fn push_read<F: Debug + Drop, E: Reads<F>>(
             answer = read_piece(end, piece, &mut lines);
         }
     }
-    push_display(out, &lines)?;
-    push_text(out, " lines ")?;
-    match answer {
-        Ok(()) => Ok(()),
-        Err(fault) => {
-            push_debug(out, &fault)?;
-            push_text(out, " ")
-        }
+    write!(out, "{lines} lines ")?;
+    if let Err(fault) = answer {
+        write!(out, "{fault:?} ")?;
     }
+    Ok(())
 }
 
 /// The state of a client, what it has written, and what it keeps.
-pub(crate) fn push_client(out: &mut Vec<u8>, client: &Client) -> Result<(), AllocError> {
-    push_debug(out, &client.state())?;
-    push_text(out, " ")?;
-    push_display(out, &client.open())?;
-    push_text(out, " open ")?;
-    push_display(out, &client.completed())?;
-    push_text(out, " completed: ")?;
+pub(crate) fn push_client(out: &mut Vec<u8>, client: &Client) -> Pushed {
+    let (state, open, completed) = (client.state(), client.open(), client.completed());
+    write!(out, "{state:?} {open} open {completed} completed: ")?;
     push_lines(out, client.out())?;
     push_acts(out, client.counted())?;
     push_features(out, client.features())
 }
 
 /// Likewise for a server.
-pub(crate) fn push_server(out: &mut Vec<u8>, server: &Server) -> Result<(), AllocError> {
+pub(crate) fn push_server(out: &mut Vec<u8>, server: &Server) -> Pushed {
     server::push_state(out, server)?;
     server::push_job(out, server)?;
-    push_text(out, ": ")?;
+    write!(out, ": ")?;
     push_lines(out, server.out())?;
-    server::push_ledger(out, server)
+    push_entries(out, server.ledger().acts())
 }
 
-fn push_both(out: &mut Vec<u8>, both: &Both<'_, '_>) -> Result<(), AllocError> {
+fn push_ends(out: &mut Vec<u8>, both: &Both<'_, '_>) -> Pushed {
     push_client(out, both.client)?;
     push_server(out, both.server)
 }
@@ -125,7 +93,7 @@ impl Task<Client> for Cut<'_> {
     fn push(&mut self, out: &mut Vec<u8>, client: &mut Client) -> Pushed {
         client::call_all(*out.allocator(), client, self.before)?;
         push_read(out, client, (self.bytes, self.size))?;
-        Ok(push_client(out, client)?)
+        push_client(out, client)
     }
 }
 
@@ -133,7 +101,7 @@ impl Task<Server> for Cut<'_> {
     fn push(&mut self, out: &mut Vec<u8>, server: &mut Server) -> Pushed {
         server::call_all(*out.allocator(), server, self.before)?;
         push_read(out, server, (self.bytes, self.size))?;
-        Ok(push_server(out, server)?)
+        push_server(out, server)
     }
 }
 
@@ -144,7 +112,7 @@ impl Cut<'_> {
         push_read(out, both.server, (self.others, self.size))?;
         both.work()?;
         push_read(out, both.client, (both.server.out(), self.size))?;
-        push_both(out, both)?;
+        push_ends(out, both)?;
         both.run_on()
     }
 }
@@ -156,26 +124,16 @@ impl BothTask for Cut<'_> {
         let (client, server) = ends;
         let mut both = Both::new(alloc, (&mut *client, &mut *server), self.before)?;
         self.drive(out, &mut both)?;
-        push_both(out, &both)?;
+        push_ends(out, &both)?;
         drop(both);
         let program = read_program(alloc, self.made)?;
         let verdict = audit(alloc, &program, client.features(), server.ledger())?;
         match verdict {
-            Verdict::Starts(_) => Ok(push_text(out, "RUNS")?),
-            Verdict::NoRun(_) => Ok(push_text(out, "NONE")?),
+            Verdict::Starts(_) => write!(out, "RUNS")?,
+            Verdict::NoRun(_) => write!(out, "NONE")?,
         }
+        Ok(())
     }
-}
-
-/// The text, followed by another one if that differs.
-fn push_other(all: &mut Vec<u8>, other: &[u8]) -> Result<(), AllocError> {
-    if other == all.as_slice() {
-        return Ok(());
-    }
-    if !all.is_empty() {
-        push_text(all, " differs from ")?;
-    }
-    all.extend_from_slice(other)
 }
 
 /// What all three cuts show, or those that differ.
@@ -184,11 +142,16 @@ fn push_cuts(out: &mut Vec<u8>, word: &str, cut: Cut<'_>) -> Pushed {
         let mut shown = Vec::new(*out.allocator());
         let mut cut = Cut { size, ..cut };
         match word {
-            "client_cuts" => fresh::push_client(&mut shown, cut.made, &mut cut)?,
-            "server_cuts" => fresh::push_server(&mut shown, cut.made, &mut cut)?,
-            _ => fresh::push_both(&mut shown, cut.made, &mut cut)?,
+            "client_cuts" => push_new::<Client, _>(&mut shown, cut.made, &mut cut)?,
+            "server_cuts" => push_new::<Server, _>(&mut shown, cut.made, &mut cut)?,
+            _ => push_both(&mut shown, cut.made, &mut cut)?,
         }
-        push_other(out, shown.as_slice())?;
+        if shown.as_slice() != out.as_slice() {
+            if !out.is_empty() {
+                write!(out, " differs from ")?;
+            }
+            out.extend_from_slice(shown.as_slice())?;
+        }
     }
     Ok(())
 }

@@ -9,8 +9,8 @@
 // this may lack some of what it measured or did until then. So it first comes to the next connection, and continues from there; if
 // everything was measured, what comes in is that of `last replies NAME` and `last commands NAME`.
 
-use crate::fresh::{BothTask, Made, Task, push_both, push_client, push_server};
-use crate::shown::{lined, push_answer, push_debug, push_features, push_lines, push_text};
+use crate::fresh::{BothTask, Made, Task, push_both, push_new};
+use crate::shown::{lined, push_answer, push_features, push_lines};
 use crate::stop::{Pushed, Stop};
 use crate::tried::{Called, Tries};
 use crate::{hostile, server};
@@ -21,7 +21,8 @@ use link_world::{
     LoopPorts, Simulated, Watcher, client_turns, loop_link, run_link, serve_link, serve_turns,
 };
 use server_core::Server;
-use std::alloc::{AllocError, Global};
+use std::alloc::Global;
+use std::io::Write;
 
 /// What comes in by the parts of a program, one piece a line.
 #[derive(Clone, Copy)]
@@ -33,63 +34,46 @@ pub(crate) struct Script<'a> {
     pub(crate) last_commands: &'a str,
 }
 
-/// What a row asks for: a call by its word, and of the client's ports, or the server's where there is no client.
+/// What a row asks for: a call by its word, and words with numbers on the client's ports, or the server's where there is no client.
 #[derive(Clone, Copy)]
 struct Asked<'a> {
     word: &'a str,
-    least: usize,
-    bound: u64,
-    read: u32,
-    write: u32,
-    takes: u32,
-    again: u32,
+    words: &'a str,
 }
 
-impl<'a> Asked<'a> {
-    /// What a row without words asks for: all at once, and no call that fails.
-    fn plain(word: &'a str) -> Asked<'a> {
-        Asked {
-            word,
-            least: 1,
-            bound: 1_000,
-            read: 0,
-            write: 0,
-            takes: 1_000,
-            again: 0,
+impl Asked<'_> {
+    /// The number of a word; another one if the row does not have it.
+    fn number(&self, word: &str, other: usize) -> Result<usize, Stop> {
+        for pair in self.words.split(", ") {
+            if let Some((asked, number)) = pair.split_once(" ")
+                && asked == word
+            {
+                return number.parse().ok().ok_or(Stop::Row);
+            }
         }
-    }
-
-    /// A word with its number.
-    fn ask(&mut self, pair: &str) -> Pushed {
-        let (word, number) = pair.split_once(" ").ok_or(Stop::Row)?;
-        let number: u32 = number.parse().ok().ok_or(Stop::Row)?;
-        match word {
-            "least" => self.least = number as usize,
-            "bound" => self.bound = number as u64,
-            "read" => self.read = number,
-            "write" => self.write = number,
-            "takes" => self.takes = number,
-            "again" => self.again = number,
-            _ => return Err(Stop::Row),
-        }
-        Ok(())
+        Ok(other)
     }
 
     /// New ports, into which these pieces come, one a line.
     fn ports(&self, alloc: Global, pieces: &str) -> Result<MemoryPorts, Stop> {
-        let mut source = match self.read {
+        let mut source = match self.number("read", 0)? {
             0 => Pieces::new(alloc),
             call => Pieces::failing_at(alloc, call as u64),
         };
         for piece in pieces.lines() {
             source.add(lined(alloc, piece)?.as_slice())?;
         }
-        let most = self.takes.max(1) as usize;
-        let sink = match self.write {
+        let most = self.number("takes", 1_000)?.max(1);
+        let sink = match self.number("write", 0)? {
             0 => Takes::new(alloc, most),
             call => Takes::failing_at(alloc, most, call as u64),
         };
         Ok(Ports { source, sink })
+    }
+
+    /// Whether its call is made again if memory is short for it.
+    fn is_made_again(&self) -> Result<bool, Stop> {
+        Ok(self.number("again", 0)? > 0)
     }
 }
 
@@ -99,34 +83,32 @@ type MemoryPorts = Ports<Pieces, Takes>;
 // ---- what is shown
 
 /// The state of a client.
-fn push_state(out: &mut Vec<u8>, client: &Client) -> Result<(), AllocError> {
-    let state = client.state();
+fn push_state(out: &mut Vec<u8>, client: &Client) -> Pushed {
     let connection = if client.is_on() { "on" } else { "off" };
-    let text = format!(in *out.allocator(); " {state:?} {connection}: ")?;
-    push_text(out, text.as_str())
+    Ok(write!(out, " {:?} {connection}: ", client.state())?)
 }
 
 /// The state of a client, what went out, and its features.
-fn push_left(out: &mut Vec<u8>, client: &Client, output: &Takes) -> Result<(), AllocError> {
+fn push_left(out: &mut Vec<u8>, client: &Client, output: &Takes) -> Pushed {
     push_state(out, client)?;
     push_lines(out, output.taken())?;
     push_features(out, client.features())
 }
 
 /// Whether a server takes bytes, as it does on a connection; and what went out.
-fn push_served(out: &mut Vec<u8>, server: &mut Server, output: &Takes) -> Result<(), AllocError> {
+fn push_served(out: &mut Vec<u8>, server: &mut Server, output: &Takes) -> Pushed {
     let is_on = server.feed(b"").is_ok();
-    push_text(out, if is_on { " on: " } else { " off: " })?;
-    push_lines(out, output.taken())
+    write!(out, "{}", if is_on { " on: " } else { " off: " })?;
+    Ok(push_lines(out, output.taken())?)
 }
 
 /// What a client is and has to send, and the features that it held.
-fn push_held(out: &mut Vec<u8>, client: &Client, held: usize) -> Result<(), AllocError> {
+fn push_held(out: &mut Vec<u8>, client: &Client, held: usize) -> Pushed {
     push_state(out, client)?;
     push_lines(out, client.out())?;
-    match client.features().split_at_checked(held) {
-        Some((first, _)) => push_features(out, first),
-        None => push_text(out, "fewer"),
+    match client.features().get(..held) {
+        Some(first) => push_features(out, first),
+        None => Err(Stop::Changed),
     }
 }
 
@@ -156,7 +138,7 @@ struct Call<'a> {
 /// A client, a server or both, of which a call is made.
 trait Side {
     /// What all readers answer, but for what may be measured or done until memory is short; the client has held this many features before.
-    fn push_kept(&self, out: &mut Vec<u8>, held: usize) -> Result<(), AllocError>;
+    fn push_kept(&self, out: &mut Vec<u8>, held: usize) -> Pushed;
 
     /// How many features the client holds.
     fn held(&self) -> usize;
@@ -166,7 +148,7 @@ trait Side {
 }
 
 impl Side for Client {
-    fn push_kept(&self, out: &mut Vec<u8>, held: usize) -> Result<(), AllocError> {
+    fn push_kept(&self, out: &mut Vec<u8>, held: usize) -> Pushed {
         push_held(out, self, held)
     }
 
@@ -177,25 +159,24 @@ impl Side for Client {
     fn call(&mut self, out: &mut Vec<u8>, call: &Call<'_>, number: u64) -> Pushed {
         self.connected(number)?;
         let asked = call.asked;
-        let mut ports = asked.ports(*out.allocator(), call.script.replies)?;
+        let ports = asked.ports(*out.allocator(), call.script.replies)?;
+        let Ports {
+            mut source,
+            mut sink,
+        } = ports;
         if asked.word == "turns" {
-            let answer = client_turns(
-                self,
-                &mut ports.source,
-                &mut ports.sink,
-                asked.least,
-                asked.bound,
-            );
+            let (least, bound) = (asked.number("least", 1)?, asked.number("bound", 1_000)?);
+            let answer = client_turns(self, &mut source, &mut sink, least, bound as u64);
             push_answer(out, &answer)?;
         } else {
-            push_answer(out, &run_link(self, &mut ports.source, &mut ports.sink))?;
+            push_answer(out, &run_link(self, &mut source, &mut sink))?;
         }
-        Ok(push_left(out, self, &ports.sink)?)
+        push_left(out, self, &sink)
     }
 }
 
 impl Side for Server {
-    fn push_kept(&self, out: &mut Vec<u8>, _held: usize) -> Result<(), AllocError> {
+    fn push_kept(&self, out: &mut Vec<u8>, _held: usize) -> Pushed {
         hostile::push_server(out, self)
     }
 
@@ -206,25 +187,22 @@ impl Side for Server {
     fn call(&mut self, out: &mut Vec<u8>, call: &Call<'_>, number: u64) -> Pushed {
         self.accept(number)?;
         let asked = call.asked;
-        let mut ports = asked.ports(*out.allocator(), call.script.commands)?;
+        let ports = asked.ports(*out.allocator(), call.script.commands)?;
+        let Ports {
+            mut source,
+            mut sink,
+        } = ports;
         let mut machine = Simulated::new(*out.allocator(), self.setup())?;
         if asked.word == "serves" {
-            let answer = serve_turns(
-                self,
-                &mut machine,
-                &mut ports.source,
-                &mut ports.sink,
-                asked.least,
-                asked.bound,
-            );
+            let (least, bound) = (asked.number("least", 1)?, asked.number("bound", 1_000)?);
+            let (from, to, bound) = (&mut source, &mut sink, bound as u64);
+            let answer = serve_turns(self, &mut machine, from, to, least, bound);
             push_answer(out, &answer)?;
         } else {
-            push_answer(
-                out,
-                &serve_link(self, &mut machine, &mut ports.source, &mut ports.sink),
-            )?;
+            let answer = serve_link(self, &mut machine, &mut source, &mut sink);
+            push_answer(out, &answer)?;
         }
-        Ok(push_served(out, self, &ports.sink)?)
+        push_served(out, self, &sink)
     }
 }
 
@@ -237,11 +215,11 @@ struct Both<'c, 's> {
 
 impl Side for Both<'_, '_> {
     /// Also whether the machine is homed, on which connection the server is, and its first act.
-    fn push_kept(&self, out: &mut Vec<u8>, held: usize) -> Result<(), AllocError> {
+    fn push_kept(&self, out: &mut Vec<u8>, held: usize) -> Pushed {
         push_held(out, self.client, held)?;
         let view = self.server.view();
-        push_debug(out, &(view.homed, view.connection))?;
-        push_debug(out, &self.server.ledger().acts().first())
+        write!(out, "{:?}", (view.homed, view.connection))?;
+        Ok(write!(out, "{:?}", self.server.ledger().acts().first())?)
     }
 
     fn held(&self) -> usize {
@@ -252,9 +230,13 @@ impl Side for Both<'_, '_> {
         self.client.connected(number)?;
         self.server.accept(number)?;
         let alloc = *out.allocator();
+        let plain = Asked {
+            words: "",
+            ..call.asked
+        };
         let mut ports = LoopPorts {
             client: call.asked.ports(alloc, call.script.replies)?,
-            server: Asked::plain("loops").ports(alloc, call.script.commands)?,
+            server: plain.ports(alloc, call.script.commands)?,
         };
         let mut machine = Simulated::new(alloc, self.server.setup())?;
         let answer = loop_link(
@@ -266,7 +248,7 @@ impl Side for Both<'_, '_> {
         );
         push_answer(out, &answer)?;
         push_left(out, self.client, &ports.client.sink)?;
-        Ok(push_served(out, self.server, &ports.server.sink)?)
+        push_served(out, self.server, &ports.server.sink)
     }
 }
 
@@ -289,7 +271,7 @@ fn begins(shown: &[u8], answer: &[u8]) -> bool {
 }
 
 impl<S: Side> Called<Call<'_>, Stop> for Calling<'_, S> {
-    fn push_all(&self, out: &mut Vec<u8>) -> Result<(), AllocError> {
+    fn push_all(&self, out: &mut Vec<u8>) -> Pushed {
         self.side.push_kept(out, self.held)
     }
 
@@ -300,10 +282,9 @@ impl<S: Side> Called<Call<'_>, Stop> for Calling<'_, S> {
         let is_last = self.side.held() > self.held;
         let call = if is_last { call.last() } else { *call };
         self.side.call(&mut self.shown, &call, self.last)?;
-        match call.asked.again {
-            0 => Ok(true),
-            _ if begins(self.shown.as_slice(), b"Memory") => Err(Stop::Refused),
-            _ if begins(self.shown.as_slice(), b"WriteFailed") => Err(Stop::Memory),
+        match call.asked.is_made_again()? {
+            true if begins(self.shown.as_slice(), b"Memory") => Err(Stop::Refused),
+            true if begins(self.shown.as_slice(), b"WriteFailed") => Err(Stop::Memory),
             _ => Ok(true),
         }
     }
@@ -330,10 +311,7 @@ impl Call<'_> {
             held,
             shown: Vec::new(alloc),
         };
-        let mut tries = Tries::new(alloc);
-        if self.asked.again == 0 {
-            tries.make_once();
-        }
+        let mut tries = Tries::new(alloc, self.asked.is_made_again()?);
         let done = tries.call(&mut calling, Stop::Refused, self);
         tries.push(out)?;
         done?;
@@ -364,7 +342,7 @@ impl BothTask for Call<'_> {
         (client, server): (&mut Client, &mut Server),
     ) -> Pushed {
         let mut last = 0u64;
-        if self.asked.again > 0 {
+        if self.asked.is_made_again()? {
             server::call_all(*out.allocator(), server, HOMED)?;
             last = 1;
         }
@@ -394,17 +372,13 @@ pub(crate) fn push_row<'a>(
     (word, row): (&'a str, &'a str),
 ) -> Pushed {
     let (words, given) = row.split_once(" < ").ok_or(Stop::Row)?;
-    let mut asked = Asked::plain(word);
-    for pair in words.split(", ") {
-        asked.ask(pair)?;
-    }
     let mut call = Call {
-        asked,
+        asked: Asked { word, words },
         script: given_to(word, given, script),
     };
     match word {
         "loops" => push_both(out, made, &mut call),
-        "turns" | "runs" => push_client(out, made, &mut call),
-        _ => push_server(out, made, &mut call),
+        "turns" | "runs" => push_new::<Client, _>(out, made, &mut call),
+        _ => push_new::<Server, _>(out, made, &mut call),
     }
 }

@@ -1,13 +1,15 @@
 // The parts of the input.
 
-use crate::fresh::{Made, Task, push_client, push_server, push_world};
+use crate::fresh::{Made, Task, push_new};
 use crate::fronts::push_fronts;
 use crate::links::{self, Script};
-use crate::shown::push_text;
 use crate::stop::{Pushed, Stop};
-use crate::tried::again;
 use crate::{ended, hostile, played, texts, values};
+use client_core::Client;
+use link_world::World;
+use server_core::Server;
 use std::alloc::{AllocError, Global};
+use std::io::Write;
 
 /// The text of the part with this head; none if there is no such part.
 fn part<'a>(input: &'a str, head: &str) -> Option<&'a str> {
@@ -31,34 +33,43 @@ fn named<'a>(alloc: Global, input: &'a str, word: &str, name: &str) -> Result<&'
 
 /// What the rows of a part ask.
 pub(crate) trait Answers {
-    /// What a row shows.
-    fn answer(&mut self, alloc: Global, row: &str) -> Result<Vec<u8>, Stop>;
+    /// Appends what a row shows.
+    fn answer(&mut self, out: &mut Vec<u8>, row: &str) -> Pushed;
 }
 
-/// The answer of a row, which is asked again if memory was short for it; or the words for a call that did not behave as required then.
+/// The answer of a row; or the words for a call that did not behave as required if memory was short for it.
+fn push_once<A: Answers>(out: &mut Vec<u8>, asked: &mut A, row: &str) -> Pushed {
+    let mut answer = Vec::new(*out.allocator());
+    match asked.answer(&mut answer, row) {
+        Ok(()) => out.extend_from_slice(answer.as_slice())?,
+        Err(Stop::Changed) => write!(out, "changed")?,
+        Err(Stop::ForEver) => write!(out, "refused for ever")?,
+        Err(stop) => return Err(stop),
+    }
+    Ok(())
+}
+
+/// Likewise; a row is asked again, once, if memory was short for it.
 fn push_answer<A: Answers>(out: &mut Vec<u8>, asked: &mut A, row: &str) -> Pushed {
-    let alloc = *out.allocator();
-    let answer = match asked.answer(alloc, row) {
-        Err(Stop::Refused) => again(alloc, asked.answer(alloc, row)),
-        answer => answer,
-    };
-    match answer {
-        Ok(answer) => Ok(out.extend_from_slice(answer.as_slice())?),
-        Err(Stop::Changed) => Ok(push_text(out, "changed")?),
-        Err(Stop::ForEver) => Ok(push_text(out, "refused for ever")?),
-        Err(stop) => Err(stop),
+    match push_once(out, asked, row) {
+        Err(Stop::Refused) => write!(out, "refused, as before; ")?,
+        done => return done,
+    }
+    match push_once(out, asked, row) {
+        Err(Stop::Refused) => Ok(write!(out, "refused for ever")?),
+        done => done,
     }
 }
 
 /// Rows, each followed by its answer; a line that begins with `-- ` is no row.
 fn push_rows<A: Answers>(out: &mut Vec<u8>, asked: &mut A, text: &str) -> Pushed {
     for row in text.lines() {
-        push_text(out, row)?;
+        write!(out, "{row}")?;
         if !row.starts_with("-- ") {
-            push_text(out, " => ")?;
+            write!(out, " => ")?;
             push_answer(out, asked, row)?;
         }
-        push_text(out, "\n")?;
+        out.push(b'\n')?;
     }
     Ok(())
 }
@@ -74,21 +85,16 @@ struct Alone<'a> {
 }
 
 impl Answers for Alone<'_> {
-    fn answer(&mut self, alloc: Global, row: &str) -> Result<Vec<u8>, Stop> {
-        let mut out = Vec::new(alloc);
+    fn answer(&mut self, out: &mut Vec<u8>, row: &str) -> Pushed {
         let (made, words) = (self.made, (self.word, row));
         match self.word {
-            "setups" | "schedules" | "features" | "contacts" => texts::push_row(&mut out, words)?,
-            "values" | "quiets" => values::push_row(&mut out, made, words)?,
-            "client_cuts" | "server_cuts" | "both_cuts" => {
-                hostile::push_row(&mut out, made, words)?
-            }
+            "values" | "quiets" => values::push_row(out, made, words),
+            "client_cuts" | "server_cuts" | "both_cuts" => hostile::push_row(out, made, words),
             "serves" | "connections" | "loops" | "turns" | "runs" => {
-                links::push_row(&mut out, made, self.script, words)?
+                links::push_row(out, made, self.script, words)
             }
-            _ => return Err(Stop::Row),
+            _ => texts::push_row(out, words),
         }
-        Ok(out)
     }
 }
 
@@ -104,24 +110,20 @@ impl<E: Answers> Task<E> for Rows<'_> {
     }
 }
 
-/// What comes in on either side of a program's connection.
-fn script<'a>(alloc: Global, input: &'a str, name: &str) -> Result<Script<'a>, Stop> {
-    Ok(Script {
-        replies: named(alloc, input, "replies", name)?,
-        commands: named(alloc, input, "commands", name)?,
-        last_replies: named(alloc, input, "last replies", name)?,
-        last_commands: named(alloc, input, "last commands", name)?,
-    })
-}
-
-/// Rows that do not depend on each other, with what comes in of a program of this name.
+/// Rows that do not depend on each other, with what comes in on either side of the connection of a program of this name.
 fn push_alone(
     out: &mut Vec<u8>,
     made: Made<'_>,
     (input, name): (&str, &str),
     (word, text): (&str, &str),
 ) -> Pushed {
-    let script = script(*out.allocator(), input, name)?;
+    let alloc = *out.allocator();
+    let script = Script {
+        replies: named(alloc, input, "replies", name)?,
+        commands: named(alloc, input, "commands", name)?,
+        last_replies: named(alloc, input, "last replies", name)?,
+        last_commands: named(alloc, input, "last commands", name)?,
+    };
     push_rows(out, &mut Alone { made, script, word }, text)
 }
 
@@ -133,9 +135,9 @@ fn push_made(
     (word, text): (&str, &str),
 ) -> Pushed {
     match word {
-        "client" => push_client(out, made, &mut Rows { text }),
-        "server" => push_server(out, made, &mut Rows { text }),
-        "world" => push_world(out, made, &mut Rows { text }),
+        "client" => push_new::<Client, _>(out, made, &mut Rows { text }),
+        "server" => push_new::<Server, _>(out, made, &mut Rows { text }),
+        "world" => push_new::<World, _>(out, made, &mut Rows { text }),
         "files" => ended::push_played(out, made, (text.as_bytes(), None)),
         "plays" => played::push_events(out, made, text),
         "stops" => {
@@ -159,27 +161,22 @@ fn made_of<'a>(alloc: Global, input: &'a str, rest: &str) -> Result<Made<'a>, St
     })
 }
 
-/// The words of parts that are texts of which others are made.
-const TEXTS: [&str; 8] = [
-    "program", "held", "setup", "replies", "commands", "last", "ways", "ending",
+/// The words of parts that are texts of which others are made; each but the setup has a name.
+const TEXTS: [&str; 7] = [
+    "program", "held", "replies", "commands", "last", "ways", "ending",
 ];
 
 /// A part with its answers; a text that others are made of, unchanged.
 fn push_part_once(out: &mut Vec<u8>, input: &str, piece: &str) -> Pushed {
-    let alloc = *out.allocator();
     let (head, text) = piece.split_once("]\n").ok_or(Stop::Row)?;
-    push_text(out, format!(in alloc; "[{head}]\n")?.as_str())?;
+    write!(out, "[{head}]\n")?;
     let (word, rest) = head.split_once(" ").unwrap_or((head, ""));
-    if TEXTS.iter().any(|text| *text == word) {
-        return Ok(push_text(out, text)?);
+    if head == "setup" || !rest.is_empty() && TEXTS.iter().any(|text| *text == word) {
+        return Ok(write!(out, "{text}")?);
     }
     let (name, _) = rest.split_once(" ").unwrap_or((rest, ""));
-    push_made(
-        out,
-        made_of(alloc, input, rest)?,
-        (input, name),
-        (word, text),
-    )
+    let made = made_of(*out.allocator(), input, rest)?;
+    push_made(out, made, (input, name), (word, text))
 }
 
 /// A part with its answers. If the program is out of memory, or memory is short for what the part is made of, it is started again, once.
@@ -189,14 +186,14 @@ fn push_part(out: &mut Vec<u8>, input: &str, piece: &str) -> Pushed {
         Err(Stop::Memory) => out.truncate(count),
         Err(Stop::Refused) => {
             out.truncate(count);
-            push_text(out, "refused, as before; ")?;
+            write!(out, "refused, as before; ")?;
         }
         done => return done,
     }
     push_part_once(out, input, piece)
 }
 
-/// The input, with each row followed by its answer.
+/// The input, with each row followed by its answer. No row has a bracket.
 pub(crate) fn answered(alloc: Global, input: &str) -> Result<Vec<u8>, Stop> {
     let mut out = Vec::new(alloc);
     for piece in input.split("[") {

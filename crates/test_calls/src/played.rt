@@ -1,8 +1,7 @@
 // A new world through many events: each shows `1` if it happens, else `0`; `show` and `files` are not events.
 
 use crate::ended::{push_ended, push_files};
-use crate::fresh::{Made, Task, push_world, read_program};
-use crate::shown::push_text;
+use crate::fresh::{Made, Task, push_new, read_program};
 use crate::stop::{Pushed, Stop};
 use dmis_program::Program;
 use link_world::{Event, Instruction, Machine, Schedule, Simulated, World, WorldFault};
@@ -82,7 +81,7 @@ impl Rows<'_> {
         if happened && row == "connect" {
             self.connections = self.connections.saturating_add(1);
         }
-        Ok(push_text(out, if happened { "1" } else { "0" })?)
+        Ok(out.push(if happened { b'1' } else { b'0' })?)
     }
 
     /// A row: an event, or the world, or its files.
@@ -125,5 +124,5 @@ pub(crate) fn push_events(out: &mut Vec<u8>, made: Made<'_>, rows: &str) -> Push
         rows,
         connections: 0,
     };
-    push_world(out, made, &mut task)
+    push_new::<World, _>(out, made, &mut task)
 }

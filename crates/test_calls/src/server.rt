@@ -5,15 +5,14 @@
 
 use crate::hostile;
 use crate::parts::Answers;
-use crate::shown::{
-    push_debug, push_direction, push_entry, push_frame, push_lines, push_point, push_text,
-};
+use crate::shown::{push_direction, push_entries, push_frame, push_lines};
 use crate::stop::{Pushed, Stop};
-use crate::tried::{Called, Tries, front, push_appended};
+use crate::tried::{Call, Called, Tries, push_written};
 use fixed_um::{Point, Um, read_um};
 use link_world::write_contact_rows;
 use server_core::{Job, Outcome, Server, ServerFault};
-use std::alloc::{AllocError, Global};
+use std::alloc::Global;
+use std::io::Write;
 
 /// What was answered is sent.
 fn take_out(server: &mut Server) {
@@ -33,24 +32,11 @@ fn point(text: &str) -> Point {
     Point { x, y, z }
 }
 
-/// A call for which memory can be short.
-#[derive(Clone, Copy)]
-enum Call<'a> {
-    Feed(&'a [u8]),
-    Read,
-    Turn,
-    Machine(&'a str, &'a str),
-}
-
 impl Called<Call<'_>, ServerFault> for Server {
-    fn push_all(&self, out: &mut Vec<u8>) -> Result<(), AllocError> {
-        let may = (
-            self.has_line(),
-            self.may_turn(),
-            self.may_end(&Outcome::Done),
-        );
-        push_debug(out, &may)?;
-        push_debug(out, self.setup())?;
+    fn push_all(&self, out: &mut Vec<u8>) -> Pushed {
+        let may_end = self.may_end(&Outcome::Done);
+        write!(out, "{:?}", (self.has_line(), self.may_turn(), may_end))?;
+        write!(out, "{:?}", self.setup())?;
         hostile::push_server(out, self)
     }
 
@@ -58,22 +44,11 @@ impl Called<Call<'_>, ServerFault> for Server {
         match *call {
             Call::Feed(piece) => self.feed(piece)?,
             Call::Read => return self.read_one(),
-            Call::Turn => self.turn()?,
-            Call::Machine(word, rest) => self.machine(outcome(word, rest))?,
+            Call::Word("turn", _) => self.turn()?,
+            Call::Word(word, rest) => self.machine(outcome(word, rest))?,
         }
         Ok(true)
     }
-}
-
-/// The tag of a number.
-fn tag(number: u32) -> [u8; 5] {
-    let mut tag = *b"00000";
-    let mut left = number;
-    for digit in tag.iter_mut().rev() {
-        *digit = b'0' + (left % 10) as u8;
-        left /= 10;
-    }
-    tag
 }
 
 /// How what runs ends, by its word.
@@ -108,8 +83,11 @@ impl Driven<'_> {
     /// 65 commands `Home()` with the tags that follow this number, with no turn between them.
     fn feed_homes(&mut self, number: u32) -> Result<bool, ServerFault> {
         for nth in 1..=65u32 {
-            let tag = tag(number.saturating_add(nth));
-            self.feed_line(&tag, b" Home()\r\n")?;
+            let tag = number.saturating_add(nth);
+            let line = format!(in self.tries.alloc; "{tag:05} Home()").map_err(
+                |_| ServerFault::Memory,
+            )?;
+            self.feed_line(line.as_bytes(), b"\r\n")?;
         }
         Ok(true)
     }
@@ -126,12 +104,11 @@ impl Driven<'_> {
     fn call(&mut self, action: &str) -> Result<bool, ServerFault> {
         let (word, rest) = action.split_once(" ").unwrap_or((action, ""));
         match word {
-            "turn" => self.make(Call::Turn),
-            "done" | "missed" | "fault" | "touched" => self.make(Call::Machine(word, rest)),
+            "turn" | "done" | "missed" | "fault" | "touched" => self.make(Call::Word(word, rest)),
             "read" => self.make(Call::Read),
             "clear" => {
                 self.feed_line(b"09999 ClearAllErrors()", b"\r\n")?;
-                self.make(Call::Turn)
+                self.make(Call::Word("turn", ""))
             }
             "long" => self.feed_long(),
             "homes" => self.feed_homes(rest.parse().unwrap_or(0)),
@@ -157,101 +134,69 @@ impl Driven<'_> {
 
 /// The connection, whether a session is open and the machine is homed, the tool, the frame and what is stored for it, and whether there is
 /// an error, each followed by `;`.
-pub(crate) fn push_state(out: &mut Vec<u8>, server: &Server) -> Result<(), AllocError> {
+pub(crate) fn push_state(out: &mut Vec<u8>, server: &Server) -> Pushed {
     let view = server.view();
     match view.connection {
-        Some(number) => push_text(out, format!(in *out.allocator(); "on {number};")?.as_str())?,
-        None => push_text(out, "off;")?,
+        Some(number) => write!(out, "on {number};")?,
+        None => write!(out, "off;")?,
     }
-    push_text(
-        out,
-        if view.session {
-            "session;"
-        } else {
-            "no session;"
-        },
-    )?;
-    push_text(out, if view.homed { "homed;" } else { "not homed;" })?;
+    write!(out, "{}session;", if view.session { "" } else { "no " })?;
+    write!(out, "{}homed;", if view.homed { "" } else { "not " })?;
     match view.tool {
-        Some(tool) => out.extend_from_slice(tool.as_bytes())?,
-        None => push_text(out, "no tool")?,
+        Some(tool) => write!(out, "{tool};")?,
+        None => write!(out, "no tool;")?,
     }
-    push_text(out, ";")?;
     push_frame(out, view.frame)?;
-    push_text(out, ";")?;
-    push_point(out, view.stored)?;
-    push_text(out, if view.error { ";error;" } else { ";no error;" })
+    let no = if view.error { "" } else { "no " };
+    Ok(write!(out, ";{};{no}error;", view.stored)?)
 }
 
 /// What runs, with its place and direction or its tool.
-pub(crate) fn push_job(out: &mut Vec<u8>, server: &Server) -> Result<(), AllocError> {
+pub(crate) fn push_job(out: &mut Vec<u8>, server: &Server) -> Pushed {
     match server.running() {
-        None => push_text(out, "nothing"),
-        Some(Job::Home) => push_text(out, "Home"),
-        Some(Job::Move(target)) => {
-            push_text(out, "Move ")?;
-            push_point(out, *target)
-        }
+        None => write!(out, "nothing")?,
+        Some(Job::Home) => write!(out, "Home")?,
+        Some(Job::Move(target)) => write!(out, "Move {target}")?,
         Some(Job::Touch(target, dir)) => {
-            push_text(out, "Touch ")?;
-            push_point(out, *target)?;
-            push_text(out, " ")?;
-            push_direction(out, *dir)
+            write!(out, "Touch {target} ")?;
+            push_direction(out, *dir)?;
         }
-        Some(Job::Change(tool)) => {
-            push_text(out, "Change ")?;
-            out.extend_from_slice(tool.as_bytes())
-        }
-    }
-}
-
-pub(crate) fn push_ledger(out: &mut Vec<u8>, server: &Server) -> Result<(), AllocError> {
-    for (connection, act) in server.ledger().acts() {
-        push_entry(out, *connection, act)?;
+        Some(Job::Change(tool)) => write!(out, "Change {tool}")?,
     }
     Ok(())
 }
 
 /// The lines that a call answers, which are sent, and why it is refused.
 fn push_called(out: &mut Vec<u8>, server: &mut Server, action: &str) -> Pushed {
-    let tries = Tries::new(*out.allocator());
+    let tries = Tries::new(*out.allocator(), true);
     let mut driven = Driven { server, tries };
     let done = driven.call(action);
     driven.tries.push(out)?;
     push_lines(out, driven.server.out())?;
     take_out(driven.server);
     match done {
-        Ok(true) => Ok(()),
-        Ok(false) => Ok(push_text(out, "no line;")?),
-        Err(fault) => Ok(push_debug(out, &fault)?),
+        Ok(true) => {}
+        Ok(false) => write!(out, "no line;")?,
+        Err(fault) => write!(out, "{fault:?}")?,
     }
-}
-
-/// The rows of the contacts.
-fn push_rows(out: &mut Vec<u8>, server: &Server) -> Pushed {
-    let mut text = front(*out.allocator())?;
-    let written = write_contact_rows(&mut text, server.ledger());
-    push_appended(out, text.as_slice(), written)
+    Ok(())
 }
 
 impl Answers for Server {
-    fn answer(&mut self, alloc: Global, action: &str) -> Result<Vec<u8>, Stop> {
-        let mut text = Vec::new(alloc);
+    fn answer(&mut self, out: &mut Vec<u8>, action: &str) -> Pushed {
         match action {
-            "contact rows" => push_rows(&mut text, self)?,
-            "state" => push_state(&mut text, self)?,
-            "running" => push_job(&mut text, self)?,
-            "ledger" => push_ledger(&mut text, self)?,
-            _ => push_called(&mut text, self, action)?,
+            "contact rows" => push_written(out, |text| write_contact_rows(text, self.ledger())),
+            "state" => push_state(out, self),
+            "running" => push_job(out, self),
+            "ledger" => push_entries(out, self.ledger().acts()),
+            _ => push_called(out, self, action),
         }
-        Ok(text)
     }
 }
 
 /// Actions that all succeed; what is answered is sent.
 pub(crate) fn call_all(alloc: Global, server: &mut Server, actions: &str) -> Pushed {
-    let mut tries = Tries::new(alloc);
-    tries.make_once();
+    let tries = Tries::new(alloc, false);
     let mut driven = Driven { server, tries };
     for action in actions.split(" / ") {
         if !driven.call(action)? {

@@ -6,6 +6,7 @@ use dmis_program::ProgramFault;
 use link_world::ScheduleFault;
 use server_core::ServerFault;
 use std::alloc::{AllocError, AllocFailed};
+use std::io;
 use tool_rack::SetupFault;
 
 /// Why the program ends before the last row, or a row shows no answer.
@@ -28,13 +29,15 @@ pub(crate) enum Stop {
 /// What a function answers that writes what a row shows.
 pub(crate) type Pushed = Result<(), Stop>;
 
-/// A call that must succeed is refused: the program is out of memory, or the line is not a row.
-fn memory_or_row(is_memory: bool) -> Stop {
-    if is_memory { Stop::Memory } else { Stop::Row }
-}
-
 impl From<AllocError> for Stop {
     fn from(_error: AllocError) -> Stop {
+        Stop::Memory
+    }
+}
+
+/// Only memory is written to by `write!`.
+impl From<io::Error> for Stop {
+    fn from(_error: io::Error) -> Stop {
         Stop::Memory
     }
 }
@@ -45,38 +48,15 @@ impl<T: Drop> From<AllocFailed<T>> for Stop {
     }
 }
 
-impl From<SetupFault> for Stop {
-    fn from(fault: SetupFault) -> Stop {
-        memory_or_row(fault == SetupFault::Memory)
-    }
+/// A call that must succeed is refused: the program is out of memory, or the line is not a row.
+macro_rules! memory_or_row {
+    ($($fault:ident)*) => { $(
+        impl From<$fault> for Stop {
+            fn from(fault: $fault) -> Stop {
+                if fault == $fault::Memory { Stop::Memory } else { Stop::Row }
+            }
+        }
+    )* };
 }
 
-impl From<ProgramFault> for Stop {
-    fn from(fault: ProgramFault) -> Stop {
-        memory_or_row(fault == ProgramFault::Memory)
-    }
-}
-
-impl From<ScheduleFault> for Stop {
-    fn from(fault: ScheduleFault) -> Stop {
-        memory_or_row(fault == ScheduleFault::Memory)
-    }
-}
-
-impl From<TextFault> for Stop {
-    fn from(fault: TextFault) -> Stop {
-        memory_or_row(fault == TextFault::Memory)
-    }
-}
-
-impl From<ClientFault> for Stop {
-    fn from(fault: ClientFault) -> Stop {
-        memory_or_row(fault == ClientFault::Memory)
-    }
-}
-
-impl From<ServerFault> for Stop {
-    fn from(fault: ServerFault) -> Stop {
-        memory_or_row(fault == ServerFault::Memory)
-    }
-}
+memory_or_row! { SetupFault ProgramFault ScheduleFault TextFault ClientFault ServerFault }

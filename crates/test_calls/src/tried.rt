@@ -4,23 +4,40 @@
 // before what the row shows, and the call is made again. A row shows `changed` if a reader answers anything else, and
 // `refused for ever` if memory is short again.
 
-use crate::shown::{push_lines, push_text};
+use crate::shown::push_lines;
 use crate::stop::{Pushed, Stop};
 use std::alloc::{AllocError, Global};
+use std::io::Write;
+
+/// A call of a client or of a server: bytes come, a line is read, or a word with what follows it.
+#[derive(Clone, Copy)]
+pub(crate) enum Call<'a> {
+    Feed(&'a [u8]),
+    Read,
+    Word(&'a str, &'a str),
+}
 
 /// A value whose calls `C` are made again. `F` is why one is refused.
 pub(crate) trait Called<C, F> {
     /// Appends what all readers of the value answer.
-    fn push_all(&self, out: &mut Vec<u8>) -> Result<(), AllocError>;
+    fn push_all(&self, out: &mut Vec<u8>) -> Pushed;
 
     /// Makes a call; false if there was nothing to do.
     fn make(&mut self, call: &C) -> Result<bool, F>;
 }
 
+/// Appends that memory was short for a call, and that all readers answer as before.
+pub(crate) fn push_refused(out: &mut Vec<u8>, before: &[u8], now: &[u8]) -> Pushed {
+    if before != now {
+        return Err(Stop::Changed);
+    }
+    Ok(write!(out, "refused, as before; ")?)
+}
+
 /// What came of the calls of a row for which memory was short.
 #[derive(Drop)]
 pub(crate) struct Tries {
-    alloc: Global,
+    pub(crate) alloc: Global,
     /// Whether calls are made again.
     is_on: bool,
     told: Vec<u8>,
@@ -28,10 +45,11 @@ pub(crate) struct Tries {
 }
 
 impl Tries {
-    pub(crate) fn new(alloc: Global) -> Tries {
+    /// Each call is made once unless calls are made again.
+    pub(crate) fn new(alloc: Global, is_on: bool) -> Tries {
         Tries {
             alloc,
-            is_on: true,
+            is_on,
             told: Vec::new(alloc),
             stop: None,
         }
@@ -57,10 +75,7 @@ impl Tries {
         }
         let mut now = Vec::new(self.alloc);
         value.push_all(&mut now)?;
-        if before.as_slice() != now.as_slice() {
-            return Err(Stop::Changed);
-        }
-        push_text(&mut self.told, "refused, as before; ")?;
+        push_refused(&mut self.told, before.as_slice(), now.as_slice())?;
         match value.make(call) {
             Err(fault) if fault == memory => Err(Stop::ForEver),
             answer => Ok(answer),
@@ -103,7 +118,7 @@ pub(crate) fn push_tried<C, F: PartialEq + Copy, V: Called<C, F>>(
     memory: F,
     call: &C,
 ) -> Pushed {
-    let mut tries = Tries::new(*out.allocator());
+    let mut tries = Tries::new(*out.allocator(), true);
     let is_made = tries.call(value, memory, call).is_ok();
     tries.push(out)?;
     if is_made { Ok(()) } else { Err(Stop::Row) }
@@ -112,34 +127,18 @@ pub(crate) fn push_tried<C, F: PartialEq + Copy, V: Called<C, F>>(
 /// The contents of a text that is appended to.
 const FRONT: &[u8] = b"at ";
 
-/// A text that is appended to.
-pub(crate) fn front(alloc: Global) -> Result<Vec<u8>, AllocError> {
-    Vec::from_slice(alloc, FRONT)
-}
-
-/// Appends the lines that a call has appended to such a text. If memory was short for the call, the text must be as before.
-pub(crate) fn push_appended(
+/// Appends the lines that a call appends to a text. If memory was short for the call, the text must be as before.
+pub(crate) fn push_written<W: FnOnce(&mut Vec<u8>) -> Result<(), AllocError>>(
     out: &mut Vec<u8>,
-    text: &[u8],
-    answer: Result<(), AllocError>,
-) -> Pushed {
-    match (text.strip_prefix(FRONT), answer) {
+    write: W,
+) -> Pushed
+    requires { W.IsAlwaysCallable write }
+{
+    let mut text = Vec::from_slice(*out.allocator(), FRONT)?;
+    let written = write(&mut text);
+    match (text.as_slice().strip_prefix(FRONT), written) {
         (Some(appended), Ok(())) => Ok(push_lines(out, appended)?),
         (Some([]), Err(AllocError)) => Err(Stop::Refused),
         _ => Err(Stop::Changed),
-    }
-}
-
-/// What a row shows that was refused before, and is asked again.
-pub(crate) fn again(alloc: Global, answer: Result<Vec<u8>, Stop>) -> Result<Vec<u8>, Stop> {
-    match answer {
-        Ok(answer) => {
-            let mut told = Vec::new(alloc);
-            push_text(&mut told, "refused, as before; ")?;
-            told.extend_from_slice(answer.as_slice())?;
-            Ok(told)
-        }
-        Err(Stop::Refused) => Err(Stop::ForEver),
-        Err(stop) => Err(stop),
     }
 }

@@ -7,7 +7,7 @@ ghost use Rattle.std.specs.Prelude.{◌≡◌, IfOk, None};
 
 use crate::fresh::{Made, read_program, read_setup};
 use crate::hostile;
-use crate::shown::{lined, push_debug, push_display, push_features, push_point, push_text};
+use crate::shown::{lined, push_features, push_points};
 use crate::stop::{Pushed, Stop};
 use crate::tried::{Called, push_tried};
 use command_queue::{Queue, Waiting};
@@ -22,6 +22,7 @@ use link_world::{Machine, NewFault, Outcome, Simulated, quiet_run};
 use resume_plan::{Start, plan};
 use server_core::{Job, Server};
 use std::alloc::{AllocError, AllocFailed, Global};
+use std::io::Write;
 use tool_rack::Setup;
 
 // ---- open tags, and commands that wait
@@ -34,14 +35,12 @@ struct Drawn {
 }
 
 impl Called<(), TagFault> for Drawn {
-    fn push_all(&self, out: &mut Vec<u8>) -> Result<(), AllocError> {
+    fn push_all(&self, out: &mut Vec<u8>) -> Pushed {
         let open = &self.open;
-        push_debug(out, &open.kind_of(Tag::Std(5)))?;
         let next = (open.next_tag(Kind::Home), open.next_tag(Kind::AbortE));
-        push_debug(out, &next)?;
         let marks = (open.is_asking(), open.event_open(), open.has_failed());
-        push_debug(out, &marks)?;
-        push_display(out, &open.count())
+        let (kind, count) = (open.kind_of(Tag::Std(5)), open.count());
+        Ok(write!(out, "{kind:?} {next:?} {marks:?} {count}")?)
     }
 
     fn make(&mut self, _call: &()) -> Result<bool, TagFault> {
@@ -59,9 +58,7 @@ fn push_drawn(out: &mut Vec<u8>) -> Pushed {
     }
     let mut drawn = Drawn { open, tag: None };
     push_tried(out, &mut drawn, TagFault::Memory, &())?;
-    push_debug(out, &drawn.tag)?;
-    push_text(out, " of ")?;
-    Ok(push_display(out, &drawn.open.count())?)
+    Ok(write!(out, "{:?} of {}", drawn.tag, drawn.open.count())?)
 }
 
 /// Commands that wait, and those that were taken.
@@ -72,12 +69,11 @@ struct Drained {
 }
 
 impl Called<(), AllocError> for Drained {
-    fn push_all(&self, out: &mut Vec<u8>) -> Result<(), AllocError> {
+    fn push_all(&self, out: &mut Vec<u8>) -> Pushed {
         let queue = &self.queue;
-        push_debug(out, &queue.first())?;
         let held = (queue.holds(Tag::Std(1)), queue.holds(Tag::Std(2)));
-        push_debug(out, &held)?;
-        push_debug(out, &(queue.len(), queue.is_empty()))
+        let count = (queue.len(), queue.is_empty());
+        Ok(write!(out, "{:?} {held:?} {count:?}", queue.first())?)
     }
 
     fn make(&mut self, _call: &()) -> Result<bool, AllocError> {
@@ -104,26 +100,17 @@ fn push_queue(out: &mut Vec<u8>) -> Pushed {
     let mut drained = Drained { queue, taken };
     push_tried(out, &mut drained, AllocError, &())?;
     for waiting in drained.taken.as_slice() {
-        push_debug(out, &waiting.tag)?;
-        push_text(out, ";")?;
+        write!(out, "{:?};", waiting.tag)?;
     }
-    Ok(push_display(out, &drained.queue.len())?)
+    Ok(write!(out, "{}", drained.queue.len())?)
 }
 
 // ---- points, features and acts
 
-fn push_all_points(out: &mut Vec<u8>, points: &Points) -> Result<(), AllocError> {
-    for point in points.as_slice() {
-        push_point(out, *point)?;
-        push_text(out, ";")?;
-    }
-    Ok(())
-}
-
 /// One more point is added.
 impl Called<(), AllocError> for Points {
-    fn push_all(&self, out: &mut Vec<u8>) -> Result<(), AllocError> {
-        push_all_points(out, self)
+    fn push_all(&self, out: &mut Vec<u8>) -> Pushed {
+        push_points(out, self.as_slice())
     }
 
     fn make(&mut self, _call: &()) -> Result<bool, AllocError> {
@@ -133,14 +120,14 @@ impl Called<(), AllocError> for Points {
 }
 
 /// A fifth point after four.
-fn push_points(out: &mut Vec<u8>) -> Pushed {
+fn push_fifth(out: &mut Vec<u8>) -> Pushed {
     let alloc = *out.allocator();
     let mut points = Points::new(alloc);
     for _ in 0..4u32 {
         points.push(Point::zero())?;
     }
     push_tried(out, &mut points, AllocError, &())?;
-    Ok(push_display(out, &points.len())?)
+    Ok(write!(out, "{}", points.len())?)
 }
 
 /// A feature of one point, and its contact.
@@ -155,9 +142,8 @@ fn push_feature_copy(out: &mut Vec<u8>) -> Pushed {
     let ledger = read_features(alloc, FEATURES)?;
     let feature = ledger.list().first().ok_or(Stop::Row)?;
     let copy = feature.copy(alloc).ok().ok_or(Stop::Refused)?;
-    out.extend_from_slice(copy.label.as_bytes())?;
-    push_text(out, " ")?;
-    Ok(push_all_points(out, &copy.points)?)
+    write!(out, "{} ", copy.label)?;
+    push_points(out, copy.points.as_slice())
 }
 
 /// Features, to which one more is added.
@@ -168,12 +154,12 @@ struct Kept {
 }
 
 impl Called<(), AllocError> for Kept {
-    fn push_all(&self, out: &mut Vec<u8>) -> Result<(), AllocError> {
+    fn push_all(&self, out: &mut Vec<u8>) -> Pushed {
         push_features(out, self.ledger.list())?;
-        match &self.next {
-            Some(next) => out.extend_from_slice(next.label.as_bytes()),
-            None => Ok(()),
+        if let Some(next) = &self.next {
+            write!(out, "{}", next.label)?;
         }
+        Ok(())
     }
 
     /// It is added, or handed back if memory is short.
@@ -213,7 +199,7 @@ fn push_kept(out: &mut Vec<u8>) -> Pushed {
     let next = Some(feature(alloc, b"b")?);
     let mut kept = Kept { ledger, next };
     push_tried(out, &mut kept, AllocError, &())?;
-    Ok(kept.push_all(out)?)
+    kept.push_all(out)
 }
 
 /// Acts, to which one more is added.
@@ -224,10 +210,9 @@ struct Done {
 }
 
 impl Called<(), AllocError> for Done {
-    fn push_all(&self, out: &mut Vec<u8>) -> Result<(), AllocError> {
-        push_debug(out, &self.ledger.acts())?;
-        push_display(out, &self.ledger.contacts())?;
-        push_debug(out, &self.next)
+    fn push_all(&self, out: &mut Vec<u8>) -> Pushed {
+        let (acts, contacts) = (self.ledger.acts(), self.ledger.contacts());
+        Ok(write!(out, "{acts:?} {contacts} {:?}", self.next)?)
     }
 
     /// It is added, or handed back if memory is short.
@@ -262,7 +247,7 @@ fn push_done(out: &mut Vec<u8>) -> Pushed {
     let mut done = Done { ledger, next };
     push_tried(out, &mut done, AllocError, &())?;
     let counts = (done.ledger.acts().len(), done.ledger.contacts());
-    Ok(push_debug(out, &counts)?)
+    Ok(write!(out, "{counts:?}")?)
 }
 
 // ---- plans, audits, machines and servers
@@ -275,8 +260,7 @@ fn push_plan(out: &mut Vec<u8>, given: Made<'_>) -> Pushed {
         .ok()
         .ok_or(Stop::Refused)?;
     for one in planned.as_slice() {
-        push_debug(out, &one.command.kind())?;
-        push_text(out, ";")?;
+        write!(out, "{:?};", one.command.kind())?;
     }
     Ok(())
 }
@@ -288,32 +272,27 @@ fn push_audit(out: &mut Vec<u8>, given: Made<'_>) -> Pushed {
     let features = read_features(alloc, FEATURES)?;
     let acts = read_contacts(alloc, CONTACTS)?;
     match audit(alloc, &program, features.list(), &acts) {
-        Ok(Verdict::Starts(starts)) => Ok(push_debug(out, &starts.as_slice())?),
+        Ok(Verdict::Starts(starts)) => Ok(write!(out, "{:?}", starts.as_slice())?),
         Ok(Verdict::NoRun(_)) => Err(Stop::Row),
         Err(AllocError) => Err(Stop::Refused),
     }
 }
 
 /// Where a machine meets a surface next to the zero point.
-fn push_met<M: Machine>(out: &mut Vec<u8>, machine: &mut M) -> Pushed {
-    match machine.answer(&Job::Touch(Point::zero(), None), 0) {
-        Outcome::Touched(at) => Ok(push_point(out, at)?),
-        _ => Err(Stop::Row),
-    }
-}
-
 fn push_machine(out: &mut Vec<u8>, given: Made<'_>) -> Pushed {
     let alloc = *out.allocator();
     let setup = read_setup(alloc, given)?;
     let mut machine = Simulated::new(alloc, &setup).ok().ok_or(Stop::Refused)?;
-    push_met(out, &mut machine)
+    match machine.answer(&Job::Touch(Point::zero(), None), 0) {
+        Outcome::Touched(at) => Ok(write!(out, "{at}")?),
+        _ => Err(Stop::Row),
+    }
 }
 
 fn push_server(out: &mut Vec<u8>, given: Made<'_>) -> Pushed {
     let alloc = *out.allocator();
-    let setup = read_setup(alloc, given)?;
-    match Server::new(alloc, setup) {
-        Ok(server) => Ok(hostile::push_server(out, &server)?),
+    match Server::new(alloc, read_setup(alloc, given)?) {
+        Ok(server) => hostile::push_server(out, &server),
         Err(AllocError) => Err(Stop::Refused),
     }
 }
@@ -324,22 +303,14 @@ fn push_quiet(out: &mut Vec<u8>, given: Made<'_>, shifts: &str) -> Pushed {
     let setup = Setup::read(alloc, lined(alloc, shifts)?.as_slice())?;
     let mut machine = Simulated::new(alloc, &setup)?;
     let program = read_program(alloc, given)?;
-    let quiet = match quiet_run(
-        alloc,
-        program,
-        read_setup(alloc, given)?,
-        given.window,
-        &mut machine,
-    ) {
+    let setup = read_setup(alloc, given)?;
+    let quiet = match quiet_run(alloc, program, setup, given.window, &mut machine) {
         Ok(quiet) => quiet,
         Err(NewFault::Memory) => return Err(Stop::Refused),
         Err(NewFault::BadWindow(_, _)) => return Err(Stop::Row),
     };
-    push_debug(out, &quiet.state)?;
-    push_text(out, " ")?;
-    push_display(out, &quiet.turns)?;
-    push_text(out, " turns;")?;
-    Ok(push_features(out, quiet.features.list())?)
+    write!(out, "{:?} {} turns;", quiet.state, quiet.turns)?;
+    push_features(out, quiet.features.list())
 }
 
 /// What a row of a value shows.
@@ -347,7 +318,7 @@ pub(crate) fn push_row(out: &mut Vec<u8>, given: Made<'_>, (word, row): (&str, &
     match row {
         "Open::draw" => push_drawn(out),
         "Queue::new, Queue::drain_all" => push_queue(out),
-        "Points::push" => push_points(out),
+        "Points::push" => push_fifth(out),
         "Feature::copy" => push_feature_copy(out),
         "FeatureLedger::push" => push_kept(out),
         "ServerLedger::push" => push_done(out),

@@ -1,4 +1,4 @@
-// The sessions that are played. Each is owned by one function here, which lends it.
+// The sessions that are played.
 
 ghost use Rattle.std.specs.Prelude.{◌≡◌, true, IfOk};
 ghost use Rattle.client_core.specs.Clients.{is_window};
@@ -11,33 +11,6 @@ use services::{Relay, RelaySession, Service, Session};
 use std::alloc::{AllocError, Global};
 use tool_rack::Setup;
 
-/// What asks for one effect after another.
-pub(crate) trait Plays {
-    fn asks(&self) -> Effect<'_>;
-
-    fn take(&mut self, answer: Answer<'_>);
-}
-
-impl Plays for Session {
-    fn asks(&self) -> Effect<'_> {
-        Session::asks(self)
-    }
-
-    fn take(&mut self, answer: Answer<'_>) {
-        Session::take(self, answer)
-    }
-}
-
-impl Plays for RelaySession {
-    fn asks(&self) -> Effect<'_> {
-        RelaySession::asks(self)
-    }
-
-    fn take(&mut self, answer: Answer<'_>) {
-        RelaySession::take(self, answer)
-    }
-}
-
 /// A run: its opening, and then itself.
 #[derive(Drop)]
 pub(crate) struct Running {
@@ -45,7 +18,16 @@ pub(crate) struct Running {
     session: Option<run_session::Session>,
 }
 
-impl Plays for Running {
+/// What asks for one effect after another; nobody if there is no relay.
+#[derive(Drop)]
+pub(crate) enum Plays {
+    Nobody,
+    Run(Running),
+    Service(Session),
+    Relay(RelaySession),
+}
+
+impl Running {
     fn asks(&self) -> Effect<'_> {
         match &self.session {
             Some(session) => session.asks(),
@@ -64,24 +46,24 @@ impl Plays for Running {
     }
 }
 
-/// What is done with a run.
-pub(crate) trait RunTask {
-    fn with_run(&mut self, run: &mut Running) -> Result<(), Stop>;
-}
+impl Plays {
+    pub(crate) fn asks(&self) -> Option<Effect<'_>> {
+        match self {
+            Plays::Nobody => None,
+            Plays::Run(run) => Some(run.asks()),
+            Plays::Service(service) => Some(service.asks()),
+            Plays::Relay(relay) => Some(relay.asks()),
+        }
+    }
 
-/// What is done with a run and its service.
-pub(crate) trait ServiceTask {
-    fn with_service(&mut self, run: &mut Running, service: &mut Session) -> Result<(), Stop>;
-}
-
-/// What is done with all three.
-pub(crate) trait RelayTask {
-    fn with_all(
-        &mut self,
-        run: &mut Running,
-        service: &mut Session,
-        relay: &mut RelaySession,
-    ) -> Result<(), Stop>;
+    pub(crate) fn take(&mut self, answer: Answer<'_>) {
+        match self {
+            Plays::Nobody => {}
+            Plays::Run(run) => run.take(answer),
+            Plays::Service(service) => service.take(answer),
+            Plays::Relay(relay) => relay.take(answer),
+        }
+    }
 }
 
 fn text(alloc: Global, text: &str) -> Result<String, AllocError> {
@@ -114,23 +96,15 @@ fn order(alloc: Global) -> Result<Run, AllocError>
 }
 
 /// A run.
-pub(crate) fn lend_run<T: RunTask>(alloc: Global, task: &mut T) -> Result<(), Stop> {
-    let mut run = Running {
+pub(crate) fn new_run(alloc: Global) -> Result<Plays, Stop> {
+    Ok(Plays::Run(Running {
         opening: Opening::new(alloc, order(alloc)?),
         session: None,
-    };
-    let done = task.with_run(&mut run);
-    drop(run);
-    done
+    }))
 }
 
 /// A service of this setup for one connection.
-pub(crate) fn lend_service<T: ServiceTask>(
-    alloc: Global,
-    setup: &str,
-    task: &mut T,
-    run: &mut Running,
-) -> Result<(), Stop> {
+pub(crate) fn new_service(alloc: Global, setup: &str) -> Result<Plays, Stop> {
     let service = Service {
         listen: None,
         port: 1,
@@ -143,20 +117,11 @@ pub(crate) fn lend_service<T: ServiceTask>(
         stop: None,
     };
     let setup = Setup::read(alloc, setup.as_bytes()).ok().ok_or(Stop::Row)?;
-    let mut session = Session::new(alloc, service, setup)?;
-    let done = task.with_service(run, &mut session);
-    drop(session);
-    done
+    Ok(Plays::Service(Session::new(alloc, service, setup)?))
 }
 
 /// A relay of one connection, which keeps its bytes in this folder.
-pub(crate) fn lend_relay<T: RelayTask>(
-    alloc: Global,
-    folder: &str,
-    task: &mut T,
-    run: &mut Running,
-    service: &mut Session,
-) -> Result<(), Stop> {
+pub(crate) fn new_relay(alloc: Global, folder: &str) -> Result<Plays, Stop> {
     let relay = Relay {
         listen: 2,
         host: text(alloc, "server")?,
@@ -168,8 +133,5 @@ pub(crate) fn lend_relay<T: RelayTask>(
         log: None,
         timeout: None,
     };
-    let mut session = RelaySession::new(alloc, relay)?;
-    let done = task.with_all(run, service, &mut session);
-    drop(session);
-    done
+    Ok(Plays::Relay(RelaySession::new(alloc, relay)?))
 }

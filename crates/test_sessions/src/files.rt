@@ -16,11 +16,6 @@ pub(crate) struct File {
 }
 
 impl File {
-    /// Bytes are added.
-    pub(crate) fn add(&mut self, bytes: &[u8]) -> Result<(), AllocError> {
-        self.bytes.extend_from_slice(bytes)
-    }
-
     /// All of it is forced to the device.
     pub(crate) fn force(&mut self) {
         self.safe = self.bytes.len();
@@ -49,17 +44,12 @@ impl Files {
     }
 
     pub(crate) fn find(&self, name: &str) -> Option<usize> {
-        self.items
-            .iter()
-            .position(|file| file.is_there && file.name.as_str() == name)
+        let is_it = |file: &File| file.is_there && file.name.as_str() == name;
+        self.items.iter().position(is_it)
     }
 
     pub(crate) fn get(&self, at: usize) -> Option<&File> {
         self.items.get(at)
-    }
-
-    pub(crate) fn get_mut(&mut self, at: usize) -> Option<&mut File> {
-        self.items.get_mut(at)
     }
 
     /// A new file with this text, in the place of one that has the name.
@@ -97,7 +87,7 @@ impl Files {
     }
 
     pub(crate) fn unname(&mut self, at: usize) {
-        if let Some(file) = self.get_mut(at) {
+        if let Some(file) = self.items.get_mut(at) {
             file.is_there = false;
         }
     }
@@ -106,7 +96,7 @@ impl Files {
     pub(crate) fn rename(&mut self, at: usize, name: &str) -> Result<(), AllocError> {
         let text = String::from_str(self.alloc, name)?;
         self.remove(name);
-        if let Some(file) = self.get_mut(at) {
+        if let Some(file) = self.items.get_mut(at) {
             file.name = text;
         }
         Ok(())
@@ -114,7 +104,7 @@ impl Files {
 
     /// Whether nobody else holds a file; this one does from now on.
     pub(crate) fn lock(&mut self, at: usize, who: Who) -> bool {
-        match self.get_mut(at) {
+        match self.items.get_mut(at) {
             Some(file) if file.holder.is_none() || file.holder == Some(who) => {
                 file.holder = Some(who);
                 file.writer = who;

@@ -69,37 +69,21 @@ impl Hand {
         }
     }
 
-    fn growing(&self, growth: Growth) -> Growing {
+    fn growing(&mut self, growth: Growth) -> &mut Growing {
         match growth {
-            Growth::Contacts => self.contacts,
-            Growth::Told => self.told,
-            Growth::Record => self.record,
-            Growth::Features => self.features,
+            Growth::Contacts => &mut self.contacts,
+            Growth::Told => &mut self.told,
+            Growth::Record => &mut self.record,
+            Growth::Features => &mut self.features,
         }
     }
 
-    fn grow(&mut self, growth: Growth, next: Growing) {
-        match growth {
-            Growth::Contacts => self.contacts = next,
-            Growth::Told => self.told = next,
-            Growth::Record => self.record = next,
-            Growth::Features => self.features = next,
-        }
-    }
-
-    fn written(&self, slot: Slot) -> Option<usize> {
+    /// The file that is written.
+    fn written(&mut self, slot: Slot) -> &mut Option<usize> {
         match slot {
-            Slot::Up => self.up,
-            Slot::Down => self.down,
-            Slot::Order => self.order,
-        }
-    }
-
-    fn write(&mut self, slot: Slot, at: usize) {
-        match slot {
-            Slot::Up => self.up = Some(at),
-            Slot::Down => self.down = Some(at),
-            Slot::Order => self.order = Some(at),
+            Slot::Up => &mut self.up,
+            Slot::Down => &mut self.down,
+            Slot::Order => &mut self.order,
         }
     }
 }
@@ -160,8 +144,15 @@ impl Outside {
         }
     }
 
+    /// An end goes, and perhaps loses what it has not forced.
+    pub(crate) fn part(&mut self, hand: &mut Hand, ended: Ended, left: Option<usize>) {
+        hand.ended = ended;
+        self.files.release(hand.who, left);
+        self.leave(hand.who);
+    }
+
     /// An end leaves its connections.
-    pub(crate) fn leave(&mut self, who: Who) {
+    fn leave(&mut self, who: Who) {
         match who {
             Who::Run => self.wire(who, Peer::Server).leave_client(),
             Who::Serve => self.last.leave_server(),
@@ -172,10 +163,6 @@ impl Outside {
         }
     }
 
-    fn is_there(&self, name: &str) -> bool {
-        self.files.find(name).is_some()
-    }
-
     // ---- files that grow
 
     fn hold(&mut self, hand: &mut Hand, growth: Growth, name: &str) -> Result<Kind, AllocError> {
@@ -183,7 +170,7 @@ impl Outside {
         if !self.files.lock(at, hand.who) {
             return Ok(Kind::Failed(Cause::Locked));
         }
-        hand.grow(growth, Growing::Held(at, is_first));
+        *hand.growing(growth) = Growing::Held(at, is_first);
         Ok(Kind::Done)
     }
 
@@ -194,15 +181,16 @@ impl Outside {
         text: &[u8],
         (held, length): (usize, usize),
     ) -> Result<Kind, AllocError> {
-        if let Growing::Held(at, _) = hand.growing(growth)
-            && let Some(file) = self.files.get_mut(at)
+        if let Growing::Held(at, _) = *hand.growing(growth)
+            && let Some(file) = self.files.items.get_mut(at)
         {
             if held < length {
                 file.cut(held);
             }
-            file.add(text.get(held..).unwrap_or(&[]))?;
+            file.bytes
+                .extend_from_slice(text.get(held..).unwrap_or(&[]))?;
             file.force();
-            hand.grow(growth, Growing::Grows(at));
+            *hand.growing(growth) = Growing::Grows(at);
         }
         Ok(Kind::Done)
     }
@@ -214,7 +202,7 @@ impl Outside {
         (name, beside): (&str, &str),
         text: &[u8],
     ) -> Result<Kind, AllocError> {
-        let (at, is_first) = match hand.growing(growth) {
+        let (at, is_first) = match *hand.growing(growth) {
             Growing::Held(at, is_first) => (at, is_first),
             _ => self.files.open(hand.who, name)?,
         };
@@ -222,7 +210,7 @@ impl Outside {
             return Ok(Kind::Failed(Cause::Locked));
         }
         let new = self.files.make(hand.who, beside, text)?;
-        hand.grow(growth, Growing::Next(at, is_first, new));
+        *hand.growing(growth) = Growing::Next(at, is_first, new);
         match self.files.get(at) {
             Some(file) if !text.starts_with(file.bytes.as_slice()) => Ok(Kind::Found),
             _ => Ok(Kind::Done),
@@ -230,22 +218,20 @@ impl Outside {
     }
 
     /// What was begun of a file that grows goes.
-    fn discard(&mut self, hand: &mut Hand, growth: Growth) {
-        let (old, new) = match hand.growing(growth) {
-            Growing::Held(at, is_first) => (is_first.then_some(at), None),
-            Growing::Next(at, is_first, new) => (is_first.then_some(at), Some(new)),
-            _ => (None, None),
-        };
-        for at in [old, new] {
-            if let Some(at) = at {
-                self.files.unname(at);
-            }
+    fn discard(&mut self, hand: &mut Hand, growth: Growth) -> Kind {
+        let growing = *hand.growing(growth);
+        if let Growing::Held(at, true) | Growing::Next(at, true, _) = growing {
+            self.files.unname(at);
         }
-        hand.grow(growth, Growing::Nothing);
+        if let Growing::Next(_, _, new) = growing {
+            self.files.unname(new);
+        }
+        *hand.growing(growth) = Growing::Nothing;
+        Kind::Done
     }
 
-    fn set_aside(&mut self, hand: &Hand, growth: Growth, name: &str) -> Result<Kind, AllocError> {
-        if let Growing::Next(at, _, _) = hand.growing(growth) {
+    fn set_aside(&mut self, growing: Growing, name: &str) -> Result<Kind, AllocError> {
+        if let Growing::Next(at, _, _) = growing {
             self.files.rename(at, name)?;
         }
         Ok(Kind::Done)
@@ -253,95 +239,96 @@ impl Outside {
 
     /// The new file gets its name: that without its end, `.new`.
     fn begin(&mut self, hand: &mut Hand, growth: Growth) -> Result<Kind, AllocError> {
-        let Growing::Next(_, _, new) = hand.growing(growth) else {
-            return Ok(Kind::Done);
-        };
-        self.came.clear();
-        if let Some(file) = self.files.get(new) {
-            self.came.extend_from_slice(file.name.as_str().as_bytes())?;
+        if let Growing::Next(_, _, new) = *hand.growing(growth) {
+            let mut name = String::new(*self.came.allocator());
+            if let Some(file) = self.files.get(new)
+                && let Some(text) = file.name.as_str().strip_suffix(".new")
+            {
+                name.push_str(text)?;
+            }
+            self.files.rename(new, name.as_str())?;
+            self.files.lock(new, hand.who);
+            *hand.growing(growth) = Growing::Grows(new);
         }
-        let name = self.came.as_slice().strip_suffix(b".new".as_slice());
-        let name = str::from_utf8(name.unwrap_or(&[])).unwrap_or("");
-        self.files.rename(new, name)?;
-        self.files.lock(new, hand.who);
-        hand.grow(growth, Growing::Grows(new));
         Ok(Kind::Done)
     }
 
     /// A text is added to a file that grows, and perhaps forced; whether it then stands.
-    fn grow(
-        &mut self,
-        hand: &Hand,
-        growth: Growth,
-        text: &[u8],
-        is_forced: bool,
-    ) -> Result<Kind, AllocError> {
-        let Growing::Grows(at) = hand.growing(growth) else {
+    fn grow(&mut self, it: Growing, text: &[u8], is_forced: bool) -> Result<Kind, AllocError> {
+        let Growing::Grows(at) = it else {
             return Ok(Kind::Done);
         };
-        let Some(file) = self.files.get_mut(at) else {
+        let Some(file) = self.files.items.get_mut(at) else {
             return Ok(Kind::Done);
         };
-        file.add(text)?;
+        file.bytes.extend_from_slice(text)?;
         if is_forced {
             file.force();
         }
-        Ok(if file.is_there {
-            Kind::Done
-        } else {
-            Kind::Failed(Cause::Renamed)
-        })
+        Ok(Kind::stands(file.is_there))
     }
 
-    fn stands(&self, hand: &Hand, growth: Growth, length: usize) -> Kind {
-        match hand.growing(growth) {
-            Growing::Grows(at) => match self.files.get(at) {
-                Some(file) if file.is_there && file.bytes.len() == length => Kind::Done,
-                _ => Kind::Failed(Cause::Renamed),
-            },
+    fn stands(&self, growing: Growing, length: usize) -> Kind {
+        match growing {
+            Growing::Grows(at) => Kind::stands(matches!(
+                self.files.get(at),
+                Some(file) if file.is_there && file.bytes.len() == length
+            )),
             _ => Kind::Done,
         }
     }
 
-    fn on_growing(
+    /// Carries an effect out, or finds that it has to wait.
+    pub(crate) fn carry_out(
         &mut self,
         hand: &mut Hand,
         effect: Effect<'_>,
-    ) -> Result<Option<Kind>, AllocError> {
-        Ok(Some(match effect {
-            Effect::Hold(growth, name) => self.hold(hand, growth, name)?,
+    ) -> Result<Kind, AllocError> {
+        match effect {
+            Effect::Hold(growth, name) => self.hold(hand, growth, name),
             Effect::Fill(growth, text, held, length) => {
-                self.fill(hand, growth, text, (held, length))?
+                self.fill(hand, growth, text, (held, length))
             }
             Effect::Make(growth, name, beside, text) => {
-                self.make(hand, growth, (name, beside), text)?
+                self.make(hand, growth, (name, beside), text)
             }
-            Effect::Discard(growth) => {
-                self.discard(hand, growth);
-                Kind::Done
-            }
-            Effect::SetAside(growth, old) => self.set_aside(hand, growth, old)?,
-            Effect::Begin(growth) => self.begin(hand, growth)?,
-            Effect::Append(growth, text) => self.grow(hand, growth, text, false)?,
-            Effect::Keep(growth, text) => self.grow(hand, growth, text, true)?,
-            Effect::Stands(growth, length) => self.stands(hand, growth, length),
-            _ => return Ok(None),
-        }))
+            Effect::Discard(growth) => Ok(self.discard(hand, growth)),
+            Effect::SetAside(growth, old) => self.set_aside(*hand.growing(growth), old),
+            Effect::Begin(growth) => self.begin(hand, growth),
+            Effect::Append(growth, text) => self.grow(*hand.growing(growth), text, false),
+            Effect::Keep(growth, text) => self.grow(*hand.growing(growth), text, true),
+            Effect::Stands(growth, length) => Ok(self.stands(*hand.growing(growth), length)),
+            _ => self.on_files(hand, effect),
+        }
     }
 
     // ---- other files
 
-    fn open(&mut self, hand: &mut Hand, place: Place<'_>) -> Kind {
+    /// These bytes are the answer.
+    fn text(&mut self, bytes: &[u8]) -> Result<Kind, AllocError> {
+        self.came.clear();
+        self.came.extend_from_slice(bytes)?;
+        Ok(Kind::Bytes)
+    }
+
+    /// So is what has come, if it is not empty.
+    fn came(&self) -> Kind {
+        if self.came.is_empty() {
+            Kind::End
+        } else {
+            Kind::Bytes
+        }
+    }
+
+    fn open(&self, hand: &mut Hand, place: Place<'_>) -> Kind {
         hand.read = (None, 0);
         let Place::Named(name) = place else {
             return Kind::Done;
         };
-        match self.files.find(name) {
-            Some(at) => {
-                hand.read = (Some(at), 0);
-                Kind::Done
-            }
-            None => Kind::Missing,
+        hand.read = (self.files.find(name), 0);
+        match hand.read {
+            (Some(_), _) => Kind::Done,
+            (None, _) => Kind::Missing,
         }
     }
 
@@ -356,100 +343,66 @@ impl Outside {
         self.came
             .extend_from_slice(file.bytes.as_slice().get(place..).unwrap_or(&[]))?;
         hand.read = (Some(at), file.bytes.len());
-        Ok(if self.came.is_empty() {
-            Kind::End
-        } else {
-            Kind::Bytes
-        })
-    }
-
-    fn replace(&mut self, who: Who, name: &str, text: &[u8]) -> Result<Kind, AllocError> {
-        self.files.make(who, name, text)?;
-        Ok(Kind::Done)
+        Ok(self.came())
     }
 
     fn create(&mut self, hand: &mut Hand, slot: Slot, name: &str) -> Result<Kind, AllocError> {
-        if self.is_there(name) {
+        if self.files.find(name).is_some() {
             return Ok(Kind::Failed(Cause::Taken));
         }
         let at = self.files.make(hand.who, name, b"".as_slice())?;
-        hand.write(slot, at);
+        *hand.written(slot) = Some(at);
         Ok(Kind::Done)
     }
 
-    fn add(&mut self, at: Option<usize>, bytes: &[u8]) -> Result<Kind, AllocError> {
+    /// Bytes are added to a file, or it is forced.
+    fn add(&mut self, at: Option<usize>, bytes: Option<&[u8]>) -> Result<Kind, AllocError> {
         if let Some(at) = at
-            && let Some(file) = self.files.get_mut(at)
+            && let Some(file) = self.files.items.get_mut(at)
         {
-            file.add(bytes)?;
+            match bytes {
+                Some(bytes) => file.bytes.extend_from_slice(bytes)?,
+                None => file.force(),
+            }
         }
         Ok(Kind::Done)
-    }
-
-    fn force(&mut self, at: Option<usize>) -> Kind {
-        if let Some(at) = at
-            && let Some(file) = self.files.get_mut(at)
-        {
-            file.force();
-        }
-        Kind::Done
-    }
-
-    fn extend(&mut self, hand: &mut Hand, name: &str) -> Result<Kind, AllocError> {
-        let (at, _) = self.files.open(hand.who, name)?;
-        hand.log = Some(at);
-        Ok(Kind::Done)
-    }
-
-    /// These bytes are the answer.
-    fn text(&mut self, bytes: &[u8]) -> Result<Kind, AllocError> {
-        self.came.clear();
-        self.came.extend_from_slice(bytes)?;
-        Ok(Kind::Bytes)
     }
 
     fn names(&mut self, folder: &str) -> Result<Kind, AllocError> {
         self.came.clear();
         self.files.push_names(&mut self.came, folder)?;
-        Ok(if self.came.is_empty() {
-            Kind::End
-        } else {
-            Kind::Bytes
-        })
+        Ok(self.came())
     }
 
-    fn on_files(
-        &mut self,
-        hand: &mut Hand,
-        effect: Effect<'_>,
-    ) -> Result<Option<Kind>, AllocError> {
-        Ok(Some(match effect {
-            Effect::Open(_, place) => self.open(hand, place),
-            Effect::Read(_) => self.read(hand)?,
-            Effect::Exists(name) if self.is_there(name) => Kind::Found,
-            Effect::Place(name) => self.text(name.as_bytes())?,
+    fn on_files(&mut self, hand: &mut Hand, effect: Effect<'_>) -> Result<Kind, AllocError> {
+        match effect {
+            Effect::Open(_, place) => return Ok(self.open(hand, place)),
+            Effect::Read(_) => return self.read(hand),
+            Effect::Exists(name) if self.files.find(name).is_some() => return Ok(Kind::Found),
+            Effect::Place(name) => return self.text(name.as_bytes()),
             Effect::Node(name) => match self.files.find(name) {
-                Some(at) => self.text(&at.to_be_bytes())?,
-                None => Kind::Missing,
+                Some(at) => return self.text(&at.to_be_bytes()),
+                None => return Ok(Kind::Missing),
             },
-            Effect::Replace(name, _, text) => self.replace(hand.who, name, text)?,
-            Effect::Names(folder) => self.names(folder)?,
-            Effect::Create(slot, name) => self.create(hand, slot, name)?,
-            Effect::Save(slot, bytes) => self.add(hand.written(slot), bytes)?,
-            Effect::Settle(slot) => self.force(hand.written(slot)),
-            Effect::Remove(name) if !self.files.remove(name) => Kind::Missing,
-            Effect::Extend(name) => self.extend(hand, name)?,
-            Effect::Add(text) => self.add(hand.log, text)?,
-            _ => return Ok(None),
-        }))
+            Effect::Replace(name, _, text) => {
+                self.files.make(hand.who, name, text)?;
+            }
+            Effect::Names(folder) => return self.names(folder),
+            Effect::Create(slot, name) => return self.create(hand, slot, name),
+            Effect::Save(slot, bytes) => return self.add(*hand.written(slot), Some(bytes)),
+            Effect::Settle(slot) => return self.add(*hand.written(slot), None),
+            Effect::Remove(name) if !self.files.remove(name) => return Ok(Kind::Missing),
+            Effect::Extend(name) => {
+                let (at, _) = self.files.open(hand.who, name)?;
+                hand.log = Some(at);
+            }
+            Effect::Add(text) => return self.add(hand.log, Some(text)),
+            _ => return self.on_connections(hand, effect),
+        }
+        Ok(Kind::Done)
     }
 
     // ---- connections
-
-    fn listen(&mut self, who: Who) -> Kind {
-        self.wire(who, Peer::Client).is_listened = true;
-        Kind::Done
-    }
 
     fn accept(&mut self, hand: &Hand) -> Kind {
         let wire = self.wire(hand.who, Peer::Client);
@@ -469,20 +422,17 @@ impl Outside {
         Kind::Done
     }
 
-    fn receive(&mut self, hand: &Hand, peer: Peer) -> Result<Kind, AllocError> {
-        self.came.clear();
+    fn receive(&mut self, hand: &Hand, peer: Peer) -> Kind {
         let mut bytes = Vec::new(*self.came.allocator());
         let pipe = self.from(hand.who, peer);
         std::mem::swap(&mut pipe.bytes, &mut bytes);
-        if !bytes.is_empty() {
-            self.came = bytes;
-            return Ok(Kind::Bytes);
+        let is_ended = pipe.is_ended;
+        pipe.is_told = pipe.is_told || is_ended && bytes.is_empty();
+        self.came = bytes;
+        match self.came() {
+            Kind::End if !is_ended => Kind::waits(hand.is_joined || hand.is_woken),
+            came => came,
         }
-        if pipe.is_ended {
-            pipe.is_told = true;
-            return Ok(Kind::End);
-        }
-        Ok(Kind::waits(hand.is_joined || hand.is_woken))
     }
 
     fn send(&mut self, who: Who, peer: Peer, bytes: &[u8]) -> Result<Kind, AllocError> {
@@ -511,34 +461,22 @@ impl Outside {
         }
     }
 
-    fn on_connections(
-        &mut self,
-        hand: &mut Hand,
-        effect: Effect<'_>,
-    ) -> Result<Option<Kind>, AllocError> {
+    fn on_connections(&mut self, hand: &mut Hand, effect: Effect<'_>) -> Result<Kind, AllocError> {
         let who = hand.who;
-        Ok(Some(match effect {
-            Effect::Listen(..) => self.listen(who),
-            Effect::Accept(..) => self.accept(hand),
-            Effect::Connect(..) => self.connect(who),
-            Effect::Receive(peer) => self.receive(hand, peer)?,
-            Effect::Send(peer, bytes) => self.send(who, peer, bytes)?,
-            Effect::Pass(peer, bytes) => self.pass(who, peer, bytes)?,
-            Effect::Wait(_) => self.wait(hand),
-            Effect::Close(peer) => {
-                self.to(who, peer).is_ended = true;
-                Kind::Done
-            }
-            Effect::Leave => {
-                self.leave(who);
-                Kind::Done
-            }
-            Effect::Join => {
-                hand.is_joined = true;
-                Kind::Done
-            }
-            _ => return Ok(None),
-        }))
+        match effect {
+            Effect::Accept(..) => return Ok(self.accept(hand)),
+            Effect::Connect(..) => return Ok(self.connect(who)),
+            Effect::Receive(peer) => return Ok(self.receive(hand, peer)),
+            Effect::Send(peer, bytes) => return self.send(who, peer, bytes),
+            Effect::Pass(peer, bytes) => return self.pass(who, peer, bytes),
+            Effect::Wait(_) => return Ok(self.wait(hand)),
+            Effect::Listen(..) => self.wire(who, Peer::Client).is_listened = true,
+            Effect::Close(peer) => self.to(who, peer).is_ended = true,
+            Effect::Leave => self.leave(who),
+            Effect::Join => hand.is_joined = true,
+            _ => return self.on_others(hand, effect),
+        }
+        Ok(Kind::Done)
     }
 
     fn on_others(&mut self, hand: &mut Hand, effect: Effect<'_>) -> Result<Kind, AllocError> {
@@ -557,24 +495,6 @@ impl Outside {
         Ok(Kind::Done)
     }
 
-    /// Carries an effect out, or finds that it has to wait.
-    pub(crate) fn carry_out(
-        &mut self,
-        hand: &mut Hand,
-        effect: Effect<'_>,
-    ) -> Result<Kind, AllocError> {
-        if let Some(kind) = self.on_growing(hand, effect)? {
-            return Ok(kind);
-        }
-        if let Some(kind) = self.on_files(hand, effect)? {
-            return Ok(kind);
-        }
-        if let Some(kind) = self.on_connections(hand, effect)? {
-            return Ok(kind);
-        }
-        self.on_others(hand, effect)
-    }
-
     /// What an effect that fails has done nevertheless: of a text some bytes are added, and what was begun of a file goes.
     pub(crate) fn fail(
         &mut self,
@@ -585,9 +505,11 @@ impl Outside {
         match effect {
             Effect::Append(growth, text) | Effect::Keep(growth, text) => {
                 let part = text.get(..left).unwrap_or(text);
-                self.grow(hand, growth, part, false)?;
+                self.grow(*hand.growing(growth), part, false)?;
             }
-            Effect::Make(growth, ..) | Effect::Begin(growth) => self.discard(hand, growth),
+            Effect::Make(growth, ..) | Effect::Begin(growth) => {
+                self.discard(hand, growth);
+            }
             _ => {}
         }
         Ok(())

@@ -56,6 +56,15 @@ impl Kind {
         if is_over { Kind::Nothing } else { Kind::Waits }
     }
 
+    /// Whether a file that grows stands.
+    pub(crate) fn stands(is_so: bool) -> Kind {
+        if is_so {
+            Kind::Done
+        } else {
+            Kind::Failed(Cause::Renamed)
+        }
+    }
+
     pub(crate) fn answer(self, bytes: &[u8]) -> Answer<'_> {
         match self {
             Kind::Waits | Kind::Nothing => Answer::Nothing,
@@ -83,6 +92,13 @@ pub(crate) enum Stop {
 
 impl From<AllocError> for Stop {
     fn from(_error: AllocError) -> Stop {
+        Stop::Memory
+    }
+}
+
+/// Only memory is written to by `write!`.
+impl From<io::Error> for Stop {
+    fn from(_error: io::Error) -> Stop {
         Stop::Memory
     }
 }

@@ -1,14 +1,12 @@
 // A play: both ends, and perhaps a relay, step by step, with one effect disturbed; then the same call once more.
 
-use crate::ends::{
-    Plays, RelayTask, RunTask, Running, ServiceTask, lend_relay, lend_run, lend_service,
-};
+use crate::ends::{Plays, new_relay, new_run, new_service};
 use crate::hands::{Ended, Hand, Outside};
 use crate::wires::Wire;
 use crate::{Kind, Stop, Who};
 use effects::{Cause, Effect};
-use services::{RelaySession, Session};
 use std::alloc::{AllocError, Global};
+use std::io::Write;
 
 /// The texts of the setup and of the program.
 #[derive(Clone, Copy)]
@@ -35,8 +33,10 @@ const WAITED_MS: u64 = 6_000;
 
 const MOST_STEPS: u32 = 100_000;
 
-fn kind_of(word: &str) -> Option<Kind> {
-    Some(match word {
+/// The answer of this word; none for `kill`.
+fn kind_of(word: &str) -> Option<Option<Kind>> {
+    Some(Some(match word {
+        "kill" => return Some(None),
         "short" => Kind::Short,
         "end" => Kind::End,
         "missing" => Kind::Missing,
@@ -47,7 +47,7 @@ fn kind_of(word: &str) -> Option<Kind> {
         "reset" => Kind::Failed(Cause::Reset),
         "unknown" => Kind::Failed(Cause::Unknown),
         _ => return None,
-    })
+    }))
 }
 
 fn who_of(word: &str) -> Option<Who> {
@@ -68,11 +68,7 @@ impl Play {
         Some(Play {
             who: who_of(who)?,
             at: at.parse().ok()?,
-            how: if how == "kill" {
-                None
-            } else {
-                Some(kind_of(how)?)
-            },
+            how: kind_of(how)?,
             left: left.parse().ok()?,
         })
     }
@@ -83,11 +79,11 @@ impl Play {
     }
 }
 
-/// An end goes, and perhaps loses what it has not forced.
-fn part(outside: &mut Outside, hand: &mut Hand, ended: Ended, left: Option<usize>) {
-    hand.ended = ended;
-    outside.files.release(hand.who, left);
-    outside.leave(hand.who);
+/// One of the three: its session, and what it has open.
+#[derive(Drop)]
+struct End {
+    plays: Plays,
+    hand: Hand,
 }
 
 /// What comes of an effect.
@@ -107,129 +103,140 @@ fn outcome(
     outside.carry_out(hand, effect)
 }
 
-/// The next effect of an end is carried out; whether it had not to wait, nor had ended.
-fn step<P: Plays>(
-    outside: &mut Outside,
-    hand: &mut Hand,
-    end: &mut P,
-    play: Option<Play>,
-) -> Result<bool, AllocError> {
-    if hand.ended != Ended::No {
-        return Ok(false);
-    }
-    let effect = end.asks();
-    if let Effect::Exit(status) = effect {
-        part(outside, hand, Ended::Exit(status), None);
-        return Ok(true);
-    }
-    let kind = outcome(outside, hand, effect, play)?;
-    if let Kind::Waits = kind {
-        return Ok(false);
-    }
-    end.take(kind.answer(outside.came.as_slice()));
-    hand.is_woken = false;
-    if let Some(play) = play
-        && play.is_next(hand)
-        && play.how.is_none()
-    {
-        part(outside, hand, Ended::Killed, Some(play.left));
-    }
-    hand.count = hand.count.saturating_add(1);
-    Ok(true)
-}
-
-/// An end continues until it waits.
-fn settle<P: Plays>(
-    outside: &mut Outside,
-    hand: &mut Hand,
-    end: &mut P,
-    play: Option<Play>,
-) -> Result<(), AllocError> {
-    for _ in 0..MOST_STEPS {
-        if !step(outside, hand, end, play)? {
-            return Ok(());
+impl End {
+    fn new(alloc: Global, who: Who) -> End {
+        End {
+            plays: Plays::Nobody,
+            hand: Hand::new(alloc, who),
         }
     }
-    Ok(())
+
+    /// The next effect of an end is carried out; whether it had not to wait, nor had ended.
+    fn step(&mut self, outside: &mut Outside, play: Option<Play>) -> Result<bool, AllocError> {
+        let hand = &mut self.hand;
+        if hand.ended != Ended::No {
+            return Ok(false);
+        }
+        let Some(effect) = self.plays.asks() else {
+            return Ok(false);
+        };
+        if let Effect::Exit(status) = effect {
+            outside.part(hand, Ended::Exit(status), None);
+            return Ok(true);
+        }
+        let kind = outcome(outside, hand, effect, play)?;
+        if let Kind::Waits = kind {
+            return Ok(false);
+        }
+        self.plays.take(kind.answer(outside.came.as_slice()));
+        hand.is_woken = false;
+        if let Some(play) = play
+            && play.is_next(hand)
+            && play.how.is_none()
+        {
+            outside.part(hand, Ended::Killed, Some(play.left));
+        }
+        hand.count = hand.count.saturating_add(1);
+        Ok(true)
+    }
+
+    /// An end continues until it waits.
+    fn settle(&mut self, outside: &mut Outside, play: Option<Play>) -> Result<(), AllocError> {
+        for _ in 0..MOST_STEPS {
+            if !self.step(outside, play)? {
+                return Ok(());
+            }
+        }
+        Ok(())
+    }
+
+    /// How it has ended, how many effects it had, what it has said and printed.
+    fn push(&self, out: &mut Vec<u8>, name: &str) -> Result<(), Stop> {
+        let hand = &self.hand;
+        let status = match hand.ended {
+            Ended::No => -1,
+            Ended::Killed => -9,
+            Ended::Exit(status) => i32::from(status),
+        };
+        let (count, said, printed) = (hand.count, &hand.said, &hand.printed);
+        write!(
+            out,
+            "end {name} {status} {count} {} {}\n",
+            said.len(),
+            printed.len()
+        )?;
+        push_bytes(out, said.as_slice())?;
+        Ok(push_bytes(out, printed.as_slice())?)
+    }
 }
 
 /// What one call of the three leaves.
 #[derive(Drop)]
 struct Round<'a> {
-    alloc: Global,
-    texts: Texts<'a>,
     play: Option<Play>,
-    folder: &'a str,
     outside: &'a mut Outside,
-    run: Hand,
-    serve: Hand,
-    watch: Hand,
-    waits: u32,
+    run: End,
+    serve: End,
+    watch: End,
 }
 
 impl Round<'_> {
-    /// The reads of a run that has not ended come back; false once that was often enough.
-    fn wake(&mut self) -> bool {
+    /// The reads of a run come back.
+    fn wake(&mut self) {
         self.outside.clock = self.outside.clock.saturating_add(WAITED_MS);
-        self.run.is_woken = true;
-        self.waits = self.waits.saturating_add(1);
-        self.run.ended == Ended::No && self.waits < MOST_WAITS
+        self.run.hand.is_woken = true;
     }
 
-    /// Both ends take a step; whether one did.
-    fn step(&mut self, run: &mut Running, service: &mut Session) -> Result<bool, AllocError> {
-        let Round {
-            outside,
-            run: hand,
-            serve,
-            play,
-            ..
-        } = self;
-        let served = step(outside, serve, service, *play)?;
-        Ok(step(outside, hand, run, *play)? || served)
+    /// All take a step; whether one did.
+    fn step(&mut self) -> Result<bool, AllocError> {
+        let outside = &mut *self.outside;
+        let play = self.play;
+        let relayed = self.watch.step(outside, play)?;
+        let served = self.serve.step(outside, play)?;
+        Ok(self.run.step(outside, play)? || served || relayed)
     }
 
-    fn relay(&mut self, relay: &mut RelaySession) -> Result<bool, AllocError> {
-        step(self.outside, &mut self.watch, relay, self.play)
-    }
-}
-
-impl RunTask for Round<'_> {
-    fn with_run(&mut self, run: &mut Running) -> Result<(), Stop> {
-        lend_service(self.alloc, self.texts.setup, self, run)
-    }
-}
-
-impl ServiceTask for Round<'_> {
-    fn with_service(&mut self, run: &mut Running, service: &mut Session) -> Result<(), Stop> {
-        settle(self.outside, &mut self.serve, service, self.play)?;
+    /// The sessions of a call of this number, which is that of the folder of a relay's bytes.
+    fn begin(&mut self, alloc: Global, setup: &str, number: usize) -> Result<(), Stop> {
         if self.outside.is_through {
-            return lend_relay(self.alloc, self.folder, self, run, service);
+            let folder = format!(in alloc; "bytes{number}")?;
+            self.watch.plays = new_relay(alloc, folder.as_str())?;
         }
+        self.run.plays = new_run(alloc)?;
+        self.serve.plays = new_service(alloc, setup)?;
+        Ok(())
+    }
+
+    /// All play until the run has ended or waits for good.
+    fn play(&mut self) -> Result<(), AllocError> {
+        self.serve.settle(&mut *self.outside, self.play)?;
+        self.watch.settle(&mut *self.outside, self.play)?;
+        let mut waits = 0u32;
         for _ in 0..MOST_STEPS {
-            if !self.step(run, service)? && !self.wake() {
-                return Ok(());
+            if self.step()? {
+                continue;
+            }
+            self.wake();
+            waits = waits.saturating_add(1);
+            if self.run.hand.ended != Ended::No || waits >= MOST_WAITS {
+                break;
             }
         }
         Ok(())
     }
-}
 
-impl RelayTask for Round<'_> {
-    fn with_all(
-        &mut self,
-        run: &mut Running,
-        service: &mut Session,
-        relay: &mut RelaySession,
-    ) -> Result<(), Stop> {
-        settle(self.outside, &mut self.watch, relay, self.play)?;
-        for _ in 0..MOST_STEPS {
-            let relayed = self.relay(relay)?;
-            if !self.step(run, service)? && !relayed && !self.wake() {
-                return Ok(());
-            }
+    /// What is left once all have played.
+    fn push_played(&mut self, out: &mut Vec<u8>, setup: &str, number: usize) -> Result<(), Stop> {
+        self.begin(*out.allocator(), setup, number)?;
+        self.play()?;
+        push_bytes(out, b"round".as_slice())?;
+        for who in [Who::Run, Who::Serve, Who::Watch] {
+            self.outside.files.release(who, None);
         }
-        Ok(())
+        self.run.push(out, "run")?;
+        self.serve.push(out, "serve")?;
+        self.watch.push(out, "watch")?;
+        push_files(out, self.outside)
     }
 }
 
@@ -241,32 +248,10 @@ fn push_bytes(out: &mut Vec<u8>, bytes: &[u8]) -> Result<(), AllocError> {
     Ok(())
 }
 
-fn push_head(out: &mut Vec<u8>, head: String) -> Result<(), AllocError> {
-    push_bytes(out, head.as_str().as_bytes())
-}
-
-fn push_hand(out: &mut Vec<u8>, name: &str, hand: &Hand) -> Result<(), AllocError> {
-    let alloc = *out.allocator();
-    let (count, said, printed) = (hand.count, hand.said.len(), hand.printed.len());
-    let status = match hand.ended {
-        Ended::No => -1,
-        Ended::Killed => -9,
-        Ended::Exit(status) => i32::from(status),
-    };
-    push_head(
-        out,
-        format!(in alloc; "end {name} {status} {count} {said} {printed}")?,
-    )?;
-    push_bytes(out, hand.said.as_slice())?;
-    push_bytes(out, hand.printed.as_slice())
-}
-
-fn push_files(out: &mut Vec<u8>, outside: &Outside) -> Result<(), AllocError> {
-    let alloc = *out.allocator();
+fn push_files(out: &mut Vec<u8>, outside: &Outside) -> Result<(), Stop> {
     for file in outside.files.items.iter() {
         if file.is_there {
-            let (name, length) = (file.name.as_str(), file.bytes.len());
-            push_head(out, format!(in alloc; "file {name} {length}")?)?;
+            write!(out, "file {} {}\n", file.name, file.bytes.len())?;
             push_bytes(out, file.bytes.as_slice())?;
         }
     }
@@ -277,56 +262,23 @@ fn push_files(out: &mut Vec<u8>, outside: &Outside) -> Result<(), AllocError> {
 fn push_round(
     out: &mut Vec<u8>,
     outside: &mut Outside,
-    texts: Texts<'_>,
+    setup: &str,
     play: Option<Play>,
-    folder: &str,
+    number: usize,
 ) -> Result<(), Stop> {
     let alloc = *out.allocator();
     outside.first = Wire::new(alloc);
     outside.last = Wire::new(alloc);
     let mut round = Round {
-        alloc,
-        texts,
         play,
-        folder,
         outside,
-        run: Hand::new(alloc, Who::Run),
-        serve: Hand::new(alloc, Who::Serve),
-        watch: Hand::new(alloc, Who::Watch),
-        waits: 0,
+        run: End::new(alloc, Who::Run),
+        serve: End::new(alloc, Who::Serve),
+        watch: End::new(alloc, Who::Watch),
     };
-    lend_run(alloc, &mut round)?;
-    let Round {
-        outside,
-        run,
-        serve,
-        watch,
-        ..
-    } = round;
-    for who in [Who::Run, Who::Serve, Who::Watch] {
-        outside.files.release(who, None);
-    }
-    push_hand(out, "run", &run)?;
-    push_hand(out, "serve", &serve)?;
-    push_hand(out, "watch", &watch)?;
-    Ok(push_files(out, outside)?)
-}
-
-/// A call made again and again: what is left of it each time. The folder of a relay's bytes is another one each time.
-#[derive(Drop)]
-struct Calls<'a> {
-    texts: Texts<'a>,
-    outside: Outside,
-    count: u32,
-}
-
-impl Calls<'_> {
-    fn push_next(&mut self, out: &mut Vec<u8>, play: Option<Play>) -> Result<(), Stop> {
-        self.count = self.count.saturating_add(1);
-        let folder = format!(in *out.allocator(); "bytes{}", self.count)?;
-        push_bytes(out, b"round".as_slice())?;
-        push_round(out, &mut self.outside, self.texts, play, folder.as_str())
-    }
+    let done = round.push_played(out, setup, number);
+    drop(round);
+    done
 }
 
 /// What is left after the calls of a line, and after one that nothing disturbs.
@@ -336,15 +288,12 @@ pub(crate) fn push_row(out: &mut Vec<u8>, texts: Texts<'_>, row: &str) -> Result
     let (setup, program) = (texts.setup.as_bytes(), texts.program.as_bytes());
     outside.files.make(Who::Run, "machine.setup", setup)?;
     outside.files.make(Who::Run, "part.dmis", program)?;
-    let mut calls = Calls {
-        texts,
-        outside,
-        count: 0,
-    };
+    let mut number = 1usize;
     for part in parts.split(";") {
         let play = Play::read(part).ok_or(Stop::Row)?;
-        calls.push_next(out, Some(play))?;
+        push_round(out, &mut outside, texts.setup, Some(play), number)?;
+        number = number.saturating_add(1);
     }
-    calls.push_next(out, None)?;
+    push_round(out, &mut outside, texts.setup, None, number)?;
     Ok(push_bytes(out, b"played".as_slice())?)
 }

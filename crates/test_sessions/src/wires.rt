@@ -1,5 +1,7 @@
 // A connection in memory, between a client and a server.
 
+use std::alloc::Global;
+
 /// A connection, or the port that is called.
 #[derive(Drop)]
 pub(crate) struct Wire {
@@ -61,5 +63,3 @@ impl Wire {
         self.is_listened = false;
     }
 }
-
-use std::alloc::Global;

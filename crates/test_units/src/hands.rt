@@ -6,8 +6,7 @@ use std::fs;
 use std::io::{Read, Write};
 use std::net::{TcpListener, TcpStream};
 use std::os::unix::fs::symlink;
-
-const NAME: &str = "/tmp/dme_hands.test";
+use std::test::Fail;
 
 /// What comes of an effect is as expected.
 pub fn gives(hands: &mut RealHands, effect: Effect<'_>, expected: Answer<'_>) -> bool {
@@ -40,14 +39,15 @@ fn hears(hands: &mut RealHands, peer: Peer, expected: Answer<'_>) -> bool {
 
 #[test]
 fn a_file_is_read_to_its_end(rt: HostRuntime) {
-    assert!(rt; fs::write(&rt, NAME, b"told".as_slice()).is_ok());
+    let name = "/tmp/dme_hands.test";
+    assert!(rt; fs::write(&rt, name, b"told".as_slice()).is_ok());
     let mut hands = RealHands::new(rt);
-    let open = Effect::Open(Slot::Down, Place::Named(NAME));
+    let open = Effect::Open(Slot::Down, Place::Named(name));
     assert!(rt; does(&mut hands, open));
     let told = Answer::Bytes(b"told".as_slice());
     assert!(rt; gives(&mut hands, Effect::Read(Slot::Down), told));
     assert!(rt; gives(&mut hands, Effect::Read(Slot::Down), Answer::End));
-    assert!(rt; fs::remove_file(&rt, NAME).is_ok());
+    assert!(rt; fs::remove_file(&rt, name).is_ok());
     assert!(rt; gives(&mut hands, open, Answer::Missing));
 }
 
@@ -77,34 +77,27 @@ fn the_standard_streams_are_read_and_written(rt: HostRuntime) {
     assert!(rt; does(&mut hands, Effect::Exit(0)));
 }
 
-const FOLDER: &str = "/tmp/dme_hands.folder";
-
-const UP: &str = "/tmp/dme_hands.folder/1.up";
-
 #[test]
 fn a_file_in_a_folder_is_made_written_named_and_removed(rt: HostRuntime) {
-    assert!(rt; fs::create_dir(&rt, FOLDER).is_ok());
+    let (folder, up) = ("/tmp/dme_hands.folder", "/tmp/dme_hands.folder/1.up");
+    assert!(rt; fs::create_dir(&rt, folder).is_ok());
     let mut hands = RealHands::new(rt);
-    let create = Effect::Create(Slot::Up, UP);
+    let create = Effect::Create(Slot::Up, up);
     assert!(rt; does(&mut hands, create));
     assert!(rt; fails(&mut hands, create, Cause::Taken));
     assert!(rt; does(&mut hands, Effect::Save(Slot::Up, b"line".as_slice())));
     assert!(rt; does(&mut hands, Effect::Settle(Slot::Up)));
-    assert!(rt; has(&rt, UP, b"line".as_slice()));
+    assert!(rt; has(&rt, up, b"line".as_slice()));
     let names = Answer::Bytes(b"1.up/".as_slice());
-    assert!(rt; gives(&mut hands, Effect::Names(FOLDER), names));
-    hands.carry_out(Effect::Node(UP));
+    assert!(rt; gives(&mut hands, Effect::Names(folder), names));
+    hands.carry_out(Effect::Node(up));
     assert!(rt; matches!(hands.answer(), Answer::Bytes(node) if node.len() == 16));
-    assert!(rt; does(&mut hands, Effect::Remove(UP)));
-    assert!(rt; gives(&mut hands, Effect::Remove(UP), Answer::Missing));
-    assert!(rt; gives(&mut hands, Effect::Node(UP), Answer::Missing));
+    assert!(rt; does(&mut hands, Effect::Remove(up)));
+    assert!(rt; gives(&mut hands, Effect::Remove(up), Answer::Missing));
+    assert!(rt; gives(&mut hands, Effect::Node(up), Answer::Missing));
     assert!(rt; does(&mut hands, Effect::Sleep(1)));
-    assert!(rt; fs::remove_dir(&rt, FOLDER).is_ok());
+    assert!(rt; fs::remove_dir(&rt, folder).is_ok());
 }
-
-const PLACE: &str = "/tmp/dme_hands.place";
-
-const LINKED: &str = "/tmp/dme_hands.linked";
 
 /// Whether a file of this name has this place or would have it.
 fn has_place(hands: &mut RealHands, name: &str, place: &str) -> bool {
@@ -113,20 +106,21 @@ fn has_place(hands: &mut RealHands, name: &str, place: &str) -> bool {
 
 #[test]
 fn the_place_of_a_file_has_no_links(rt: HostRuntime) {
-    assert!(rt; fs::create_dir(&rt, PLACE).is_ok());
-    assert!(rt; symlink(&rt, PLACE, LINKED).is_ok());
+    let (place, link) = ("/tmp/dme_hands.place", "/tmp/dme_hands.linked");
+    assert!(rt; fs::create_dir(&rt, place).is_ok());
+    assert!(rt; symlink(&rt, place, link).is_ok());
     let mut hands = RealHands::new(rt);
     let (name, linked) = ("/tmp/dme_hands.place/1.up", "/tmp/dme_hands.linked/1.up");
     assert!(rt; has_place(&mut hands, linked, name));
     assert!(rt; fs::write(&rt, name, b"line".as_slice()).is_ok());
     assert!(rt; has_place(&mut hands, linked, name));
-    assert!(rt; gives(&mut hands, Effect::Place(LINKED), Answer::Found));
+    assert!(rt; gives(&mut hands, Effect::Place(link), Answer::Found));
     let nowhere = "/tmp/dme_hands.place/none/1.up";
     assert!(rt; has_place(&mut hands, nowhere, nowhere));
     assert!(rt; has_place(&mut hands, "/dme_hands.none", "/dme_hands.none"));
     assert!(rt; fs::remove_file(&rt, name).is_ok());
-    assert!(rt; fs::remove_file(&rt, LINKED).is_ok());
-    assert!(rt; fs::remove_dir(&rt, PLACE).is_ok());
+    assert!(rt; fs::remove_file(&rt, link).is_ok());
+    assert!(rt; fs::remove_dir(&rt, place).is_ok());
 }
 
 /// Whether the file of this name has this text.
@@ -137,81 +131,72 @@ pub fn has(rt: &HostRuntime, name: &str, text: &[u8]) -> bool {
     }
 }
 
-/// The names of a file that grows, and of those next to it.
-const GROWS: &str = "/tmp/dme_hands.grows";
-
-const BESIDE: &str = "/tmp/dme_hands.grows.new";
-
-const OLD: &str = "/tmp/dme_hands.grows.old";
-
-const HEAD: &[u8] = b"HEAD\n";
-
-const MAKE: Effect<'static> = Effect::Make(Growth::Contacts, GROWS, BESIDE, HEAD);
-
 #[test]
 fn a_file_begins_anew_and_grows(rt: HostRuntime) {
-    assert!(rt; fs::write(&rt, GROWS, b"HEAD\nmore\n".as_slice()).is_ok());
+    let (name, beside) = ("/tmp/dme_hands.grows", "/tmp/dme_hands.grows.new");
+    let old = "/tmp/dme_hands.grows.old";
+    let make = Effect::Make(Growth::Contacts, name, beside, b"HEAD\n".as_slice());
+    assert!(rt; fs::write(&rt, name, b"HEAD\nmore\n".as_slice()).is_ok());
     let mut hands = RealHands::new(rt);
-    assert!(rt; does(&mut hands, Effect::Look(GROWS)));
-    assert!(rt; gives(&mut hands, MAKE, Answer::Found));
-    assert!(rt; does(&mut hands, Effect::SetAside(Growth::Contacts, OLD)));
+    assert!(rt; does(&mut hands, Effect::Look(name)));
+    assert!(rt; gives(&mut hands, make, Answer::Found));
+    assert!(rt; does(&mut hands, Effect::SetAside(Growth::Contacts, old)));
     assert!(rt; does(&mut hands, Effect::Begin(Growth::Contacts)));
     let keep = Effect::Keep(Growth::Contacts, b"act\n".as_slice());
     assert!(rt; does(&mut hands, keep));
-    assert!(rt; has(&rt, GROWS, b"HEAD\nact\n".as_slice()));
-    assert!(rt; has(&rt, OLD, b"HEAD\nmore\n".as_slice()));
-    assert!(rt; fs::remove_file(&rt, GROWS).is_ok());
+    assert!(rt; has(&rt, name, b"HEAD\nact\n".as_slice()));
+    assert!(rt; has(&rt, old, b"HEAD\nmore\n".as_slice()));
+    assert!(rt; fs::remove_file(&rt, name).is_ok());
     assert!(rt; fails(&mut hands, keep, Cause::Renamed));
-    let whole = Effect::Replace(GROWS, BESIDE, b"whole".as_slice());
+    let whole = Effect::Replace(name, beside, b"whole".as_slice());
     assert!(rt; does(&mut hands, whole));
     assert!(rt; fails(&mut hands, keep, Cause::Renamed));
-    assert!(rt; has(&rt, GROWS, b"whole".as_slice()));
-    assert!(rt; fs::remove_file(&rt, GROWS).is_ok());
-    assert!(rt; fs::remove_file(&rt, OLD).is_ok());
+    assert!(rt; has(&rt, name, b"whole".as_slice()));
+    assert!(rt; fs::remove_file(&rt, name).is_ok());
+    assert!(rt; fs::remove_file(&rt, old).is_ok());
 }
 
 #[test]
 fn a_file_that_is_let_go_is_as_it_was(rt: HostRuntime) {
+    let (let_go, let_go_beside) = ("/tmp/dme_hands.let_go", "/tmp/dme_hands.let_go.new");
     let mut hands = RealHands::new(rt);
-    let make = Effect::Make(Growth::Contacts, LET_GO, LET_GO_BESIDE, HEAD);
-    assert!(rt; does(&mut hands, Effect::Exists(LET_GO)));
+    let make = Effect::Make(
+        Growth::Contacts,
+        let_go,
+        let_go_beside,
+        b"HEAD\n".as_slice(),
+    );
+    assert!(rt; does(&mut hands, Effect::Exists(let_go)));
     assert!(rt; does(&mut hands, make));
-    assert!(rt; gives(&mut hands, Effect::Exists(LET_GO_BESIDE), Answer::Found));
+    assert!(rt; gives(&mut hands, Effect::Exists(let_go_beside), Answer::Found));
     assert!(rt; does(&mut hands, Effect::Discard(Growth::Contacts)));
-    assert!(rt; does(&mut hands, Effect::Exists(LET_GO_BESIDE)));
-    assert!(rt; does(&mut hands, Effect::Exists(LET_GO)));
+    assert!(rt; does(&mut hands, Effect::Exists(let_go_beside)));
+    assert!(rt; does(&mut hands, Effect::Exists(let_go)));
     assert!(rt; fails(&mut hands, Effect::Look("/tmp"), Cause::Folder));
 }
 
-const LET_GO: &str = "/tmp/dme_hands.let_go";
-
-const LET_GO_BESIDE: &str = "/tmp/dme_hands.let_go.new";
-
 #[test]
 fn a_log_is_added_to(rt: HostRuntime) {
+    let log = "/tmp/dme_hands.log";
     let mut hands = RealHands::new(rt);
-    assert!(rt; does(&mut hands, Effect::Extend(LOG)));
+    assert!(rt; does(&mut hands, Effect::Extend(log)));
     assert!(rt; does(&mut hands, Effect::Add(b"line\n".as_slice())));
-    assert!(rt; has(&rt, LOG, b"line\n".as_slice()));
-    assert!(rt; fs::remove_file(&rt, LOG).is_ok());
+    assert!(rt; has(&rt, log, b"line\n".as_slice()));
+    assert!(rt; fs::remove_file(&rt, log).is_ok());
     hands.carry_out(Effect::Stamp);
     assert!(rt; matches!(hands.answer(), Answer::Bytes(time) if time.len() == 24));
     hands.carry_out(Effect::Now);
     assert!(rt; matches!(hands.answer(), Answer::At(0)));
 }
 
-const LOG: &str = "/tmp/dme_hands.log";
-
 #[test]
-fn a_connection_is_taken_and_left(rt: HostRuntime) {
+fn a_connection_is_taken_and_left(rt: HostRuntime) -> Result<(), Fail> {
+    let port = 47_113;
     let mut hands = RealHands::new(rt);
-    assert!(rt; does(&mut hands, Effect::Listen("127.0.0.1", PORT, true)));
+    assert!(rt; does(&mut hands, Effect::Listen("127.0.0.1", port, true)));
     let accept = Effect::Accept(Some(10), Some(1));
     assert!(rt; gives(&mut hands, accept, Answer::Nothing));
-    let Ok(mut peer) = TcpStream::connect(&rt, ("127.0.0.1", PORT)) else {
-        assert!(rt; false);
-        return;
-    };
+    let mut peer = TcpStream::connect(&rt, ("127.0.0.1", port))?;
     assert!(rt; does(&mut hands, accept));
     assert!(rt; hears(&mut hands, Peer::Client, Answer::Nothing));
     assert!(rt; peer.write_all(b"line".as_slice()).is_ok());
@@ -224,40 +209,31 @@ fn a_connection_is_taken_and_left(rt: HostRuntime) {
     assert!(rt; does(&mut hands, Effect::Leave));
     assert!(rt; does(&mut hands, Effect::Limit(Peer::Client, Some(10), None)));
     assert!(rt; hears(&mut hands, Peer::Client, Answer::Failed(Cause::Unknown)));
+    Ok(())
 }
 
-const PORT: u16 = 47_113;
-
 #[test]
-fn a_connection_is_limited_later(rt: HostRuntime) {
-    let Ok(listener) = TcpListener::bind(&rt, ("127.0.0.1", 0u16)) else {
-        assert!(rt; false);
-        return;
-    };
-    let Ok(address) = listener.local_addr() else {
-        assert!(rt; false);
-        return;
-    };
+fn a_connection_is_limited_later(rt: HostRuntime) -> Result<(), Fail> {
+    let listener = TcpListener::bind(&rt, ("127.0.0.1", 0u16))?;
+    let port = listener.local_addr()?.port();
     let mut hands = RealHands::new(rt);
-    let connect = Effect::Connect("127.0.0.1", address.port(), Some(1_000));
-    assert!(rt; does(&mut hands, connect));
-    let Ok((mut peer, _)) = listener.accept() else {
-        assert!(rt; false);
-        return;
-    };
+    assert!(rt; does(&mut hands, Effect::Connect("127.0.0.1", port, Some(1_000))));
+    let (mut peer, _) = listener.accept()?;
     assert!(rt; does(&mut hands, Effect::Limit(Peer::Server, Some(10), Some(1))));
     assert!(rt; hears(&mut hands, Peer::Server, Answer::Nothing));
     assert!(rt; does(&mut hands, Effect::Limit(Peer::Server, None, None)));
     assert!(rt; peer.write_all(b"line".as_slice()).is_ok());
     let line = Answer::Bytes(b"line".as_slice());
     assert!(rt; hears(&mut hands, Peer::Server, line));
+    Ok(())
 }
 
 #[test]
 fn connections_that_are_joined_do_not_wait_alone(rt: HostRuntime) {
+    let joined = 29_113;
     let mut hands = RealHands::new(rt);
-    assert!(rt; does(&mut hands, Effect::Listen("127.0.0.1", JOINED, true)));
-    assert!(rt; does(&mut hands, Effect::Connect("127.0.0.1", JOINED, None)));
+    assert!(rt; does(&mut hands, Effect::Listen("127.0.0.1", joined, true)));
+    assert!(rt; does(&mut hands, Effect::Connect("127.0.0.1", joined, None)));
     assert!(rt; does(&mut hands, Effect::Accept(None, None)));
     assert!(rt; does(&mut hands, Effect::Join));
     for peer in [Peer::Client, Peer::Server] {
@@ -276,5 +252,3 @@ fn connections_that_are_joined_do_not_wait_alone(rt: HostRuntime) {
     assert!(rt; hears(&mut hands, Peer::Client, Answer::End));
     assert!(rt; does(&mut hands, Effect::Leave));
 }
-
-const JOINED: u16 = 29_113;
