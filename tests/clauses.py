@@ -12,7 +12,7 @@ import sys
 from generated import ROOT, is_present
 
 PAGE = ROOT / "docs" / "AUDITOR.md"
-TESTS = {"test_texts", "test_calls", "test_sessions", "test_units", "bench_world"}
+TESTS = {"test_calls", "test_sessions", "test_units", "bench_world"}
 FUNCTION = re.compile(r"^ *(?:#\[.*\] *)?(?:pub(?:\(\w+\))? )?(?:unsafe )?(?:extern \"C\" )?fn (\w+)", re.MULTILINE)
 ITEM = re.compile(r"^(?:pub(?:\(\w+\))? )?(?:unsafe )?(impl\b[^{]*|trait [^{]*)\{\n(.*?)^\}", re.MULTILINE | re.DOTALL)
 

@@ -61,7 +61,9 @@ def ten_thousand_statements():
 
 def one_statement_more():
     must_be(ran("check p", p=moves(10_000)), 1, "", "dme: P16 TooLarge at line 10001\n")
-    must_be(ran("check p", p=moves(9_999) + "ENDFIL\n"), 1, "", "dme: P16 TooLarge at line 10001\n")
+    for last in ("ENDFIL", "FOO"):
+        must_be(ran("check p", p=f"{moves(9_999)}{last}\n"), 1, "", "dme: P16 TooLarge at line 10001\n")
+    must_be(ran("check p", p=moves(9_999) + "ENDFIL/\xc8\n"), 1, "", "dme: P4 BadByte at line 10001\n")
 
 
 def most_points_of_a_block():

@@ -1,8 +1,8 @@
 """Refuses each growth of calls in turn (refuse.c), for every public call that can answer that memory was short, in the crates from fixed_um to
 ledger_audit.
 
-The calls are made by rows of `test_texts` and of `test_calls`, which examine the value: if a call says that memory was short, they show
-`refused, as before; ` and make it again; they show `changed` if a reader of the value then answers anything else, and `refused for ever` if the
+The calls are made by rows of `test_calls`, which examine the value: if a call says that memory was short, they show `refused, as before; ` and
+make it again; they show `changed` if a reader of the value then answers anything else, and `refused for ever` if the
 call does not succeed. A text that is read says `out of memory` in its own words; its row is asked twice here.
 
 `CALLS` gives for each call the row that makes it. If the rows of its part are independent, the row is run alone, otherwise the whole part, once
@@ -13,15 +13,13 @@ take hours, since a run of most of them has thousands of growths.
 By itself: tests/refusals.py [CALL ..], the calls whose names begin with one of these words.
 """
 
-import pathlib
 import re
 import subprocess
 import sys
 import tempfile
 
-from growths import Refusing, Wrong, ended, must, parts_of
+from growths import CALLS as PROGRAM, Refusing, Wrong, ended, must, parts_of
 
-ROOT = pathlib.Path(__file__).resolve().parent.parent
 WORDS = "refused, as before; "
 SHORT = "out of memory"
 # Parts whose rows continue from one another, and parts of texts that are read.
@@ -43,92 +41,87 @@ OTHER_LINKS = {
     ],
 }
 
-# The program, the head of the part (followed by `#` and which of those with this head, by default the first), and the row.
-TEXT, CALL = "test_texts", "test_calls"
+# The head of the part (followed by `#` and which of those with this head, by default the first), and the row.
 ONE_PROGRAM = "DMISMN/'ONE',05.2;SNSLCT/S(P1);MEAS/POINT,F(A),1;GOTO/10,20,30;PTMEAS/CART,10,20,25,0,0,1;ENDMES;ENDFIL"
 CALLS = {
-    "fixed_um Name::new": (TEXT, "names", "probe_1a"),
-    "fixed_um write_um": (TEXT, "numerals", "0.0005"),
-    "fixed_um write_dir": (TEXT, "directions", "0.5773502692 0.0000005 -1"),
-    "dmis_text Statements::next": (TEXT, "statements", "$$ head;dmismn/'t',05.2;snslct/s(p1);goto/1,$; 2, 3 $$ end;ENDFIL"),
-    "dmis_program Frames::add": (TEXT, "programs", ONE_PROGRAM),
-    "dmis_program Program::read": (TEXT, "programs", ONE_PROGRAM),
-    "dme_line write_command": (TEXT, "commands", "00004 Home()"),
-    "dme_line read_command": (TEXT, "commands", '00008 ChangeTool("P1")'),
-    "dme_line read_response": (TEXT, "responses", '00008 ! Error(3, 9010, "GoTo", "Not homed")'),
-    "dme_line write_point": (TEXT, "points", "X(10.002), Y(20.000), Z(25.000)"),
-    "dme_line write_error": (TEXT, "errors", "9010 00002 GoTo(X(0), Y(0), Z(0))"),
-    "dme_line write_data": (TEXT, "writes", "data X(1), Y(2), Z(3)"),
-    "dme_line write_homed_data": (TEXT, "writes", "homed_data 0"),
-    "dme_line write_response": (TEXT, "writes", "complete"),
-    "dme_line write_homed": (TEXT, "writes", "homed 1"),
-    "dme_line Text::new": (TEXT, "writes", "text IsHomed(0)"),
-    "line_framing Lines::feed": (TEXT, "pieces", "A|;B|;|;C|D|;"),
-    "line_framing Lines::next_line": (TEXT, "pieces", "A|;B|;|;C|D|;"),
-    "line_framing ByteQueue::reserve": (TEXT, "queues", "100001/ &0123456789012345678901234567890123456789012345678901234567"),
-    "dme_tags Open::draw": (CALL, "values TWO", "Open::draw"),
-    "command_queue Queue::new": (CALL, "values TWO", "Queue::new, Queue::drain_all"),
-    "command_queue Queue::drain_all": (CALL, "values TWO", "Queue::new, Queue::drain_all"),
-    "resume_plan plan": (CALL, "values TWO", "plan"),
-    "contact_ledger Points::push": (CALL, "values TWO", "Points::push"),
-    "contact_ledger Points::copy": (CALL, "values TWO", "Feature::copy"),
-    "contact_ledger Feature::copy": (CALL, "values TWO", "Feature::copy"),
-    "contact_ledger FeatureLedger::push": (CALL, "values TWO", "FeatureLedger::push"),
-    "contact_ledger ServerLedger::push": (CALL, "values TWO", "ServerLedger::push"),
-    "ledger_audit audit": (CALL, "values TWO", "audit"),
-    "link_world Simulated::new": (CALL, "values TWO", "Simulated::new"),
-    "server_core Server::new": (CALL, "values TWO", "Server::new"),
-    "tool_rack Setup::read": (CALL, "setups", "TOOL P1;TOOL P2;FRAME PART 100 0 0;SHIFT 0.002 0 0;SHIFT 0 0 0.004;SHIFT -0.001 0.001 0;"),
-    "link_world Schedule::read": (CALL, "schedules", "connect;# two;#;quiet ;"),
-    "contact_ledger read_features": (CALL, "features", "DME-FEATURES 1;FEATURE C 3;1.000 0.000 0.004;-0.001 1.001 0.000;-0.998 0.000 0.000;END;"),
-    "contact_ledger read_contacts": (CALL, "contacts", "DME-CONTACTS 1;1 HOMEDIS 2;"),
-    "contact_ledger write_features": (CALL, "world ONE 1", "files"),
-    "contact_ledger write_contacts": (CALL, "world ONE 1", "files"),
-    "client_core Client::connected": (CALL, "client FRAMES 1", "connected 1"),
-    "client_core Client::send": (CALL, "client ONE 1", "send"),
-    "client_core Client::feed": (CALL, "client FRAMES 1", "touched X(10.002), Y(0.000), Z(0.000)"),
-    "client_core Client::read_one": (CALL, "client FRAMES 1", "touched X(10.002), Y(0.000), Z(0.000)"),
-    "client_core Client::abort": (CALL, "client FRAMES 1", "abort"),
-    "client_core Client::resume": (CALL, "client FRAMES 1", "resume"),
-    "link_world report_of": (CALL, "client ONE 1#3", "report"),
-    "server_core Server::feed": (CALL, "server#4", "00001 StartSession()"),
-    "server_core Server::read_one": (CALL, "server#4", "00001 StartSession()"),
-    "server_core Server::turn": (CALL, "server#5", "turn"),
-    "server_core Server::machine": (CALL, "server#4", "done"),
-    "link_world write_contact_rows": (CALL, "server#4", "contact rows"),
-    "link_world World::new": (CALL, "world ONE 1", "[world ONE 1]"),
-    "link_world World::step Connect": (CALL, "world ONE 1", "connect"),
-    "link_world World::step ClientSends": (CALL, "world ONE 1", "clientsends"),
-    "link_world World::step Up": (CALL, "world ONE 1", "up 22"),
-    "link_world World::step ServerReads": (CALL, "world ONE 1", "serverreads"),
-    "link_world World::step ServerTurn": (CALL, "world ONE 1", "serverturn"),
-    "link_world World::step Machine": (CALL, "world ONE 1", "machine done"),
-    "link_world World::step Down": (CALL, "world ONE 1", "down 18"),
-    "link_world World::step ClientReads": (CALL, "world ONE 1#2", "clientreads"),
-    "link_world World::step Abort": (CALL, "world ONE 1#2", "abort"),
-    "link_world World::step Resume": (CALL, "world ONE 1#2", "resume"),
-    "link_world World::report": (CALL, "world ONE 1", "report"),
-    "link_world write_report": (CALL, "world ONE 1", "report"),
-    "link_world World::run": (CALL, "world TWO 1", "run"),
-    "link_world World::finish": (CALL, "world TWO 1", "finish"),
-    "link_world Schedule::play": (CALL, "world TWO 1#2", "play connect"),
-    "link_world quiet_run": (CALL, "quiets ONE 1", "SHIFT 0.002 0 0;SHIFT 0 0 0.004;SHIFT -0.001 0.001 0"),
-    "link_world client_turns": (CALL, "turns REST 1", "least 9, bound 100, again 1 < 00001 &|;"),
-    "link_world run_link": (CALL, "runs REST 1", "least 1, again 1 < all"),
-    "link_world loop_link": (CALL, "loops REST 1", "least 1, again 1 < all"),
-    "link_world serve_turns": (CALL, "serves#2", "least 22, bound 4, again 1 < 00001 StartSession()|;"),
-    "link_world serve_link": (CALL, "connections#2", "least 1, again 1 < 00001 StartSession()|;"),
+    "fixed_um Name::new": ("names", "probe_1a"),
+    "fixed_um write_um": ("numerals", "0.0005"),
+    "fixed_um write_dir": ("directions", "0.5773502692 0.0000005 -1"),
+    "dmis_text Statements::next": ("statements", "$$ head;dmismn/'t',05.2;snslct/s(p1);goto/1,$; 2, 3 $$ end;ENDFIL"),
+    "dmis_program Frames::add": ("programs", ONE_PROGRAM),
+    "dmis_program Program::read": ("programs", ONE_PROGRAM),
+    "dme_line write_command": ("commands", "00004 Home()"),
+    "dme_line read_command": ("commands", '00008 ChangeTool("P1")'),
+    "dme_line read_response": ("responses", '00008 ! Error(3, 9010, "GoTo", "Not homed")'),
+    "dme_line write_point": ("points", "X(10.002), Y(20.000), Z(25.000)"),
+    "dme_line write_error": ("errors", "9010 00002 GoTo(X(0), Y(0), Z(0))"),
+    "dme_line write_data": ("writes", "data X(1), Y(2), Z(3)"),
+    "dme_line write_homed_data": ("writes", "homed_data 0"),
+    "dme_line write_response": ("writes", "complete"),
+    "dme_line write_homed": ("writes", "homed 1"),
+    "dme_line Text::new": ("writes", "text IsHomed(0)"),
+    "line_framing Lines::feed": ("pieces", "A|;B|;|;C|D|;"),
+    "line_framing Lines::next_line": ("pieces", "A|;B|;|;C|D|;"),
+    "line_framing ByteQueue::reserve": ("queues", "100001/ &0123456789012345678901234567890123456789012345678901234567"),
+    "dme_tags Open::draw": ("values TWO", "Open::draw"),
+    "command_queue Queue::new": ("values TWO", "Queue::new, Queue::drain_all"),
+    "command_queue Queue::drain_all": ("values TWO", "Queue::new, Queue::drain_all"),
+    "resume_plan plan": ("values TWO", "plan"),
+    "contact_ledger Points::push": ("values TWO", "Points::push"),
+    "contact_ledger Points::copy": ("values TWO", "Feature::copy"),
+    "contact_ledger Feature::copy": ("values TWO", "Feature::copy"),
+    "contact_ledger FeatureLedger::push": ("values TWO", "FeatureLedger::push"),
+    "contact_ledger ServerLedger::push": ("values TWO", "ServerLedger::push"),
+    "ledger_audit audit": ("values TWO", "audit"),
+    "link_world Simulated::new": ("values TWO", "Simulated::new"),
+    "server_core Server::new": ("values TWO", "Server::new"),
+    "tool_rack Setup::read": ("setups", "TOOL P1;TOOL P2;FRAME PART 100 0 0;SHIFT 0.002 0 0;SHIFT 0 0 0.004;SHIFT -0.001 0.001 0;"),
+    "link_world Schedule::read": ("schedules", "connect;# two;#;quiet ;"),
+    "contact_ledger read_features": ("features", "DME-FEATURES 1;FEATURE C 3;1.000 0.000 0.004;-0.001 1.001 0.000;-0.998 0.000 0.000;END;"),
+    "contact_ledger read_contacts": ("contacts", "DME-CONTACTS 1;1 HOMEDIS 2;"),
+    "contact_ledger write_features": ("world ONE 1", "files"),
+    "contact_ledger write_contacts": ("world ONE 1", "files"),
+    "client_core Client::connected": ("client FRAMES 1", "connected 1"),
+    "client_core Client::send": ("client ONE 1", "send"),
+    "client_core Client::feed": ("client FRAMES 1", "touched X(10.002), Y(0.000), Z(0.000)"),
+    "client_core Client::read_one": ("client FRAMES 1", "touched X(10.002), Y(0.000), Z(0.000)"),
+    "client_core Client::abort": ("client FRAMES 1", "abort"),
+    "client_core Client::resume": ("client FRAMES 1", "resume"),
+    "link_world report_of": ("client ONE 1#3", "report"),
+    "server_core Server::feed": ("server#4", "00001 StartSession()"),
+    "server_core Server::read_one": ("server#4", "00001 StartSession()"),
+    "server_core Server::turn": ("server#5", "turn"),
+    "server_core Server::machine": ("server#4", "done"),
+    "link_world write_contact_rows": ("server#4", "contact rows"),
+    "link_world World::new": ("world ONE 1", "[world ONE 1]"),
+    "link_world World::step Connect": ("world ONE 1", "connect"),
+    "link_world World::step ClientSends": ("world ONE 1", "clientsends"),
+    "link_world World::step Up": ("world ONE 1", "up 22"),
+    "link_world World::step ServerReads": ("world ONE 1", "serverreads"),
+    "link_world World::step ServerTurn": ("world ONE 1", "serverturn"),
+    "link_world World::step Machine": ("world ONE 1", "machine done"),
+    "link_world World::step Down": ("world ONE 1", "down 18"),
+    "link_world World::step ClientReads": ("world ONE 1#2", "clientreads"),
+    "link_world World::step Abort": ("world ONE 1#2", "abort"),
+    "link_world World::step Resume": ("world ONE 1#2", "resume"),
+    "link_world World::report": ("world ONE 1", "report"),
+    "link_world write_report": ("world ONE 1", "report"),
+    "link_world World::run": ("world TWO 1", "run"),
+    "link_world World::finish": ("world TWO 1", "finish"),
+    "link_world Schedule::play": ("world TWO 1#2", "play connect"),
+    "link_world quiet_run": ("quiets ONE 1", "SHIFT 0.002 0 0;SHIFT 0 0 0.004;SHIFT -0.001 0.001 0"),
+    "link_world client_turns": ("turns REST 1", "least 9, bound 100, again 1 < 00001 &|;"),
+    "link_world run_link": ("runs REST 1", "least 1, again 1 < all"),
+    "link_world loop_link": ("loops REST 1", "least 1, again 1 < all"),
+    "link_world serve_turns": ("serves#2", "least 22, bound 4, again 1 < 00001 StartSession()|;"),
+    "link_world serve_link": ("connections#2", "least 1, again 1 < 00001 StartSession()|;"),
 }
 
 
-def crate_of(program):
-    return ROOT / "crates" / program
-
-
-def numbered(program, name):
-    """The parts of a file of a program by their heads; a head that is not the first of its kind is followed by its number."""
+def numbered(name):
+    """The parts of a file of the program by their heads; a head that is not the first of its kind is followed by its number."""
     parts, counts = {}, {}
-    for part in parts_of((crate_of(program) / name).read_text()):
+    for part in parts_of((PROGRAM.parent.parent / name).read_text()):
         head = part.partition("]")[0].removeprefix("[")
         counts[head] = counts.get(head, 0) + 1
         parts[head if counts[head] == 1 else f"{head}#{counts[head]}"] = part
@@ -150,10 +143,10 @@ def is_alone(head):
     return not is_one_of(WHOLE, head)
 
 
-def case_of(program, head, row):
+def case_of(head, row):
     """The input of a case, and what it prints. A text that is read is asked twice."""
-    given, expected = numbered(program, "stdin"), numbered(program, "stdout")
-    texts = texts_of(given, head) if program == CALL else ""
+    given, expected = numbered("stdin"), numbered("stdout")
+    texts = texts_of(given, head)
     if not is_alone(head):
         return texts + given[head], texts + expected[head]
     answer = next((it for it in expected[head].splitlines(keepends=True) if it.startswith(f"{row} => ")), None)
@@ -208,11 +201,10 @@ def refused_row(head, output, whole):
     return found[0] if found else None
 
 
-def refusals_of(refusing, program, head, row):
+def refusals_of(refusing, head, row):
     """The rows of a case for whose calls a growth was refused, one for each refusal."""
-    given, expected = case_of(program, head, row)
-    path = crate_of(program) / "out" / program
-    whole, runs = refusing.all_of(lambda number, counts: ended(refusing.started([path], number, counts=counts, text=given), given))
+    given, expected = case_of(head, row)
+    whole, runs = refusing.all_of(lambda number, counts: ended(refusing.started([PROGRAM], number, counts=counts, text=given), given))
     must(whole == (0, expected, ""), "with all memory", whole)
     refused = []
     for run in between_ends(runs):
@@ -225,7 +217,7 @@ def check_refusals(names=()):
     """How many calls are correct, and how many are not."""
     calls = {call: where for call, where in CALLS.items() if not names or call.startswith(tuple(names))}
     # One case for each independent row, and one for each other part.
-    cases = {call: (program, head, row if is_alone(head) else "") for call, (program, head, row) in calls.items()}
+    cases = {call: (head, row if is_alone(head) else "") for call, (head, row) in calls.items()}
     found, wrong, refusals = {}, 0, 0
     with tempfile.TemporaryDirectory() as room:
         refusing = Refusing(room)
@@ -235,7 +227,7 @@ def check_refusals(names=()):
                 refusals += len(found[case])
             except (Wrong, OSError, subprocess.SubprocessError, IndexError, KeyError, ValueError) as why:
                 print(f"refusals of {' '.join(case)}: not as it has to be: {why}")
-    for call, (_, _, row) in calls.items():
+    for call, (_, row) in calls.items():
         count = found.get(cases[call], []).count(row)
         wrong += count == 0
         if names or count == 0:

@@ -126,7 +126,8 @@ def audited(folder):
     words = ("audit", "--setup", "machine.setup", "--features", "part.features", "--contacts", "told", "part.dmis")
     status, verdict, error = ended(dme(folder, *words))
     fields = verdict.split()
-    must((status, error) == (0, "") and fields[0] == "RUNS" and len(fields) == held + 1, "audit", status, verdict, error)
+    are_digests = all(it.startswith("dme: SHA-256 of ") for it in error.splitlines())
+    must(status == 0 and are_digests and fields[0] == "RUNS" and len(fields) == held + 1, "audit", status, verdict, error)
 
 
 def run_once(folder, relay_port, window, cutter):
