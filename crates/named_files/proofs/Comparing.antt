@@ -1,11 +1,12 @@
 -- All files that a call names are compared, one after another.
-use Rattle.std.proofs.Common.{◌≡◌, ◌<◌, ◌≤◌, ◌⊎◌, ◌∙◌, inl, inr, ap, subst, sym, refl, arith, ℕ, suc, Bool, true, false, List, [], ◌∷◌, ◌++◌, map, length, Option, None, Some}
+use Rattle.std.proofs.Common.{◌≡◌, ◌<◌, ◌≤◌, ◌⊎◌, ◌∙◌, inl, inr, ap, subst, sym, refl, arith, ℕ, zero, suc, Bool, true, false, List, [], ◌∷◌}
+use Rattle.std.proofs.Common.{◌++◌, ◌+◌, map, length, drop, get_or, Option, None, OnOk, Ok, Err, Result}
 use Rattle.std.proofs.lemmas.Bool.{ltb-true, ltb-false}
-use Rattle.std.proofs.lemmas.List.{map-append}
+use Rattle.std.proofs.lemmas.List.{drop_more, map-append}
 use Rattle.std.specs.Prelude.{nat_lt}
 use Rattle.std.specs.List.{AllByRecursion}
-use Rattle.named_files.specs.Naming.{AreApart, Disturbs, Files, IsClear, IsIn, IsSeen, Seen, seen_of}
-use Rattle.named_files.specs.Comparing.{Answered, AreCompared, bytes_of, Compares, Covers, GoesOn, IsComparing, Known, KnownAt, outcome, placed, State}
+use Rattle.named_files.specs.Naming.{AreApart, Disturbs, Files, IsClear, IsFirstMet, IsIn, IsSeen, Seen, seen_of}
+use Rattle.named_files.specs.Comparing.{Answered, AreCompared, bytes_of, Compares, Covers, Ends, GoesOn, Joins, IsComparing, Known, KnownAt, outcome, placed, State}
 use Rattle.named_files.specs.declared.comparisons.Stage.{Stage}
 use Rattle.named_files.specs.declared.comparisons.Stage.TheVariants as stage
 use Rattle.effects.specs.Effects.{Reply}
@@ -39,6 +40,57 @@ apart_more is_kept written (s ∷ seen) x apart clear = (all_more seen x apart.0
         → (Disturbs is_kept written s x → ⊥) → AllByRecursion (λ y. Disturbs is_kept written s y → ⊥) (later ++ x ∷ [])
     all_more [] x all last = (last, tt)
     all_more (y ∷ later) x all last = (all.0, all_more later x all.1 last)
+
+-- the first that disturbs this one is the first of all, if those before it do not
+pub met_here : (is_kept : Bool) (written : List Bool) (cs : List Called) (at : ℕ) (x : Called) (o : Seen) → at < length cs → x ≡ get_or cs at x
+    → Disturbs is_kept written (seen_of x) o
+    → ((n m : ℕ) → m ≡ at + n → IsFirstMet is_kept written (map seen_of (drop at cs)) n o → IsFirstMet is_kept written (map seen_of cs) m o)
+    → IsFirstMet is_kept written (map seen_of cs) at o
+met_here is_kept written cs at x o within is disturbs before = before zero at (omega arith)
+    (subst (λ (l : List Called). IsFirstMet is_kept written (map seen_of l) zero o) (sym (drop_more cs at x within))
+    (subst (λ (c : Called). Disturbs is_kept written (seen_of c) o) is disturbs))
+
+pub met_later : (is_kept : Bool) (written : List Bool) (cs : List Called) (at : ℕ) (x : Called) (o : Seen) → at < length cs → x ≡ get_or cs at x
+    → (Disturbs is_kept written (seen_of x) o → ⊥)
+    → ((n m : ℕ) → m ≡ at + n → IsFirstMet is_kept written (map seen_of (drop at cs)) n o → IsFirstMet is_kept written (map seen_of cs) m o)
+    → (n m : ℕ) → m ≡ at + 1 + n → IsFirstMet is_kept written (map seen_of (drop (at + 1) cs)) n o → IsFirstMet is_kept written (map seen_of cs) m o
+met_later is_kept written cs at x o within is clear before n m same met = before (suc n) m (omega (arith, same))
+    (subst (λ (l : List Called). IsFirstMet is_kept written (map seen_of l) (suc n) o) (sym (drop_more cs at x within))
+    (subst (λ (c : Called). Disturbs is_kept written (seen_of c) o → ⊥) is clear, met))
+
+-- likewise, none disturbs it if those that are left do not
+pub clear_later : (is_kept : Bool) (written : List Bool) (cs : List Called) (at : ℕ) (x : Called) (o : Seen) → at < length cs → x ≡ get_or cs at x
+    → (Disturbs is_kept written (seen_of x) o → ⊥)
+    → (IsClear is_kept written (map seen_of (drop at cs)) o → IsClear is_kept written (map seen_of cs) o)
+    → IsClear is_kept written (map seen_of (drop (at + 1) cs)) o → IsClear is_kept written (map seen_of cs) o
+clear_later is_kept written cs at x o within is clear before rest = before
+    (subst (λ (l : List Called). IsClear is_kept written (map seen_of l) o) (sym (drop_more cs at x within))
+    (subst (λ (c : Called). Disturbs is_kept written (seen_of c) o → ⊥) is clear, rest))
+
+-- none of these are apart from one that one of them disturbs
+pub met_apart : (is_kept : Bool) (written : List Bool) (seen : List Seen) (at : ℕ) (x : Seen) → IsFirstMet is_kept written seen at x
+    → AreApart is_kept written (seen ++ x ∷ []) → ⊥
+met_apart is_kept written [] at x met apart = met
+met_apart is_kept written (s ∷ seen) zero x met apart = last_of seen apart.0
+  where
+    last_of : (later : List Seen) → AllByRecursion (λ y. Disturbs is_kept written s y → ⊥) (later ++ x ∷ []) → ⊥
+    last_of [] all = all.0 met
+    last_of (y ∷ later) all = last_of later all.1
+met_apart is_kept written (s ∷ seen) (suc at) x met apart = met_apart is_kept written seen at x met.1 apart.1
+
+pub then_ok : {A E P Q : Type 0} (r : Result A E) → (P → Q) → OnOk r P → OnOk r Q
+then_ok (Ok x) f p = f p
+then_ok (Err e) f p = tt
+
+-- a file that disturbs the next one ends a comparison
+pub refused : (s t : State) (cs : List Called) (at : ℕ) (x : Called) → s.called ≡ map seen_of cs
+    → IsFirstMet true s.files.written (map seen_of cs) at (seen_of x) → Ends s t → Joins (seen_of x) s t
+refused s t cs at x was met ends = λ a same h. subst (λ (u : State). Known u (record a { seen = a.seen ++ seen_of x ∷ [] })) (sym ends)
+    (inr (
+      refl,
+      λ apart. met_apart true s.files.written a.seen at (seen_of x)
+          (subst (λ (l : List Seen). IsFirstMet true s.files.written l at (seen_of x)) (sym (h.seen ∙ was)) met) apart,
+    ))
 
 pub seen_more : (n : ℕ) (seen : List Seen) (x : Seen) → IsSeen n seen → IsSeen n (seen ++ x ∷ [])
 seen_more n [] x h = absurd h

@@ -53,13 +53,17 @@ pub record IsComparing (s : State) (a : Answered) : Type 0 where
   pub compared : AreCompared s s.at a
   pub within : s.at < length s.files.names
 
+-- memory has run out, or a file disturbs a later one
+abbrev pub IsRefused : State → Answered → Type 0
+IsRefused s a = (s.status ≡ 4) ⊎ ((s.status ≡ 2) × (AreApart true s.files.written a.seen → ⊥))
+
 -- what is known at a stage
 abbrev pub KnownAt : Stage → State → Answered → Type 0
 KnownAt stage.Placing s a = IsComparing s a
 KnownAt stage.Numbering s a = IsComparing s a × (s.place ≡ a.place)
 KnownAt stage.Apart s a = AreCompared s (length s.files.names) a
-KnownAt stage.Refused s a = 0 < s.status
-KnownAt stage.Exiting s a = 0 < s.status
+KnownAt stage.Refused s a = IsRefused s a
+KnownAt stage.Exiting s a = IsRefused s a
 
 abbrev pub Known : State → Answered → Type 0
 Known s a = KnownAt s.stage s a
@@ -68,9 +72,9 @@ Known s a = KnownAt s.stage s a
 abbrev pub GoesOn : State → Reply → State → Type 0
 GoesOn s reply t = (a : Answered) → Known s a → Known t (outcome s.stage s.at reply a)
 
--- nothing of the call is done
-abbrev pub Ends : State → Type 0
-Ends t = (a : Answered) → Known t a
+-- nothing of the call is done, since two of its files are one
+abbrev pub Ends : State → State → Type 0
+Ends s t = t ≡ record s { stage = stage.Refused; status = 2 }
 
 -- the next file is compared, once those before it were, or all were
 abbrev pub Compares : State → State → Type 0

@@ -1,5 +1,5 @@
 -- The files that one call names, and when two of them meet (this profile).
-use Rattle.std.specs.Prelude.{◌≡◌, ◌⊎◌, ◌++◌, ◌<◌, ◌||◌, ⊤, ℕ, Bool, true, false, get_or, List, [], ◌∷◌, codes, Option, None, Some, option_map}
+use Rattle.std.specs.Prelude.{◌≡◌, ◌⊎◌, ◌++◌, ◌<◌, ◌||◌, ⊤, ℕ, zero, suc, Bool, true, false, get_or, List, [], ◌∷◌, codes, Option, None, Some, option_map}
 use Rattle.std.specs.List.{AllByRecursion}
 use Rattle.named_files.specs.declared.called.Called.{Called}
 
@@ -50,6 +50,12 @@ Disturbs is_kept written a b =
 -- none of these disturbs this one
 abbrev pub IsClear : (is_kept : Bool) (written : List Bool) → List Seen → Seen → Type 0
 IsClear is_kept written seen s = AllByRecursion (λ earlier. Disturbs is_kept written earlier s → ⊥) seen
+
+-- that of this number is the first of these that disturbs this one
+abbrev pub IsFirstMet : (is_kept : Bool) (written : List Bool) → List Seen → ℕ → Seen → Type 0
+IsFirstMet is_kept written [] at s = ⊥
+IsFirstMet is_kept written (earlier ∷ seen) zero s = Disturbs is_kept written earlier s
+IsFirstMet is_kept written (earlier ∷ seen) (suc at) s = (Disturbs is_kept written earlier s → ⊥) × IsFirstMet is_kept written seen at s
 
 -- none of these disturbs a later one
 abbrev pub AreApart : (is_kept : Bool) (written : List Bool) → List Seen → Type 0

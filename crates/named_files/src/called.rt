@@ -75,6 +75,8 @@ impl Called {
 /// The first of these files that the other one meets, if either is written.
 pub fn met(is_kept: bool, written: &[bool], called: &[Called], other: &Called) -> Option<usize>
     ensures within { IfSome result (λ at. at < length called.now) }
+    ensures some { IfSome result (λ at. spec.IsFirstMet is_kept written.now (map spec.seen_of called.now) at
+        (spec.seen_of other.now)) }
     ensures none { IsNone result → spec.IsClear is_kept written.now
         (map spec.seen_of called.now) (spec.seen_of other.now) }
 {

@@ -228,7 +228,7 @@ impl Comparison {
 
     /// Two files are one: that is a bad command line.
     fn refuse(&mut self, first: usize, second: usize, named: usize) -> Result<(), AllocError>
-        ensures goes { OnOk result (spec.Ends self.new) }
+        ensures ends { OnOk result (spec.Ends self.old self.new) }
         ensures files { self.new.files ≡ self.old.files }
     {
         let (first, second) = (self.files.option(first), self.files.option(second));

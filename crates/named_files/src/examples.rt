@@ -1,7 +1,7 @@
 // Examples. Each function has laws for its contract and does nothing.
 
 ghost use Rattle.std.specs.Prelude.{◌≡◌, ℕ, [], ◌∷◌, true, false, Some, None, codes};
-ghost use Rattle.named_files.specs.Naming.{Disturbs, AreApart};
+ghost use Rattle.named_files.specs.Naming.{Disturbs, IsFirstMet, AreApart};
 ghost use Rattle.named_files.specs.Comparing.{Answered, Covers, KnownAt, State, numbered, placed};
 ghost use Rattle.named_files.specs.declared.comparisons.Stage.TheVariants as stage;
 
@@ -24,12 +24,17 @@ pub fn meeting_rows()
         (record { at = 1; place = codes "s"; node = None }) → ⊥ }
     ensures other { Disturbs true (true ∷ true ∷ []) (record { at = 0; place = codes "r"; node = None })
         (record { at = 1; place = codes "l"; node = None }) → ⊥ }
+    ensures first { IsFirstMet true (true ∷ true ∷ true ∷ []) (record { at = 0; place = codes "r"; node = None }
+        ∷ record { at = 1; place = codes "l"; node = None } ∷ []) 1 (record { at = 2; place = codes "l"; node = None }) }
+    ensures later { IsFirstMet true (true ∷ true ∷ true ∷ []) (record { at = 0; place = codes "l"; node = None }
+        ∷ record { at = 1; place = codes "l"; node = None } ∷ []) 1 (record { at = 2; place = codes "l"; node = None })
+        → ⊥ }
     ensures met { AreApart true (true ∷ true ∷ []) (record { at = 0; place = codes "r"; node = None }
         ∷ record { at = 1; place = codes "r"; node = None } ∷ []) → ⊥ }
 {}
 
-/// A file has the place and the number that were answered, or no place; none are apart before each was looked for; and no call that is refused
-/// exits with status 0.
+/// A file has the place and the number that were answered, or no place; none are apart before each was looked for; and a call
+/// is refused with status 2 only if two of its files are one, otherwise with 4.
 pub fn answer_rows()
     ensures placeless { (a : Answered) → (placed 3 None a).placeless ≡ 3 ∷ a.placeless }
     ensures placed { (a : Answered) → (placed 3 (Some (7 ∷ [])) a).place ≡ 7 ∷ [] }
@@ -41,5 +46,7 @@ pub fn answer_rows()
     ensures meeting { (s : State) (a : Answered) → s.files.written ≡ true ∷ true ∷ []
         → a.seen ≡ record { at = 0; place = codes "r"; node = None }
         ∷ record { at = 1; place = codes "r"; node = None } ∷ [] → KnownAt stage.Apart s a → ⊥ }
+    ensures single { (s : State) (a : Answered) → a.seen ≡ record { at = 0; place = codes "r"; node = None } ∷ []
+        → KnownAt stage.Exiting s a → s.status ≡ 4 }
     ensures status { (s : State) (a : Answered) → KnownAt stage.Exiting s a → s.status ≡ 0 → ⊥ }
 {}

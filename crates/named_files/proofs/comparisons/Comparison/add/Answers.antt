@@ -1,7 +1,7 @@
 use Rattle.std.proofs.Common.{◌∷◌, [], ◌++◌, ◌≡◌, ◌≤◌, ap, arith, map, refl, rules, subst, suc, sym, true, ℕ}
-use Rattle.named_files.specs.Naming.{IsClear, seen_of}
+use Rattle.named_files.specs.Naming.{IsClear, IsFirstMet, seen_of}
 use Rattle.named_files.specs.Comparing.{State}
-use Rattle.named_files.proofs.Comparing.{joined}
+use Rattle.named_files.proofs.Comparing.{joined, refused, then_ok}
 use Rattle.named_files.proofs.comparisons.Comparison.add.Goals as goal
 
 pub returns-clause-goes : goal.returns-clause-goes
@@ -22,3 +22,12 @@ returns-clause-goes c =
     (sym (ap (λ (s : State). s.called) c.self.view_is)) refl more (ap (λ (s : State). s.files) c.self.view_is) at
     (subst (λ (n : ℕ). c.saturating_add-self-inside.result ≤ suc n) (ap (λ (s : State). s.at) c.self.view_is) few)
     (subst (λ (s : State). IsClear true s.files.written (map seen_of c.self.inside.called.items) (seen_of c.args.called)) c.self.view_is clear) h)
+
+pub returns-in-Some-clause-goes : goal.returns-in-Some-clause-goes
+returns-in-Some-clause-goes c =
+    let met : IsFirstMet true c.self.inside.files.written (map seen_of c.self.inside.called.items) c.in-Some.earlier (seen_of c.args.called)
+    = search rules in
+    then_ok c.refuse.result (refused c.args.self.now c.refuse.new.self c.self.inside.called.items c.in-Some.earlier c.args.called
+    (sym (ap (λ (s : State). s.called) c.self.view_is))
+    (subst (λ (s : State). IsFirstMet true s.files.written (map seen_of c.self.inside.called.items) c.in-Some.earlier (seen_of c.args.called)) c.self.view_is met))
+    (search rules)
