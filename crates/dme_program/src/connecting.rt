@@ -99,8 +99,8 @@ pub fn loop_program(rt: HostRuntime, order: Loop) -> Result<u8, Fault>
         Ok(read) => read,
         Err(fault) => return Ok(refused(rt, fault, files, order.explain)),
     };
-    let text = files.program.text.as_slice();
-    let lacking = lacking_lines(rt.alloc(), text, &setup, files.setup.name.as_str())?;
+    let statements = program_review::read(rt.alloc(), files.program.text.as_slice())?;
+    let lacking = lacking_lines(rt.alloc(), &statements, &setup, files.setup.name.as_str())?;
     let _ = eprint!(rt; "{lacking}");
     let task = LoopTask {
         setup,

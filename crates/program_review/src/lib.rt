@@ -42,6 +42,7 @@ pub use groups::{Group, is_among, is_text};
 pub use notices::{Passed, begins_with};
 pub use odd::Odd;
 pub use printing::{FindingForm, FindingStyle};
+pub use readings::{Reading, read};
 pub use remarks::{Remark, What};
 pub use reports::{Report, ReviewTexts, review_report};
 pub use tasks::{Task, TaskLine, command_lines, task_lines};

@@ -8,15 +8,16 @@ use std::alloc::{AllocError, Global};
 
 /// What a text says: its statements up to a line that cannot be read.
 #[derive(Drop)]
-pub(crate) struct Reading<'a> {
-    pub(crate) statements: Vec<Statement<'a>>,
+pub struct Reading<'a> {
+    pub statements: Vec<Statement<'a>>,
     /// Why the line after them cannot be read, if there is one; never because memory ran out.
     pub(crate) fault: Option<TextFault>,
     /// How many lines the whole text has.
     pub(crate) lines: u64,
 }
 
-pub(crate) fn read(alloc: Global, text: &[u8]) -> Result<Reading<'_>, AllocError>
+/// Reads a program's text. Fails only if out of memory.
+pub fn read(alloc: Global, text: &[u8]) -> Result<Reading<'_>, AllocError>
     ensures { IfOk result (λ r. IsReadingOf text.now r) }
 {
     let mut left = Statements::new(alloc, text);

@@ -1,13 +1,12 @@
 // The statements that a client carries out by commands, and their lines.
 
 ghost use Rattle.std.specs.Prelude.{◌≡◌, ◌++◌, None, IfOk, OnOk};
-ghost use Rattle.dmis_text.specs.Reading.{text_reading};
 ghost use Rattle.program_review.specs.TaskLines.{task_said, task_on, task_lines_of, command_lines_of, lines_of};
 ghost use Rattle.program_review.specs.TaskLines.{tool_line, frame_line, up_to_touch, after_touch, tool_again, frame_again};
 
-use crate::readings::read;
 use crate::under_setup::meaning_of;
 use dmis_program::{Keyword, StatementMeaning, keyword_of_word};
+use dmis_text::Statement;
 use std::alloc::{AllocError, Global};
 
 /// What a statement asks a client to do by commands (ISO 22093).
@@ -51,16 +50,13 @@ fn push_task(tasks: &mut Vec<TaskLine>, task: Option<Task>, line: u64) -> Result
     Ok(())
 }
 
-/// The tasks of a program, in order: of an accepted program each is one step, and no step but the begin and the end of a block is left out.
-/// A statement that is refused for itself asks for nothing, nor does one after `ENDFIL` or after a line that cannot be read. Fails only if out of
-/// memory.
-pub fn task_lines(alloc: Global, bytes: &[u8]) -> Result<Vec<TaskLine>, AllocError>
-    ensures { IfOk result (λ tasks.
-        tasks.items ≡ task_lines_of (text_reading bytes.now).statements) }
+/// The tasks of a program's statements, in order: of an accepted program each is one step, and no step but the begin and the end of a block is
+/// left out. A statement that is refused for itself asks for nothing, nor does one after `ENDFIL`. Fails only if out of memory.
+pub fn task_lines(alloc: Global, statements: &[Statement]) -> Result<Vec<TaskLine>, AllocError>
+    ensures { IfOk result (λ tasks. tasks.items ≡ task_lines_of statements.now) }
 {
-    let reading = read(alloc, bytes)?;
     let mut tasks = Vec::new(alloc);
-    let mut left = reading.statements.as_slice();
+    let mut left = statements;
     while let [statement, rest @ ..] = left {
         let keyword = keyword_of_word(&statement.word);
         if keyword == Keyword::Endfil {

@@ -1,14 +1,12 @@
 // Texts for the operator, and what a run holds back at them.
 
 ghost use Rattle.std.specs.Prelude.{◌≡◌, ◌++◌, None, map, IfOk, OnOk};
-ghost use Rattle.dmis_text.specs.Reading.{text_reading};
 ghost use Rattle.order_parts.specs.Pauses.{place_seen};
 ghost use Rattle.program_review.specs.TaskLines.{last_line, up_to_touch};
 ghost use Rattle.program_review.specs.Texts as spec;
 
 use crate::groups::is_text;
 use crate::notices::begins_with;
-use crate::readings::read;
 use crate::sentences::statement_text;
 use crate::tasks::{Left, Task, TaskLine, command_lines, left_after};
 use crate::under_setup::meaning_of;
@@ -67,15 +65,17 @@ fn push_text(
     Ok(())
 }
 
-/// The texts for the operator in a program, in order, up to `ENDFIL` or a line that cannot be read. Fails only if out of memory.
-pub fn operator_texts(alloc: Global, bytes: &[u8]) -> Result<Vec<OperatorText>, AllocError>
+/// The texts for the operator among a program's statements, in order, up to `ENDFIL`. Fails only if out of memory.
+pub fn operator_texts(
+    alloc: Global,
+    statements: &[Statement],
+) -> Result<Vec<OperatorText>, AllocError>
     ensures { IfOk result (λ texts. map spec.text_seen texts.items
-        ≡ spec.texts_of (text_reading bytes.now).statements) }
+        ≡ spec.texts_of statements.now) }
 {
-    let reading = read(alloc, bytes)?;
     let mut texts = Vec::new(alloc);
     let mut is_open = false;
-    let mut left = reading.statements.as_slice();
+    let mut left = statements;
     while let [statement, rest @ ..] = left {
         let keyword = keyword_of_word(&statement.word);
         if keyword == Keyword::Endfil {

@@ -1,10 +1,8 @@
 // What a setup lacks for a program.
 
 ghost use Rattle.std.specs.Prelude.{◌≡◌, ◌++◌, IfOk, OnOk};
-ghost use Rattle.dmis_text.specs.Reading.{text_reading};
 ghost use Rattle.program_review.specs.UnderSetup.{recalls_other, meaning_with, selected_after, is_outside, when, lack_of, lacks_of};
 
-use crate::readings::read;
 use crate::remarks::{Remark, What, push_remark};
 use dmis_program::{
     Frames, Keyword, StatementFault, StatementMeaning, keyword_of_word, said_of, word_refusal,
@@ -133,19 +131,17 @@ pub(crate) fn push_lacks(
     Ok(())
 }
 
-/// What a setup with these tools and frames lacks for the program of a text, in the order of its lines: each selection of a tool that is not in the
+/// What a setup with these tools and frames lacks for a program's statements, in the order of its lines: each selection of a tool that is not in the
 /// rack, and each move and touch out of the machine's volume, in machine axes. Fails only if out of memory.
 pub fn lacking_for(
     alloc: Global,
-    bytes: &[u8],
+    statements: &[Statement],
     rack: &Rack,
     frames: &Frames,
 ) -> Result<Vec<Remark>, AllocError>
-    ensures { IfOk result (λ remarks. remarks.items
-        ≡ lacks_of rack.now frames.now (text_reading bytes.now).statements) }
+    ensures { IfOk result (λ remarks. remarks.items ≡ lacks_of rack.now frames.now statements.now) }
 {
-    let reading = read(alloc, bytes)?;
     let mut remarks = Vec::new(alloc);
-    push_lacks(&mut remarks, reading.statements.as_slice(), rack, frames)?;
+    push_lacks(&mut remarks, statements, rack, frames)?;
     Ok(remarks)
 }

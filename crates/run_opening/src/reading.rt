@@ -11,7 +11,7 @@ use contact_ledger::{FeatureLedger, TextFault, read_features};
 use dmis_program::{Frames, Program, ProgramFault};
 use effects::Answer;
 use order_parts::{FilesFault, Role, RunEnding, last_line};
-use program_review::{operator_texts, task_lines};
+use program_review::{operator_texts, read, task_lines};
 use refusal_guide::InputFile;
 use std::alloc::AllocError;
 use tool_rack::{Setup, SetupFault};
@@ -182,12 +182,13 @@ impl Opening {
     fn accept(&mut self, program: Program) -> Result<(), AllocError>
         ensures { OnOk result (spec.Accepts program self.old self.new) }
     {
-        let text = self.files.program.text.as_slice();
+        let reading = read(self.alloc, self.files.program.text.as_slice())?;
+        let statements = reading.statements.as_slice();
         self.asked = program.features().len();
-        self.tasks = task_lines(self.alloc, text)?;
-        self.texts = operator_texts(self.alloc, text)?;
+        self.tasks = task_lines(self.alloc, statements)?;
+        self.texts = operator_texts(self.alloc, statements)?;
         if let Some(setup) = &self.setup {
-            self.said = lacking_lines(self.alloc, text, setup, self.order.setup.as_str())?;
+            self.said = lacking_lines(self.alloc, &reading, setup, self.order.setup.as_str())?;
         }
         self.program = Some(program);
         if self.said.is_empty() {

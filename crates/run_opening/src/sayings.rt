@@ -5,7 +5,7 @@ use contact_ledger::Feature;
 use dmis_program::{Touch, Wanted};
 use fixed_um::Frame;
 use order_parts::{TextPlace, first_lines, kept_text};
-use program_review::{Lack, Task, TaskLine, What, lacking_for};
+use program_review::{Lack, Reading, Task, TaskLine, What, lacking_for};
 use std::alloc::{AllocError, Global};
 use tool_rack::Setup;
 
@@ -130,11 +130,12 @@ pub(crate) fn text_lines(alloc: Global, places: &[TextPlace]) -> Result<String, 
 /// Each line of a program that selects a tool which the rack of a setup lacks, or goes out of the machine's volume.
 pub fn lacking_lines(
     alloc: Global,
-    text: &[u8],
+    reading: &Reading,
     setup: &Setup,
     name: &str,
 ) -> Result<String, AllocError> {
-    let lacking = lacking_for(alloc, text, setup.rack(), setup.frames())?;
+    let statements = reading.statements.as_slice();
+    let lacking = lacking_for(alloc, statements, setup.rack(), setup.frames())?;
     let mut lines = String::new(alloc);
     for remark in lacking.iter() {
         let number = remark.line;
