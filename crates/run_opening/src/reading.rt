@@ -190,6 +190,7 @@ impl Opening {
         if let Some(setup) = &self.setup {
             self.said = lacking_lines(self.alloc, &reading, setup, self.order.setup.as_str())?;
         }
+        drop(reading);
         self.program = Some(program);
         if self.said.is_empty() {
             return self.peek();
