@@ -28,17 +28,32 @@ impl<T: Drop> From<AllocFailed<T>> for Stop {
     }
 }
 
-macro_rules! memory_or_refused {
-    ($($fault:ident)*) => { $(
-        impl From<$fault> for Stop {
-            fn from(fault: $fault) -> Stop {
-                if fault == $fault::Memory { Stop::Memory } else { Stop::Refused }
-            }
-        }
-    )* };
+/// A call was refused: for memory, or though it should have been carried out.
+fn memory_or_refused(is_memory: bool) -> Stop {
+    if is_memory {
+        Stop::Memory
+    } else {
+        Stop::Refused
+    }
 }
 
-memory_or_refused! { ClientFault ServerFault LinesFault }
+impl From<ClientFault> for Stop {
+    fn from(fault: ClientFault) -> Stop {
+        memory_or_refused(fault == ClientFault::Memory)
+    }
+}
+
+impl From<ServerFault> for Stop {
+    fn from(fault: ServerFault) -> Stop {
+        memory_or_refused(fault == ServerFault::Memory)
+    }
+}
+
+impl From<LinesFault> for Stop {
+    fn from(fault: LinesFault) -> Stop {
+        memory_or_refused(fault == LinesFault::Memory)
+    }
+}
 
 fn length(number: u64) -> Um {
     Um::new((number % 1_000_000) as i64).unwrap_or(Um::zero())

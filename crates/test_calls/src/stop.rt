@@ -49,14 +49,42 @@ impl<T: Drop> From<AllocFailed<T>> for Stop {
 }
 
 /// A call that must succeed is refused: the program is out of memory, or the line is not a row.
-macro_rules! memory_or_row {
-    ($($fault:ident)*) => { $(
-        impl From<$fault> for Stop {
-            fn from(fault: $fault) -> Stop {
-                if fault == $fault::Memory { Stop::Memory } else { Stop::Row }
-            }
-        }
-    )* };
+fn memory_or_row(is_memory: bool) -> Stop {
+    if is_memory { Stop::Memory } else { Stop::Row }
 }
 
-memory_or_row! { SetupFault ProgramFault ScheduleFault TextFault ClientFault ServerFault }
+impl From<SetupFault> for Stop {
+    fn from(fault: SetupFault) -> Stop {
+        memory_or_row(fault == SetupFault::Memory)
+    }
+}
+
+impl From<ProgramFault> for Stop {
+    fn from(fault: ProgramFault) -> Stop {
+        memory_or_row(fault == ProgramFault::Memory)
+    }
+}
+
+impl From<ScheduleFault> for Stop {
+    fn from(fault: ScheduleFault) -> Stop {
+        memory_or_row(fault == ScheduleFault::Memory)
+    }
+}
+
+impl From<TextFault> for Stop {
+    fn from(fault: TextFault) -> Stop {
+        memory_or_row(fault == TextFault::Memory)
+    }
+}
+
+impl From<ClientFault> for Stop {
+    fn from(fault: ClientFault) -> Stop {
+        memory_or_row(fault == ClientFault::Memory)
+    }
+}
+
+impl From<ServerFault> for Stop {
+    fn from(fault: ServerFault) -> Stop {
+        memory_or_row(fault == ServerFault::Memory)
+    }
+}
