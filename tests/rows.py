@@ -24,8 +24,8 @@ ESCAPED = {b"\\": b"\\", b"r": b"\r", b"n": b"\n", b"t": b"\t", b"\n": b""}
 
 
 class Row:
-    """The words of a `dme`, its other lines and texts by key; the files of its folder before and afterwards, by name; and the further `dme`s in
-    its folder, by key."""
+    """The words of a `dme`, its other lines and texts by key; the files of its folder before and afterwards, by name; where its links lead, by
+    name; and the further `dme`s in its folder, by key."""
 
     def __init__(self, name, words=()):
         self.name = name
@@ -34,14 +34,17 @@ class Row:
         self.texts = {}
         self.given = {}
         self.left = {}
+        self.links = {}
         self.further = {}
 
     def write_into(self, folder):
-        """Writes the files that are given."""
+        """Writes the files that are given, and makes the links."""
         for name, text in self.given.items():
             path = pathlib.Path(folder) / name
             path.parent.mkdir(parents=True, exist_ok=True)
             path.write_bytes(text)
+        for name, target in self.links.items():
+            (pathlib.Path(folder) / name).symlink_to(target)
 
 
 def words_of(line):
@@ -112,7 +115,7 @@ class Reader:
         text = text if key == "peer" else unescaped(text)
         if self.row is None:
             self.name(key, name, value, text)
-        elif further and (key in FILES or key == "peer"):
+        elif further and (key in FILES or key in ("link", "peer")):
             raise ValueError("only the row itself has this key")
         else:
             row = self.row.further.setdefault(further, Row(f"{further} of {self.row.name}")) if further else self.row
@@ -133,6 +136,8 @@ class Reader:
                 if it in files:
                     raise ValueError(f"there is a file {it} already")
                 files[it] = own
+        elif key == "link" and name and value:
+            row.links[name] = value
         elif key == "args" and not name and not text:
             row.words = words_of(value or "")
         elif key in LINES and value and not name:
@@ -187,6 +192,7 @@ stdin: A
 with: A, A as f/b
 with p "1":
 
+link l: f/b
 leaves c:
 serve args: serve
 serve status: 1
@@ -195,7 +201,7 @@ peer:
 """
 REFUSED = (  # lines of a row, and of what is before a row, with a mistake
     "args: 'a", "arg: a", "args", "args: a\nargs: a", "status: 0\nstatus: 0", "status:\n    1", "status 1: 1", "stdin: B", "stdin: A\n    a",
-    "with: B", "with:", "with b: A", "with: A\nwith A:", "with: A, machine.setup as A", "stdout:\n  a",
+    "link: l", "link l:", "serve link l: a", "with: B", "with:", "with b: A", "with: A\nwith A:", "with: A, machine.setup as A", "stdout:\n  a",
     "stdout:\n    \\q", "stdout:\n    \\{a}", "file B:\n    b", "peers args: a", "serve with: A", "== one", "    a",
 )
 REFUSED_BEFORE = ("file A:\n    a\nfile A:\n    a", "file A: b", "file machine.setup:\n    a", "args: a", "    a")
@@ -205,7 +211,7 @@ def is_whole(row):
     text = b"a xxx\\ \0\xff\r\n\t\n\t\n\n\xc3\xa4"
     serve = row.further["serve"]
     return (row.words == ["check", "", "a 'b'"] and row.texts == {"stdin": text, "peer": b">> a\\r\\n\n"}
-            and row.given == {"A": text, "f/b": text, 'p "1"': b""} and row.left == {"c": b""}
+            and row.given == {"A": text, "f/b": text, 'p "1"': b""} and row.left == {"c": b""} and row.links == {"l": "f/b"}
             and serve.words == ["serve"] and serve.lines == {"status": "1"})
 
 

@@ -8,7 +8,7 @@ use Rattle.contact_ledger.specs.declared.acts.Act.{Act}
 use Rattle.contact_ledger.proofs.WrittenTexts.{text_more}
 use Rattle.effects.specs.Effects.{Reply, Done}
 use Rattle.services.specs.declared.stages.Stage.{Stage}
-use Rattle.services.specs.Sessions.{Core, Outside, State, GoesOn, due, due_at, outcome, is_serving, Ready, IsKept, IsBefore, HasAllBut, IsMore, kept, begun, followed}
+use Rattle.services.specs.Sessions.{Core, Outside, State, GoesOn, due, due_at, outcome, is_serving, Ready, IsKept, IsBefore, HasAllBut, IsMore, followed}
 
 pub serving_ready : (s : Stage) (c : Core) (o : Outside) → is_serving s ≡ true → IsKept c o → Ready s c o
 serving_ready Stage.Logged c o e k = absurd (true≢false (sym e))

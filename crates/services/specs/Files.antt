@@ -1,6 +1,12 @@
--- What of a contacts file stays the same when a text is added to it (this profile).
-use Rattle.std.specs.Prelude.{◌≡◌}
+-- The name of a contacts file, and what of it stays the same when a text is added to it (this profile).
+use Rattle.std.specs.Prelude.{◌≡◌, ℕ, List, [], Option, Some, None, String, string_bytes}
+use Rattle.std.specs.Global.{Global}
 use Rattle.services.specs.declared.contacts.Contacts.{Contacts}
+
+-- the first of its names, or nothing
+abbrev pub name_of : Option (String Global × String Global × String Global) → List ℕ
+name_of None = []
+name_of (Some names) = string_bytes names.0
 
 pub record AreSame (old new : Contacts) : Type 0 where
   pub names : new.names ≡ old.names

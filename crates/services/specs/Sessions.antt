@@ -1,13 +1,15 @@
 -- What the session of `serve` knows and may ask next, as far as its promises speak of it (this profile).
-use Rattle.std.specs.Prelude.{◌≡◌, ◌⊎◌, ⊤, ℕ, Bool, true, false, List, [], ◌∷◌, ◌++◌, zero, suc, length, drop, map}
+use Rattle.std.specs.Prelude.{◌≡◌, ◌⊎◌, ⊤, ℕ, Bool, true, false, List, [], ◌∷◌, ◌++◌, Option, Some, None, if◌then◌else◌, zero, suc, length, drop, map}
 use Rattle.contact_ledger.specs.Lines.{text_of}
 use Rattle.contact_ledger.specs.ContactTexts.{act_line, contacts_text}
 use Rattle.contact_ledger.specs.declared.acts.Act.{Act}
 use Rattle.protocol_model.specs.Ends.{serving_left}
 use Rattle.link_world.specs.Reports.{reported, contact_rows}
+use Rattle.effects.specs.declared.vocabulary.Cause.TheVariants.{Link}
+use Rattle.effects.specs.declared.vocabulary.Growth.{Growth}
 use Rattle.effects.specs.declared.vocabulary.Growth.TheVariants.{Contacts}
 use Rattle.effects.specs.declared.vocabulary.Peer.TheVariants.{Client}
-use Rattle.effects.specs.Effects.{Ask, Exists, Look, Make, Discard, SetAside, Begin, Keep, Replace, Extend, Add, Stamp, Now, Sleep, Listen, Accept, Receive, Send, Leave, Print, Say, Exit, Reply, Done, Found, Did}
+use Rattle.effects.specs.Effects.{Ask, Exists, Look, Make, Discard, SetAside, Begin, Keep, Replace, Extend, Add, Stamp, Now, Sleep, Listen, Accept, Receive, Send, Leave, Print, Say, Exit, Reply, Done, Failed, Found, Did}
 use Rattle.services.specs.declared.stages.Stage.{Stage}
 use Rattle.services.specs.declared.stages.Stage.TheVariants as stage
 use Rattle.services.specs.Serving.{Talk, Traffic, passed, heard_more, is_over, may_end, may_leave, HasBroken, IsServing, IsAt, IsFree}
@@ -16,6 +18,7 @@ use Rattle.tool_rack.specs.Setups.{SetupValue}
 -- the contacts file, and what the server has done
 pub record Core : Type 0 where
   pub named : Bool  -- whether there is one
+  pub name : List ℕ  -- its name
   pub grows : Bool  -- whether it was locked and has a next text
   pub lost : Bool  -- whether it could not be kept
   pub text : List ℕ  -- what is to be added to it
@@ -88,7 +91,7 @@ Breaks s reply t = (s.core.broken ≡ true) ⊎ IsBrokenOff s reply t → t.core
 -- what the outside has answered so far
 pub record Outside : Type 0 where
   pub is_listened : Bool  -- the port was listened on
-  pub is_other : Bool  -- the contacts file is a link, a device or the like, which is written at the end alone
+  pub seen : Option (List ℕ × Reply)  -- which file was looked for, as the contacts file, and what was answered
   pub is_made : Bool  -- it is locked, and its next text was made
   pub next : List ℕ  -- that text
   pub safe : List ℕ  -- what is in it since it began, and no crash takes away
@@ -96,46 +99,26 @@ pub record Outside : Type 0 where
   pub is_printed : Bool  -- the contacts were printed
 
 abbrev pub untouched : Outside
-untouched = record { is_listened = false; is_other = false; is_made = false; next = []; safe = []; is_whole = false; is_printed = false }
+untouched = record { is_listened = false; seen = None; is_made = false; next = []; safe = []; is_whole = false; is_printed = false }
+
+abbrev pub is_done : Reply → Bool
+is_done Done = true
+is_done reply = false
+
+abbrev pub makes : Reply → Bool
+makes Done = true
+makes Found = true
+makes reply = false
 
 -- the outside after the effect of a stage was answered
-abbrev pub looked : Outside → Reply → Outside
-looked o Done = o
-looked o reply = record o { is_other = true }
-
-abbrev pub made : Outside → List ℕ → Reply → Outside
-made o text Done = record o { is_made = true; next = text }
-made o text Found = record o { is_made = true; next = text }
-made o text reply = o
-
-abbrev pub listened : Outside → Reply → Outside
-listened o Done = record o { is_listened = true }
-listened o reply = o
-
-abbrev pub begun : Outside → Reply → Outside
-begun o Done = record o { safe = o.next }
-begun o reply = o
-
-abbrev pub kept : Outside → List ℕ → Reply → Outside
-kept o text Done = record o { safe = o.safe ++ text }
-kept o text reply = o
-
-abbrev pub replaced : Outside → Reply → Outside
-replaced o Done = record o { is_whole = true }
-replaced o reply = o
-
-abbrev pub printed : Outside → Reply → Outside
-printed o Done = record o { is_printed = true }
-printed o reply = o
-
 abbrev pub outcome : Stage → Core → Reply → Outside → Outside
-outcome stage.Looking c reply o = looked o reply
-outcome stage.Making c reply o = made o c.text reply
-outcome stage.Listening c reply o = listened o reply
-outcome stage.Beginning c reply o = begun o reply
-outcome stage.Keeping c reply o = kept o c.text reply
-outcome stage.Replacing c reply o = replaced o reply
-outcome stage.Printing c reply o = printed o reply
+outcome stage.Looking c reply o = record o { seen = Some (c.name, reply) }
+outcome stage.Making c reply o = if makes reply then record o { is_made = true; next = c.text } else o
+outcome stage.Listening c reply o = if is_done reply then record o { is_listened = true } else o
+outcome stage.Beginning c reply o = if is_done reply then record o { safe = o.next } else o
+outcome stage.Keeping c reply o = if is_done reply then record o { safe = o.safe ++ c.text } else o
+outcome stage.Replacing c reply o = if is_done reply then record o { is_whole = true } else o
+outcome stage.Printing c reply o = if is_done reply then record o { is_printed = true } else o
 outcome s c reply o = o
 
 -- before the first connection: nothing was done, as the status says, too, and so does the next text of the contacts file
@@ -147,9 +130,23 @@ pub record IsBefore (c : Core) (o : Outside) : Type 0 where
   pub text : c.text ≡ contacts_text []
   pub made : c.grows ≡ true → (o.is_made ≡ true) × (o.next ≡ c.text)
 
+-- a file of this name was seen to be a plain one, or none
+abbrev pub IsPlain : List ℕ → Outside → Type 0
+IsPlain name o = o.seen ≡ Some (name, Done)
+
+-- or a device or the like, which is written at the end alone; no link is
+abbrev pub is_other : Reply → Bool
+is_other Done = false
+is_other (Failed Link) = false
+is_other reply = true
+
+abbrev pub IsOther : List ℕ → Option (List ℕ × Reply) → Type 0
+IsOther name None = ⊥
+IsOther name (Some seen) = (seen.0 ≡ name) × (is_other seen.1 ≡ true)
+
 -- the contacts file can be written, or need not be until the end
 abbrev pub IsPrepared : Core → Outside → Type 0
-IsPrepared c o = (c.named ≡ false) ⊎ ((o.is_made ≡ true) ⊎ (o.is_other ≡ true))
+IsPrepared c o = (c.named ≡ false) ⊎ ((o.is_made ≡ true) ⊎ IsOther c.name o.seen)
 
 -- the contacts file that grows has all that the server has done, but for this text, unless it could not be kept
 abbrev pub HasAllBut : List ℕ → Core → Outside → Type 0
@@ -191,7 +188,7 @@ IsEnding c o = IsStatus c.status (HasServed c o)
 abbrev pub Ready : Stage → Core → Outside → Type 0
 Ready stage.Logged c o = IsBefore c o
 Ready stage.Looking c o = IsBefore c o
-Ready stage.Making c o = IsBefore c o
+Ready stage.Making c o = IsBefore c o × IsPlain c.name o
 Ready stage.Listening c o = IsBefore c o × IsPrepared c o
 Ready stage.SettingAside c o = IsBefore c o × ((c.grows ≡ true) × (o.is_listened ≡ true))
 Ready stage.Beginning c o = IsBefore c o × ((c.grows ≡ true) × (o.is_listened ≡ true))
@@ -288,13 +285,9 @@ IsOpening (Extend name) = ⊤
 IsOpening (Say text) = text ≡ []
 IsOpening ask = ⊥
 
-abbrev pub IsLook : Ask → Type 0
-IsLook (Look name) = ⊤
-IsLook ask = ⊥
-
-abbrev pub IsMake : List ℕ → Ask → Type 0
-IsMake text (Make growth name beside first) = first ≡ text
-IsMake text ask = ⊥
+abbrev pub IsMake : Core → Ask → Type 0
+IsMake c (Make growth name beside first) = (name ≡ c.name) × (first ≡ c.text)
+IsMake c ask = ⊥
 
 abbrev pub IsListen : Ask → Type 0
 IsListen (Listen address port is_polled) = ⊤
@@ -304,9 +297,9 @@ abbrev pub IsAccept : Ask → Type 0
 IsAccept (Accept ms seconds) = ⊤
 IsAccept ask = ⊥
 
-abbrev pub IsReplace : List ℕ → Ask → Type 0
-IsReplace text (Replace name beside whole) = whole ≡ text
-IsReplace text ask = ⊥
+abbrev pub IsReplace : Core → Ask → Type 0
+IsReplace c (Replace name beside whole) = (name ≡ c.name) × (whole ≡ c.text)
+IsReplace c ask = ⊥
 
 abbrev pub IsSetAside : Ask → Type 0
 IsSetAside (SetAside growth old) = growth ≡ Contacts
@@ -327,8 +320,8 @@ IsSay ask = ⊥
 -- what each stage asks for, and nothing else
 abbrev pub AsksAt : Stage → State → Ask → Type 0
 AsksAt stage.Logged s ask = IsOpening ask
-AsksAt stage.Looking s ask = IsLook ask
-AsksAt stage.Making s ask = IsMake s.core.text ask
+AsksAt stage.Looking s ask = ask ≡ Look s.core.name
+AsksAt stage.Making s ask = IsMake s.core ask
 AsksAt stage.Discarding s ask = ask ≡ Discard Contacts
 AsksAt stage.SettingAside s ask = IsSetAside ask
 AsksAt stage.Beginning s ask = ask ≡ Begin Contacts
@@ -345,7 +338,7 @@ AsksAt stage.Stamping s ask = ask ≡ Stamp
 AsksAt stage.Logging s ask = IsAdd ask
 AsksAt stage.Sending s ask = ask ≡ Send Client s.talk.out
 AsksAt stage.Leaving s ask = ask ≡ Leave
-AsksAt stage.Replacing s ask = IsReplace s.core.text ask
+AsksAt stage.Replacing s ask = IsReplace s.core ask
 AsksAt stage.Printing s ask = ask ≡ Print s.core.rows
 AsksAt stage.Saying s ask = IsSay ask
 AsksAt stage.Telling s ask = IsSay ask
@@ -388,6 +381,16 @@ pub data Led (first : State) : List Did → State → Outside → Type 0 where
   starts : Led first [] first untouched
   follows : (past : List Did) (s t : State) (o : Outside) (ask : Ask) (reply : Reply) → Led first past s o → (s.stage ≡ stage.Exiting → ⊥)
       → Asks s ask → Steps s reply t → Led first ((ask, reply) ∷ past) t (outcome s.stage s.core reply o)
+
+-- a file of this name was seen to be a plain one, or none
+abbrev pub WasSeen : List ℕ → List Did → Type 0
+WasSeen name [] = ⊥
+WasSeen name (did ∷ past) = (did ≡ (Look name, Done)) ⊎ WasSeen name past
+
+-- and so was each file that was to grow, before it was locked and its next text made: it was no link
+abbrev pub AreSeen : List Did → Type 0
+AreSeen [] = ⊤
+AreSeen (did ∷ past) = ((growth : Growth) (name beside text : List ℕ) → did.0 ≡ Make growth name beside text → WasSeen name past) × AreSeen past
 
 -- no connection was broken off on the way
 abbrev pub NoneBroken : (first : State) (past : List Did) (s : State) (o : Outside) → Led first past s o → Type 0

@@ -1,6 +1,7 @@
 // The contacts file of a service, and what it is to have next.
 
 ghost use Rattle.std.specs.Prelude.{◌≡◌, ◌++◌, ◌&&◌, not, false, [], OnOk, IfOk, length, drop, map, is_some};
+ghost use Rattle.std.specs.Option.{option_map_or};
 ghost use Rattle.services.specs.Files as spec;
 ghost use Rattle.contact_ledger.specs.Lines.{text_of};
 ghost use Rattle.contact_ledger.specs.ContactTexts.{act_line, contacts_text};
@@ -36,6 +37,8 @@ fn or_none(name: Option<&String>) -> &str {
 
 impl Contacts {
     pub fn new(alloc: Global, name: Option<&str>) -> Result<Contacts, AllocError>
+        ensures name { IfOk result (λ c. spec.name_of c.names
+            ≡ option_map_or (λ name. name.now) name.entry []) }
         ensures text { IfOk result (λ c. c.text.items ≡ contacts_text []) }
         ensures held { IfOk result (λ c. c.held ≡ 0) }
         ensures grows { IfOk result (λ c. c.grows ≡ false) }
@@ -69,8 +72,13 @@ impl Contacts {
         self.names.is_some()
     }
 
-    pub fn name(&self) -> &str {
-        or_none(self.names.as_ref().map(|names| &names.0))
+    pub fn name(&self) -> &str
+        ensures { result.now ≡ spec.name_of self.now.names }
+    {
+        match &self.names {
+            Some((name, _, _)) => name.as_str(),
+            None => "",
+        }
     }
 
     pub fn beside(&self) -> &str {

@@ -1,15 +1,15 @@
 // What follows from the definitions. Each function has laws for its contract and does nothing.
 
-ghost use Rattle.std.specs.Prelude.{◌≡◌, ⊤, ℕ, Bool, List, [], ◌∷◌, true, false, None, Ok};
-ghost use Rattle.effects.specs.declared.vocabulary.Cause.TheVariants.{InUse, Reset};
-ghost use Rattle.effects.specs.Effects.{At, Bytes, Did, Discard, Done, End, Exit, Failed, Found, Nothing, Remove};
-ghost use Rattle.effects.specs.declared.vocabulary.Growth.TheVariants.{Told};
+ghost use Rattle.std.specs.Prelude.{◌≡◌, ⊤, ℕ, Bool, List, [], ◌∷◌, true, false, Some, None, Ok};
+ghost use Rattle.effects.specs.declared.vocabulary.Cause.TheVariants.{Device, InUse, Link, Reset};
+ghost use Rattle.effects.specs.Effects.{At, Bytes, Did, Discard, Done, End, Exit, Failed, Found, Look, Make, Nothing, Remove, Replace};
+ghost use Rattle.effects.specs.declared.vocabulary.Growth.TheVariants.{Contacts, Told};
 ghost use Rattle.line_framing.specs.Next.{next_of};
 ghost use Rattle.protocol_model.specs.Ends.{ServerEnd};
 ghost use Rattle.protocol_model.specs.Server.{running_job};
 ghost use Rattle.server_core.specs.Serving.{may_turn};
 ghost use Rattle.tool_rack.specs.Setups.{SetupValue};
-ghost use Rattle.services.specs.Sessions.{AsksAt, Breaks, Core, HasServed, IsBrokenOff, IsStatus, Led, NoneBroken, Outside, Ready, State, due, listened, untouched};
+ghost use Rattle.services.specs.Sessions.{AreSeen, AsksAt, Breaks, Core, HasServed, IsBrokenOff, IsStatus, Led, NoneBroken, Outside, Ready, State, due, is_other, outcome, untouched};
 ghost use Rattle.services.specs.Serving.{Talk, Traffic, Served, IsBreak, IsServing, IsAt, is_over, may_leave, passed};
 ghost use Rattle.link_world.specs.declared.connections.pumps.PumpFault.TheVariants as fault;
 ghost use Rattle.services.specs.declared.stages.Stage.TheVariants as stage;
@@ -36,6 +36,38 @@ pub fn services_exit_with_their_status()
         → IsStatus s.core.status (HasServed s.core o × NoneBroken first past s o led) }
 {}
 
+/// A session that was led from one that is `Ready` has locked a file, to make its next text, only if it was seen under this name to be a plain
+/// one, or none: what it begins is no link.
+pub fn what_grows_is_no_link()
+    ensures { (first s : State) (past : List Did) (o : Outside)
+        → Ready (due first) first.core untouched → Led first past s o → AreSeen past }
+{}
+
+/// A file that was not looked for, or under another name, or that is a link, is not locked; no port is listened on if it is a link, but one
+/// is if it is a device; and the file is looked for first.
+pub fn seeing_rows()
+    ensures unseen { (c : Core) (o : Outside) → o.seen ≡ None → Ready stage.Making c o → ⊥ }
+    ensures other { (c : Core) (o : Outside) → c.name ≡ 7 ∷ [] → o.seen ≡ Some (5 ∷ [], Done)
+        → Ready stage.Making c o → ⊥ }
+    ensures linked { (c : Core) (o : Outside) → o.seen ≡ Some (c.name, Failed Link)
+        → Ready stage.Making c o → ⊥ }
+    ensures unlistened { (c : Core) (o : Outside) → c.named ≡ true → o.is_made ≡ false
+        → o.seen ≡ Some (c.name, Failed Link) → Ready stage.Listening c o → ⊥ }
+    ensures device { is_other (Failed Device) ≡ true }
+    ensures looked { (s : State) → s.core.name ≡ 7 ∷ [] → AsksAt stage.Looking s (Look (5 ∷ [])) → ⊥ }
+    ensures made { (s : State) → s.core.name ≡ 7 ∷ []
+        → AsksAt stage.Making s (Make Contacts (5 ∷ []) [] []) → ⊥ }
+    ensures written { (s : State) → s.core.name ≡ 7 ∷ []
+        → AsksAt stage.Replacing s (Replace (5 ∷ []) [] []) → ⊥ }
+    ensures plain { AreSeen ((Make Contacts (7 ∷ []) [] [], Done) ∷ (Look (7 ∷ []), Done) ∷ []) }
+    ensures link { AreSeen ((Make Contacts (7 ∷ []) [] [], Done)
+        ∷ (Look (7 ∷ []), Failed Link) ∷ []) → ⊥ }
+    ensures other_plain { AreSeen ((Make Contacts (7 ∷ []) [] [], Done)
+        ∷ (Look (5 ∷ []), Done) ∷ []) → ⊥ }
+    ensures late { AreSeen ((Look (7 ∷ []), Done)
+        ∷ (Make Contacts (7 ∷ []) [] [], Done) ∷ []) → ⊥ }
+{}
+
 /// What a service asks for nowhere but at its own stage; a port that was not had, a connection that was broken off, and contacts that were not
 /// kept, or not printed, are no success; no other status is known.
 pub fn asking_rows()
@@ -55,8 +87,9 @@ pub fn asking_rows()
 /// The port is had only if it was listened on. A connection is broken off if its client has reset it, takes no answers or is refused, or if a
 /// turn or the time ends it, and that is never forgotten; but not if its client has ended it, or at the stop file.
 pub fn breaking_rows()
-    ensures had { (listened untouched Done).is_listened ≡ true }
-    ensures unhad { (listened untouched (Failed InUse)).is_listened ≡ false }
+    ensures had { (c : Core) → (outcome stage.Listening c Done untouched).is_listened ≡ true }
+    ensures unhad { (c : Core)
+        → (outcome stage.Listening c (Failed InUse) untouched).is_listened ≡ false }
     ensures reset { (s t : State) → s.stage ≡ stage.Receiving → s.talk.end.server.on ≡ true
         → t.talk.end.server.on ≡ false → t.core.broken ≡ false → Breaks s (Failed Reset) t → ⊥ }
     ensures turned { (s t : State) → s.stage ≡ stage.Receiving → s.talk.end.server.on ≡ true

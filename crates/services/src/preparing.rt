@@ -6,7 +6,7 @@ ghost use Rattle.services.specs.Sessions as spec;
 ghost use Rattle.services.specs.Serving as serving;
 
 use crate::{Session, Stage};
-use effects::Answer;
+use effects::{Answer, Cause};
 use session_telling::{cause_of, why_unconnected, why_unwritten};
 use std::alloc::AllocError;
 
@@ -37,25 +37,16 @@ impl Session {
         Ok(())
     }
 
-    /// A file cannot be written, and the service ends before it has begun.
-    fn refuse(&mut self, name: &str) -> Result<(), AllocError>
+    /// The contacts file cannot be written, and the service ends before it has begun.
+    fn refuse_contacts(&mut self, why: &str) -> Result<(), AllocError>
         ensures new { OnOk result (self.new
             ≡ record self.old { stage = Stage.Saying; next = Stage.Exiting }) }
         ensures talk { self.new.talk ≡ self.old.talk }
     {
-        let message = format!(in self.alloc; "dme: cannot write {name}\n")?;
+        let name = self.contacts.name();
+        let message = format!(in self.alloc; "dme: cannot write {name}{why}\n")?;
         self.say(message, Stage::Exiting);
         Ok(())
-    }
-
-    /// The contacts file cannot be written.
-    fn refuse_contacts(&mut self) -> Result<(), AllocError>
-        ensures new { OnOk result (self.new
-            ≡ record self.old { stage = Stage.Saying; next = Stage.Exiting }) }
-        ensures talk { self.new.talk ≡ self.old.talk }
-    {
-        let name = String::from_str(self.alloc, self.contacts.name())?;
-        self.refuse(name.as_str())
     }
 
     /// The contacts file is locked, and has its next text.
@@ -82,11 +73,14 @@ impl Session {
             (Stage::Logged, Answer::Done) => self.stage = self.after_log(),
             (Stage::Logged, _) => return self.lose_log(self.after_log()),
             (Stage::Looking, Answer::Done) => self.stage = Stage::Making,
+            (Stage::Looking, Answer::Failed(Cause::Link)) => {
+                return self.refuse_contacts(why_unwritten(Cause::Link));
+            }
             (Stage::Looking, _) => self.stage = Stage::Listening,
             (Stage::Making, Answer::Done) => self.made(false),
             (Stage::Making, Answer::Found) => self.made(true),
             (Stage::Making, Answer::Short) => return Err(AllocError),
-            (Stage::Making, _) => return self.refuse_contacts(),
+            (Stage::Making, _) => return self.refuse_contacts(""),
             _ => return self.listened(answer),
         }
         Ok(())
@@ -180,12 +174,13 @@ impl Session {
                 self.say(message, Stage::Beginning);
             }
             (Stage::SettingAside, _) => {
-                let old = String::from_str(self.alloc, self.contacts.old())?;
-                self.refuse(old.as_str())?;
+                let old = self.contacts.old();
+                let message = format!(in self.alloc; "dme: cannot write {old}\n")?;
+                self.say(message, Stage::Exiting);
                 self.stage = Stage::Discarding;
             }
             (_, Answer::Done) => self.begun(),
-            _ => return self.refuse_contacts(),
+            _ => return self.refuse_contacts(""),
         }
         Ok(())
     }

@@ -1,6 +1,7 @@
 // A session: what it asks, and what it does with an answer.
 
-ghost use Rattle.std.specs.Prelude.{◌≡◌, true, false, OnOk, OnErr, IfOk};
+ghost use Rattle.std.specs.Prelude.{◌≡◌, true, false, [], OnOk, OnErr, IfOk, string_bytes};
+ghost use Rattle.std.specs.Option.{option_map_or};
 ghost use Rattle.effects.specs.Effects.{the_ask, the_reply, Reply};
 ghost use Rattle.protocol_model.specs.Ends.{serving_left};
 ghost use Rattle.services.specs.Sessions as spec;
@@ -65,6 +66,7 @@ pub struct Session {
 
 impl Model for Session {
     ghost use Rattle.std.specs.Prelude.{is_some};
+    ghost use Rattle.services.specs.Files.{name_of};
     ghost use Rattle.services.specs.Sessions.{State};
 
     ghost Value = { State };
@@ -74,6 +76,7 @@ impl Model for Session {
       next = s.next;
       core = record {
         named = is_some s.contacts.names;
+        name = name_of s.contacts.names;
         grows = s.contacts.grows;
         lost = s.contacts.has_failed;
         text = s.contacts.text.items;
@@ -98,6 +101,8 @@ impl Session {
         ensures ready { IfOk result (λ s. spec.Ready (spec.due s) s.core spec.untouched) }
         ensures served { IfOk result (λ s. serving.IsServing setup false s.talk serving.no_traffic) }
         ensures stands { IfOk result (λ s. spec.Stands s) }
+        ensures name { IfOk result (λ s. s.core.name
+            ≡ option_map_or string_bytes service.contacts []) }
     {
         let machine = Simulated::new(alloc, &setup)?;
         let contacts = Contacts::new(alloc, service.contacts.as_deref())?;
