@@ -7,7 +7,7 @@ ghost use Rattle.services.specs.Relays as spec;
 use crate::recordings::{hold_recording, recording_in, slot_after};
 use crate::relay_stages::RelayStage as Stage;
 use crate::relaying::RelaySession;
-use effects::{Answer, Peer, Slot};
+use effects::{Answer, Cause, Peer, Slot};
 use session_telling::{cause_of, stamped, why_unconnected, why_unwritten};
 use std::alloc::AllocError;
 use watched_ends::add_piece;
@@ -32,12 +32,12 @@ impl RelaySession {
     }
 
     /// The told file cannot be written.
-    fn refuse_told(&mut self) -> Result<(), AllocError>
+    fn refuse_told(&mut self, why: &str) -> Result<(), AllocError>
         ensures ok { OnOk result (self.new ≡ spec.refusing self.old) }
         ensures err { OnErr result (self.new ≡ self.old) }
     {
         let name = self.names.name.as_str();
-        let message = format!(in self.alloc; "dme: cannot write {name}\n")?;
+        let message = format!(in self.alloc; "dme: cannot write {name}{why}\n")?;
         self.refuse(message);
         Ok(())
     }
@@ -65,7 +65,10 @@ impl RelaySession {
                 self.stage = Stage::Listening;
             }
             (Stage::Making, Answer::Short) => return Err(AllocError),
-            (Stage::Making, _) => self.refuse_told()?,
+            (Stage::Making, Answer::Failed(Cause::Link)) => {
+                self.refuse_told(why_unwritten(Cause::Link))?;
+            }
+            (Stage::Making, _) => self.refuse_told("")?,
             (Stage::Listening, Answer::Done) if self.recording.is_some() => {
                 self.stage = Stage::Listing;
             }
@@ -152,7 +155,7 @@ impl RelaySession {
                     Stage::Accepting
                 };
             }
-            (Stage::Beginning, _) => self.refuse_told()?,
+            (Stage::Beginning, _) => self.refuse_told("")?,
             (_, Answer::Done) => self.stage = Stage::Accepting,
             _ => {
                 let message = self.lose_log()?;
