@@ -19,7 +19,7 @@ grown_by false e errors g =
     let lines : List ℕ = error_lines g.telling.connection errors in
     (acts ++ lines, append_assoc g.text acts lines)
 
-pub grows : (first : Pair) (ps : List ℕ) (p : Pair) → Ran first ps p → (more : List ℕ) × (p.recording.text ≡ first.recording.text ++ more)
+pub grows : {b : Bool} (first : Pair) (ps : List ℕ) (p : Pair) → Ran b first ps p → (more : List ℕ) × (p.recording.text ≡ first.recording.text ++ more)
 grows first _ _ (begins ps) = ([], sym (append-nil first.recording.text))
 grows first _ _ (calls ps p call r run free) = grows first ps p r
 grows first _ _ (confirms n ps p r counted) = grows first (n ∷ ps) p r
@@ -32,11 +32,11 @@ grows first _ _ (tells ps p lacks errors r lines) =
 pub moved : (first : Pair) (before : List (ℕ × Act)) (s t : State) (o : Outside) → Keeps s t → of_file t.book ≡ of_file s.book
     → IsKept first before s o → IsKept first before t o
 moved first before s t o keeps same k =
-    let w : Origin = record { first = s.pair; before = before; marks = o.marks } in
+    let w : Origin = record { aborts = true; first = s.pair; before = before; marks = o.marks } in
     let more = grows s.pair t.book.pauses t.pair
     (keeps w (record { ran = begins s.book.pauses; reported = k.ran.reported; same = k.ran.same })).ran in
     record {
-      ran = keeps (record { first = first; before = before; marks = o.marks }) k.ran;
+      ran = keeps (record { aborts = true; first = first; before = before; marks = o.marks }) k.ran;
       front = (
         k.front.0 ++ more.0,
         sym (append_assoc o.file k.front.0 more.0)
@@ -48,7 +48,7 @@ moved first before s t o keeps same k =
     }
 
 -- what is outside after an answer at a stage that writes this
-abbrev by_write : Option Write → ℕ → State → Reply → Outside → Outside
+abbrev pub by_write : Option Write → ℕ → State → Reply → Outside → Outside
 by_write w n s reply o =
     record (outcome_by n w (lacking s) reply o) { marks = marked w (is_done reply) s o.marks }
 
@@ -122,7 +122,7 @@ pub filed_on : (s t : State) (forced : Bool) → writes s.stage ≡ Some (Record
     → t.book ≡ filed s → GoesOn s Done t
 filed_on s t false w sound same reports book = λ first before o n k.
     subst (λ (x : Option Write). IsKept first before t (by_write x n s Done o)) (sym w) (record {
-      ran = same_ran (record { first = first; before = before; marks = o.marks }) s t same reports (ap (λ (b : Book). b.pauses) (book ∙ ap (λ (x : Option Write). filed_by x s) w)) k.ran;
+      ran = same_ran (record { aborts = true; first = first; before = before; marks = o.marks }) s t same reports (ap (λ (b : Book). b.pauses) (book ∙ ap (λ (x : Option Write). filed_by x s) w)) k.ran;
       front = ([], (filed_file first before s t o sound same k).0);
       filed = λ l. (filed_file first before s t o sound same k).1
           ∙ sym (ap (λ (b : Book). b.filed) (book ∙ ap (λ (x : Option Write). filed_by x s) w));
@@ -131,7 +131,7 @@ filed_on s t false w sound same reports book = λ first before o n k.
     })
 filed_on s t true w sound same reports book = λ first before o n k.
     subst (λ (x : Option Write). IsKept first before t (by_write x n s Done o)) (sym w) (record {
-      ran = same_ran (record { first = first; before = before; marks = o.marks }) s t same reports (ap (λ (b : Book). b.pauses) (book ∙ ap (λ (x : Option Write). filed_by x s) w)) k.ran;
+      ran = same_ran (record { aborts = true; first = first; before = before; marks = o.marks }) s t same reports (ap (λ (b : Book). b.pauses) (book ∙ ap (λ (x : Option Write). filed_by x s) w)) k.ran;
       front = ([], (filed_file first before s t o sound same k).0);
       filed = λ l. (filed_file first before s t o sound same k).1
           ∙ sym (ap (λ (b : Book). b.filed) (book ∙ ap (λ (x : Option Write). filed_by x s) w));
@@ -169,12 +169,12 @@ safe_more first count safe more h = record {
   features = h.features;
 }
 
-lost_kept : (first : Pair) (before : List (ℕ × Act)) (s t : State) (p : Outside) → IsRunOf (record { first = first; before = before; marks = p.marks }) s → t.pair ≡ s.pair
+lost_kept : (first : Pair) (before : List (ℕ × Act)) (s t : State) (p : Outside) → IsRunOf (record { aborts = true; first = first; before = before; marks = p.marks }) s → t.pair ≡ s.pair
     → t.reports ≡ s.reports → t.book ≡ record (s.book) { lost = true }
     → (rest : List ℕ) × (p.file ++ rest ≡ s.pair.recording.text) → (rest : List ℕ) × (p.safe ++ rest ≡ p.file)
     → IsSafe first s.book.settled p.safe → IsKept first before t p
 lost_kept first before s t p ran same reports book front within safe = record {
-  ran = same_ran (record { first = first; before = before; marks = p.marks }) s t same reports (ap (λ (b : Book). b.pauses) book) ran;
+  ran = same_ran (record { aborts = true; first = first; before = before; marks = p.marks }) s t same reports (ap (λ (b : Book). b.pauses) book) ran;
   front = (front.0, front.1 ∙ ap (λ (x : Pair). x.recording.text) (sym same));
   filed = λ l. absurd (false≢true (sym l ∙ ap (λ (b : Book). b.lost) book));
   within = within;
@@ -248,16 +248,16 @@ same_text g = ap (λ (t : List ℕ). record g { text = t }) (append-nil g.text)
 
 -- from one record to another, with these pauses that are to come
 abbrev Tells : List ℕ → ClientEnd → Growth → Growth → Type 0
-Tells ps e g h = (first : Pair) → Ran first ps (record { end = e; recording = g }) → Ran first ps (record { end = e; recording = h })
+Tells ps e g h = (b : Bool) (first : Pair) → Ran b first ps (record { end = e; recording = g }) → Ran b first ps (record { end = e; recording = h })
 
 acts_keep : (ps : List ℕ) (e : ClientEnd) (g h : Growth) → h ≡ with_acts e.client.program.features e.client.table.tally.counted g → Tells ps e g h
-acts_keep ps e g h is = λ first ran.
-    subst (λ (x : Growth). Ran first ps (record { end = e; recording = x })) (same_text (told_now e g) ∙ sym is)
+acts_keep ps e g h is = λ b first ran.
+    subst (λ (x : Growth). Ran b first ps (record { end = e; recording = x })) (same_text (told_now e g) ∙ sym is)
     (tells ps (record { end = e; recording = g }) false [] ran tt)
 
 errors_keep : (ps : List ℕ) (e : ClientEnd) (g h : Growth) (errors : List (List ℕ)) → HaveLines errors → h ≡ with_errors errors g → Tells ps e g h
-errors_keep ps e g h errors lines is = λ first ran.
-    subst (λ (x : Growth). Ran first ps (record { end = e; recording = x })) (sym is)
+errors_keep ps e g h errors lines is = λ b first ran.
+    subst (λ (x : Growth). Ran b first ps (record { end = e; recording = x })) (sym is)
     (tells ps (record { end = e; recording = g }) true errors ran lines)
 
 pub first_lines : (n : ℕ) (errors : List (List ℕ)) → HaveLines errors → HaveLines (take n errors)
@@ -275,6 +275,7 @@ pub new_kept : (before : List (ℕ × Act)) (s : State) → s.book ≡ record {
   pauses = s.book.pauses;
   keeps = s.book.keeps;
   short = s.book.short;
+  spent = s.book.spent;
 }
     → HasReported before s.pair s.reports → IsKept s.pair before s (record { file = s.pair.recording.text; safe = s.pair.recording.text; marks = s.reports.marks })
 new_kept before s book reported = record {
@@ -297,7 +298,7 @@ pub told_acts_keep : {A E : Type 0} (r : Result A E) (ps : List ℕ) (e : Client
     → OnOk r (h ≡ with_acts e.client.program.features e.client.table.tally.counted g) → OnErr r (h ≡ g) → Tells ps e g h
 told_acts_keep (Ok a) ps e g h done same = acts_keep ps e g h done
 told_acts_keep (Err why) ps e g h done same =
-    λ first ran. subst (λ (x : Growth). Ran first ps (record { end = e; recording = x })) (sym same) ran
+    λ b first ran. subst (λ (x : Growth). Ran b first ps (record { end = e; recording = x })) (sym same) ran
 
 -- likewise errors, of which the first get theirs
 pub told_errors_keep : {A E : Type 0} (r : Result A E) (ps : List ℕ) (e : ClientEnd) (g h : Growth) (errors : List (List ℕ)) → HaveLines errors

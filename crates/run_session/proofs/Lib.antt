@@ -8,3 +8,4 @@ pub mod Kept
 pub mod Reporting
 pub mod Moments
 pub mod Pauses
+pub mod Stops

@@ -54,7 +54,7 @@ are_errors [] last h some = tt
 are_errors (e ∷ errors) last h some = (h.0, some, are_errors errors last h.1 some)
 
 -- a run keeps the number of its connection
-ran_last : (first : Pair) (ps : List ℕ) (p : Pair) → Ran first ps p → p.end.client.last ≡ first.end.client.last
+ran_last : {b : Bool} (first : Pair) (ps : List ℕ) (p : Pair) → Ran b first ps p → p.end.client.last ≡ first.end.client.last
 ran_last first _ _ (begins ps) = refl
 ran_last first _ _ (calls ps p call r is free) = Stays.last (call_keeps call p.end is) ∙ ran_last first ps p r
 ran_last first _ _ (tells ps p lacks errors r lines) = ran_last first ps p r
@@ -67,7 +67,7 @@ record Moments (n : ℕ) (p q : Pair) : Type 0 where
   fit : AreFit n moments p.end
   reports : Reports p.end (calls_in moments)
 
-before : (n : ℕ) (first : Pair) (ps : List ℕ) (p q : Pair) → 1 ≤ first.end.client.last → Ran first ps p → Moments n p q → Moments n first q
+before : {b : Bool} (n : ℕ) (first : Pair) (ps : List ℕ) (p q : Pair) → 1 ≤ first.end.client.last → Ran b first ps p → Moments n p q → Moments n first q
 before n first _ _ q some (begins ps) s = s
 before n first _ _ q some (confirms k ps p r counted) s = before n first (k ∷ ps) p q some r s
 before n first _ _ q some (calls ps p call r is free) s = before n first ps p q some r (record {
@@ -84,7 +84,7 @@ before n first _ _ q some (tells ps p lacks errors r lines) s = before n first p
   reports = s.reports;
 })
 
-moments_of : (n : ℕ) (ps : List ℕ) (first p : Pair) → 1 ≤ first.end.client.last → Ran first ps p → Moments n first p
+moments_of : {b : Bool} (n : ℕ) (ps : List ℕ) (first p : Pair) → 1 ≤ first.end.client.last → Ran b first ps p → Moments n first p
 moments_of n ps first p some r = before n first ps p p some r (record {
   moments = [];
   leads = refl;
@@ -128,8 +128,8 @@ ends [] q = refl
 ends (Calls call ∷ ms) q = ends ms _
 ends (Tell lacks errors ∷ ms) q = ends ms _
 
-led : (p : Meaning) (part : Option (List ℕ)) (bytes : List ℕ) (b : Beginning) (window : ℕ) (ps : List ℕ) (first q : Pair)
-    → IsBegun p part bytes b window first → Ran first ps q → Led p b window q
+led : {x : Bool} (p : Meaning) (part : Option (List ℕ)) (bytes : List ℕ) (b : Beginning) (window : ℕ) (ps : List ℕ) (first q : Pair)
+    → IsBegun p part bytes b window first → Ran x first ps q → Led p b window q
 led p part bytes b window ps first q h ran = record {
   moments = Calls (Connected b.connection) ∷ m.moments;
   fit = (least b.connection, subst (λ (e : ClientEnd). AreFit b.connection m.moments e) joined m.fit);

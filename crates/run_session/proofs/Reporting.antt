@@ -1,5 +1,5 @@
 -- What is to be in the file of contacts is what was reported.
-use Rattle.run_session.proofs.Names.{◌++◌, ◌∙◌, ◌∷◌, ◌≡◌, ◌≤◌, Act, ap, append_assoc, arith, begins, calls, confirms, Err, HasReported, IsRun, IsRunOf}
+use Rattle.run_session.proofs.Names.{◌++◌, ◌∙◌, ◌∷◌, ◌≡◌, ◌≤◌, Act, ap, Bool, append_assoc, arith, begins, calls, confirms, Err, HasReported, IsRun, IsRunOf}
 use Rattle.run_session.proofs.Names.{length, length-append, List, map, numbered, Ok, OnErr, OnOk, Pair, Ran, refl, Reports, Result, State}
 use Rattle.run_session.proofs.Names.{subst, sym, take, take-append-drop, tells, ℕ, [], append-nil, drop, codes}
 use Rattle.std.proofs.lemmas.List.{map-append, take-append-le, take_all}
@@ -10,7 +10,7 @@ use Rattle.run_session.specs.Records.{Marks, Origin}
 use Rattle.run_session.proofs.Kept.{call_keeps, numbered_more}
 
 -- a run counts more
-more_counted : (first : Pair) (ps : List ℕ) (p : Pair) → Ran first ps p
+more_counted : {b : Bool} (first : Pair) (ps : List ℕ) (p : Pair) → Ran b first ps p
     → (more : List Act) × (p.end.client.table.tally.counted ≡ first.end.client.table.tally.counted ++ more)
 more_counted first _ _ (begins ps) = ([], sym (append-nil first.end.client.table.tally.counted))
 more_counted first _ _ (calls ps p call r is free) =
@@ -25,7 +25,7 @@ more_counted first _ _ (confirms n ps p r counted) = more_counted first (n ∷ p
 within : (k : ℕ) (xs ys zs : List Act) → zs ≡ xs ++ ys → k ≤ length xs → k ≤ length zs
 within k xs ys zs is few = let long = ap (λ (l : List Act). length l) is ∙ length-append xs ys in omega (arith, long, few)
 
-pub stays_reported : (before : List (ℕ × Act)) (qs : List ℕ) (p q : Pair) (r : Reports) → Ran p qs q → HasReported before p r
+pub stays_reported : {b : Bool} (before : List (ℕ × Act)) (qs : List ℕ) (p q : Pair) (r : Reports) → Ran b p qs q → HasReported before p r
     → HasReported before q r
 stays_reported before qs p q r ran has =
     let now = more_counted p qs q ran in (
@@ -35,13 +35,13 @@ stays_reported before qs p q r ran has =
     )
 
 -- a client and its record that are later ones than those that a session was opened with, while nothing is reported
-pub keeps_by : (v s : State) (qs : List ℕ) (q : Pair) → v ≡ s → ((first : Pair) → Ran first v.book.pauses v.pair → Ran first qs q)
+pub keeps_by : (v s : State) (qs : List ℕ) (q : Pair) → v ≡ s → ((b : Bool) (first : Pair) → Ran b first v.book.pauses v.pair → Ran b first qs q)
     → (w : Origin) → IsRunOf w s → IsRun w qs q v.reports
 keeps_by v s qs q is moves w run =
     let at : IsRunOf w v = subst (λ (x : State). IsRunOf w x) (sym is) run in
     record {
-      ran = moves w.first at.ran;
-      reported = stays_reported w.before qs v.pair q v.reports (moves v.pair (begins v.book.pauses)) at.reported;
+      ran = moves w.aborts w.first at.ran;
+      reported = stays_reported w.before qs v.pair q v.reports (moves w.aborts v.pair (begins v.book.pauses)) at.reported;
       same = at.same;
     }
 

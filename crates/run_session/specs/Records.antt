@@ -1,8 +1,8 @@
 -- What a run's client and its record are after any answers, and what the record's file has (this profile).
-use Rattle.std.specs.Prelude.{◌≡◌, ◌≤◌, ◌&&◌, ⊤, ℕ, Bool, true, false, not, if◌then◌else◌, Option, None, Some, List, [], ◌∷◌, ◌++◌, ◌<◌, length, take, drop}
+use Rattle.std.specs.Prelude.{◌≡◌, ◌≤◌, ◌&&◌, ◌||◌, ◌⊎◌, ⊤, ℕ, Bool, true, false, not, Result, Ok, Err, if◌then◌else◌, Option, None, Some, List, [], ◌∷◌, ◌++◌, ◌<◌, length, take, drop}
 use Rattle.std.specs.List.{AllByRecursion}
 use Rattle.std.specs.Str.{bytes_eq}
-use Rattle.client_core.specs.Calls.{Call, Send as Sends, behind_call}
+use Rattle.client_core.specs.Calls.{Call, Abort, Send as Sends, behind_call, done_by, Leave as Leaves}
 use Rattle.contact_ledger.specs.ContactTexts.{contacts_text}
 use Rattle.contact_ledger.specs.declared.acts.Act.{Act}
 use Rattle.link_world.specs.Reports.{report_text}
@@ -17,7 +17,7 @@ use Rattle.effects.specs.declared.vocabulary.Growth as file
 use Rattle.effects.specs.declared.vocabulary.Growth.TheVariants as growth
 use Rattle.effects.specs.declared.vocabulary.Peer.TheVariants.{Server}
 use Rattle.effects.specs.Effects.{Ask, Byte, Exists, Make, Discard, Begin, Append, Keep, Stands, Replace, Extend, Add, Stamp, Now, Sleep, Connect, Limit, Receive, Send, Close, Leave, Print, Say, Exit}
-use Rattle.effects.specs.Effects.{Reply, Done, Bytes}
+use Rattle.effects.specs.Effects.{Reply, Done, Bytes, Found, Short}
 use Rattle.order_parts.specs.Ends.{end_shown}
 use Rattle.order_parts.specs.Kept.{IsFeaturesText}
 use Rattle.run_session.specs.declared.stages.Stage.{Stage}
@@ -32,22 +32,23 @@ abbrev pub held : List ℕ → ℕ
 held [] = 0
 held (count ∷ pauses) = count
 
--- a command is sent only if it is not held back
-abbrev pub IsFree : ℕ → ClientEnd → Call → Type 0
-IsFree count e Sends = count < length e.client.table.tally.unsent
-IsFree count e call = ⊤
+-- a command is sent only if it is not held back, and an abort only where aborts are allowed
+abbrev pub IsFree : (aborts : Bool) → ℕ → ClientEnd → Call → Type 0
+IsFree aborts count e Sends = count < length e.client.table.tally.unsent
+IsFree aborts count e Abort = aborts ≡ true
+IsFree aborts count e call = ⊤
 
 -- a client on its connection and its record, with the pauses that are to come, from what both were at first: the client makes calls of its own,
 -- and sends nothing that is held back; the record gets the lines of what the client has counted, unless memory runs out for them, and those of
 -- errors of its server; and a pause ends only once all that stands above it is counted
-pub data Ran (first : Pair) : List ℕ → Pair → Type 0 where
-  begins : (pauses : List ℕ) → Ran first pauses first
-  calls : (pauses : List ℕ) (p : Pair) (call : Call) → Ran first pauses p → IsRunCall call → IsFree (held pauses) p.end call
-      → Ran first pauses (record { end = behind_call call p.end; recording = p.recording })
-  tells : (pauses : List ℕ) (p : Pair) (lacks : Bool) (errors : List (List ℕ)) → Ran first pauses p → HaveLines errors
-      → Ran first pauses (record { end = p.end; recording = with_errors errors (told_unless lacks p.end p.recording) })
-  confirms : (count : ℕ) (pauses : List ℕ) (p : Pair) → Ran first (count ∷ pauses) p → length p.end.client.table.tally.todo ≤ count
-      → Ran first pauses p
+pub data Ran (aborts : Bool) (first : Pair) : List ℕ → Pair → Type 0 where
+  begins : (pauses : List ℕ) → Ran aborts first pauses first
+  calls : (pauses : List ℕ) (p : Pair) (call : Call) → Ran aborts first pauses p → IsRunCall call → IsFree aborts (held pauses) p.end call
+      → Ran aborts first pauses (record { end = behind_call call p.end; recording = p.recording })
+  tells : (pauses : List ℕ) (p : Pair) (lacks : Bool) (errors : List (List ℕ)) → Ran aborts first pauses p → HaveLines errors
+      → Ran aborts first pauses (record { end = p.end; recording = with_errors errors (told_unless lacks p.end p.recording) })
+  confirms : (count : ℕ) (pauses : List ℕ) (p : Pair) → Ran aborts first (count ∷ pauses) p → length p.end.client.table.tally.todo ≤ count
+      → Ran aborts first pauses p
 
 -- what is known of the record's file, and the pauses that are to come
 pub record Book : Type 0 where
@@ -57,6 +58,7 @@ pub record Book : Type 0 where
   pub pauses : List ℕ  -- how many commands are held back at each pause that is to come
   pub keeps : Bool  -- whether there is a record
   pub short : Bool  -- whether memory has run out before the client was on its connection
+  pub spent : Bool  -- whether it has run out
 
 -- what is known of the files besides the record, and of the report
 pub record Marks : Type 0 where
@@ -113,12 +115,13 @@ first_reports named lists number before = record {
 
 -- a client and its record at first, the acts that were reported before, and what is known of the files
 pub record Origin : Type 0 where
+  pub aborts : Bool  -- whether its client may have aborted since
   pub first : Pair
   pub before : List (ℕ × Act)
   pub marks : Marks
 
 pub record IsRun (w : Origin) (pauses : List ℕ) (p : Pair) (r : Reports) : Type 0 where
-  pub ran : Ran w.first pauses p
+  pub ran : Ran w.aborts w.first pauses p
   pub reported : HasReported w.before p r
   pub same : r.marks ≡ w.marks
 
@@ -218,7 +221,7 @@ outcome n s reply o = record (outcome_by n (writes s.stage) (lacking s) reply o)
 pub record IsSafe (first : Pair) (count : ℕ) (safe : List ℕ) : Type 0 where
   pub moment : Pair
   pub pauses : List ℕ
-  pub ran : Ran first pauses moment
+  pub ran : Ran true first pauses moment
   pub rest : List ℕ
   pub text : moment.recording.text ++ rest ≡ safe
   pub features : count ≤ moment.recording.telling.counted.features
@@ -226,7 +229,7 @@ pub record IsSafe (first : Pair) (count : ℕ) (safe : List ℕ) : Type 0 where
 -- what holds before each effect: the client and the record are those of a run that has begun; the file has the first bytes of the record's
 -- text, as many as are known unless it could not be kept; and the features that count as settled are safe
 pub record IsKept (first : Pair) (before : List (ℕ × Act)) (s : State) (o : Outside) : Type 0 where
-  pub ran : IsRunOf (record { first = first; before = before; marks = o.marks }) s
+  pub ran : IsRunOf (record { aborts = true; first = first; before = before; marks = o.marks }) s
   pub front : (rest : List ℕ) × (o.file ++ rest ≡ s.pair.recording.text)
   pub filed : s.book.lost ≡ false → length o.file ≡ s.book.filed
   pub within : (rest : List ℕ) × (o.safe ++ rest ≡ o.file)
@@ -254,13 +257,44 @@ filed s = filed_by (writes s.stage) s
 
 -- what is known of the file alone
 abbrev pub of_file : Book → Book
-of_file b = record b { pauses = []; short = false }
+of_file b = record b { pauses = []; short = false; spent = false }
 
 -- an answer by which the operator confirms a pause: the end of an empty line
 abbrev pub confirms_pause : Stage → Reply → Bool
 confirms_pause stage.Awaiting (Bytes bytes) = bytes_eq bytes (10 ∷ [])
 confirms_pause stage.Returning (Bytes bytes) = bytes_eq bytes (10 ∷ [])
 confirms_pause st reply = false
+
+-- any other than one that is awaited, or memory that has run out: after it a CR may come first
+abbrev pub declines : (first : Bool) → Reply → Bool
+declines first (Bytes bytes) = not (bytes_eq bytes (10 ∷ []) || (first && bytes_eq bytes (13 ∷ [])))
+declines first Short = false
+declines first reply = true
+
+-- an answer that stops the run: the stop file is there, or the operator does not confirm a pause
+abbrev pub is_stop : Stage → Reply → Bool
+is_stop stage.Checking Found = true
+is_stop stage.Awaiting reply = declines true reply
+is_stop stage.Returning reply = declines false reply
+is_stop st reply = false
+
+-- a client that is stopped aborts, if it is Running or Failing: in another state that call is not possible, and changes nothing
+abbrev pub stopped : Bool → State → State
+stopped true s = record s { pair = record (s.pair) { end = behind_call Abort s.pair.end } }
+stopped false s = s
+
+-- it leaves its connection
+abbrev pub left : State → State
+left s = record s { pair = record (s.pair) { end = done_by Leaves s.pair.end } }
+
+-- one comes of the other without an abort: a run that is at the first, with none so far, is at the second with none
+abbrev pub IsLater : State → State → Type 0
+IsLater s t = (w : Origin) → IsRunOf w s → IsRunOf (record w { marks = t.reports.marks }) t
+
+-- after an answer that stops the run the client aborts, and then makes other calls; after any other it makes no call but these. If memory
+-- runs out before it aborts, it leaves its connection first
+abbrev pub Stops : State → Reply → State → Type 0
+Stops s reply t = IsLater (stopped (is_stop s.stage reply) s) t ⊎ (IsLater (left s) t × (t.book.spent ≡ true))
 
 -- the stages before the client sends
 abbrev pub is_before : Stage → Bool
@@ -496,6 +530,15 @@ Follows s t = HasTold s → HasFiled s → HasFollowed t
 
 abbrev pub FollowsTold : State → State → Type 0
 FollowsTold s t = HasTold s → HasFollowed t
+
+-- memory has run out, perhaps before the client could abort
+abbrev pub IsShort : (stop : Bool) → State → State → Type 0
+IsShort stop s t = Keeps (stopped stop s) t ⊎ (t ≡ s)
+
+-- what an answer makes of the client, unless memory runs out before it aborts
+abbrev pub StopsOn : {A E : Type 0} → Result A E → State → Reply → State → Type 0
+StopsOn (Ok a) s reply t = IsLater (stopped (is_stop s.stage reply) s) t
+StopsOn (Err e) s reply t = IsLater (stopped (is_stop s.stage reply) s) t ⊎ (t ≡ s)
 
 -- what is neither the client's nor the record's changes
 abbrev pub IsQuiet : State → State → Type 0

@@ -1,15 +1,18 @@
 // Examples: what is asked and what comes of it. Each function has laws for its contract and does nothing.
 
-ghost use Rattle.std.specs.Prelude.{◌≡◌, ℕ, [], ◌∷◌, true, false, length, Some};
+ghost use Rattle.std.specs.Prelude.{◌≡◌, ℕ, [], ◌∷◌, List, true, false, length, Some};
+ghost use Rattle.client_core.specs.Calls.{Abort};
+ghost use Rattle.contact_ledger.specs.declared.acts.Act.{Act};
+ghost use Rattle.protocol_model.specs.Ends.{ClientEnd, end_aborted};
 ghost use Rattle.contact_ledger.specs.ContactTexts.{contacts_text};
 ghost use Rattle.contact_ledger.specs.declared.acts.Act.TheVariants.{Homed, HomedIs};
 ghost use Rattle.record_laws.specs.Recordings.{Pair};
-ghost use Rattle.effects.specs.Effects.{Append, Keep, Send, Byte, Receive, Remove, Replace, Print, Exit, Done, Bytes, Short};
+ghost use Rattle.effects.specs.Effects.{Append, Keep, Send, Byte, Receive, Remove, Replace, Print, Exit, Done, Bytes, Short, Found, Missing, End};
 ghost use Rattle.effects.specs.declared.vocabulary.Peer.TheVariants.{Server};
-ghost use Rattle.protocol_model.specs.declared.states.State.TheVariants.{Running};
+ghost use Rattle.protocol_model.specs.declared.states.State.TheVariants.{Running, Failing, Aborting, Halted, Done as Completed};
 ghost use Rattle.effects.specs.declared.vocabulary.Growth.TheVariants.{Record, Features, Contacts};
-ghost use Rattle.run_session.specs.Records.{State, Outside, Marks, AsksAt, IsDue, IsDueBy, Unforced, HasTold, HasFollowed, appended, kept, filed_by, lacking, confirms_pause, Reports, HasReported, reported_text, marked_at};
-ghost use Rattle.run_session.specs.declared.stages.Stage.TheVariants.{Recording, Settling, Reporting, ReplacingContacts, Listing, Showing, Sending, Receiving, Awaiting, Returning, Closing, Leaving, Ending, Telling, Exiting};
+ghost use Rattle.run_session.specs.Records.{State, Outside, Marks, AsksAt, IsDue, IsDueBy, Unforced, HasTold, HasFollowed, appended, kept, filed_by, lacking, confirms_pause, Reports, HasReported, reported_text, marked_at, is_stop, stopped, IsFree, IsLater, Ran, Stops};
+ghost use Rattle.run_session.specs.declared.stages.Stage.TheVariants.{Checking, Peeking, Recording, Settling, Reporting, ReplacingContacts, Listing, Showing, Sending, Receiving, Awaiting, Returning, Closing, Leaving, Ending, Telling, Exiting};
 
 /// What was added is in the file, and on the device only if it was forced there; of what was not written the file has the first bytes, and
 /// what was safe stays so.
@@ -106,4 +109,34 @@ pub fn pause_rows()
     ensures none { (s : State) → s.stage ≡ Awaiting → s.book.pauses ≡ [] → IsDue s → ⊥ }
     ensures uncounted { (s : State) → s.stage ≡ Returning → s.book.pauses ≡ 1 ∷ []
         → length s.pair.end.client.table.tally.todo ≡ 2 → IsDue s → ⊥ }
+{}
+
+/// A run is stopped by its stop file on the connection, and at a pause by whatever is no empty line; not by memory that runs out, nor by what
+/// the server sends. Then a client that is Running or Failing aborts, and no other does; and what is neither has no abort among its calls.
+pub fn stop_rows()
+    ensures found { is_stop Checking Found ≡ true }
+    ensures missing { is_stop Checking Missing ≡ false }
+    ensures uncalled { is_stop Peeking Found ≡ false }
+    ensures received { is_stop Receiving (Bytes (32 ∷ [])) ≡ false }
+    ensures other { is_stop Awaiting (Bytes (32 ∷ [])) ≡ true }
+    ensures ended { is_stop Returning End ≡ true }
+    ensures line { is_stop Awaiting (Bytes (10 ∷ [])) ≡ false }
+    ensures first { is_stop Awaiting (Bytes (13 ∷ [])) ≡ false }
+    ensures second { is_stop Returning (Bytes (13 ∷ [])) ≡ true }
+    ensures short { is_stop Awaiting Short ≡ false }
+    ensures running { (s : State) → s.pair.end.client.state ≡ Running
+        → (stopped true s).pair.end ≡ end_aborted s.pair.end }
+    ensures failing { (s : State) → s.pair.end.client.state ≡ Failing
+        → (stopped true s).pair.end ≡ end_aborted s.pair.end }
+    ensures aborting { (s : State) → s.pair.end.client.state ≡ Aborting → stopped true s ≡ s }
+    ensures halted { (s : State) → s.pair.end.client.state ≡ Halted → stopped true s ≡ s }
+    ensures done { (s : State) → s.pair.end.client.state ≡ Completed → stopped true s ≡ s }
+    ensures calm { (e : ClientEnd) → IsFree false 0 e Abort → ⊥ }
+    ensures since { (before : List (ℕ × Act)) (s t : State)
+        → HasReported before s.pair s.reports → IsLater s t
+        → Ran false s.pair t.book.pauses t.pair }
+    ensures stop { (s t : State) → s.stage ≡ Checking → t.book.spent ≡ false → Stops s Found t
+        → IsLater (stopped true s) t }
+    ensures unstopped { (s t : State) → s.stage ≡ Sending → t.book.spent ≡ false
+        → Stops s Done t → IsLater s t }
 {}

@@ -206,6 +206,7 @@ impl Session {
     /// The record has what it lacked, or cannot be kept.
     pub(crate) fn recorded(&mut self, answer: Answer<'_>) -> Result<(), AllocError>
         requires { spec.is_record (spec.writes self.old.stage) ≡ true }
+        ensures ran { spec.Keeps self.old self.new }
         ensures goes { spec.GoesOn self.old (the_reply answer.entry) self.new }
         ensures pauses { self.new.book.pauses ≡ self.old.book.pauses }
         ensures short { self.new.book.short ≡ self.old.book.short }

@@ -34,6 +34,7 @@ pub fn runs_keep_their_records()
       pauses = s.book.pauses;
       keeps = s.book.keeps;
       short = s.book.short;
+      spent = s.book.spent;
     }
         → HasReported before s.pair s.reports → IsKept s.pair before s (record {
           file = s.pair.recording.text;

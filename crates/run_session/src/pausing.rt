@@ -1,6 +1,6 @@
 // Texts for the operator are shown in their place, and the run waits there until he has confirmed it.
 
-ghost use Rattle.std.specs.Prelude.{◌≡◌, true, false, drop, OnOk};
+ghost use Rattle.std.specs.Prelude.{◌≡◌, true, false, drop, OnOk, OnErr};
 ghost use Rattle.effects.specs.Effects.{the_reply};
 ghost use Rattle.run_session.specs.Records as spec;
 
@@ -11,6 +11,19 @@ use session_telling::Wait;
 use std::alloc::AllocError;
 
 const ASKED: &str = "dme: an empty line continues the run, anything else ends it\n";
+
+/// Whether an answer ends the run at a pause: it is neither an LF, nor a CR that may come first, nor is memory short.
+fn declines(first: bool, answer: Answer<'_>) -> bool
+    ensures { result ≡ spec.declines first (the_reply answer.entry) }
+{
+    match answer {
+        Answer::Bytes(bytes) => {
+            !(bytes == b"\n".as_slice() || (first && bytes == b"\r".as_slice()))
+        }
+        Answer::Short => false,
+        _ => true,
+    }
+}
 
 impl Session {
     /// How many of the plan's last commands are held back.
@@ -104,7 +117,8 @@ impl Session {
 
     /// The operator has not confirmed a pause: the run ends as by a stop file.
     fn decline(&mut self) -> Result<(), AllocError>
-        ensures ran { spec.Keeps self.old self.new }
+        ensures ran { OnOk result (spec.Keeps (spec.stopped true self.old) self.new) }
+        ensures spent { OnErr result (spec.IsShort true self.old self.new) }
         ensures book { self.new.book ≡ self.old.book }
         ensures due { OnOk result (spec.IsDue self.new) }
         ensures followed { OnOk result (spec.Follows self.old self.new) }
@@ -113,9 +127,27 @@ impl Session {
         self.stop()
     }
 
-    /// The operator has typed a byte, or can type none.
-    pub(crate) fn typed(&mut self, answer: Answer<'_>) -> Result<(), AllocError>
-        ensures ran { spec.Keeps self.old self.new }
+    /// A CR was typed: the end of the line is to follow.
+    fn await_end(&mut self)
+        ensures quiet { spec.IsQuiet self.old self.new }
+        ensures due { spec.IsDue self.new }
+        ensures followed { spec.Follows self.old self.new }
+    {
+        if self.is_paused() {
+            self.stage = Stage::Returning;
+        } else {
+            self.await_bytes();
+        }
+    }
+
+    /// The operator has typed a byte, the first one or another, or can type none.
+    pub(crate) fn typed(&mut self, first: bool, answer: Answer<'_>) -> Result<(), AllocError>
+        requires { spec.is_stop self.old.stage (the_reply answer)
+            ≡ spec.declines first (the_reply answer) }
+        ensures ran { OnOk result (spec.Keeps (spec.stopped (spec.is_stop self.old.stage
+            (the_reply answer.entry)) self.old) self.new) }
+        ensures spent { OnErr result (spec.IsShort (spec.is_stop self.old.stage
+            (the_reply answer.entry)) self.old self.new) }
         ensures book { spec.of_file self.new.book ≡ spec.of_file self.old.book }
         ensures short { self.new.book.short ≡ self.old.book.short }
         ensures pauses { spec.confirms_pause self.old.stage (the_reply answer.entry) ≡ false
@@ -127,13 +159,17 @@ impl Session {
             → self.new.book.pauses ≡ drop 1 self.old.book.pauses }
     {
         match (self.stage, answer) {
-            (Stage::Awaiting | Stage::Returning, Answer::Bytes([b'\n'])) => self.confirm(),
-            (Stage::Awaiting, Answer::Bytes([b'\r'])) if self.is_paused() => {
-                self.stage = Stage::Returning;
+            (Stage::Awaiting | Stage::Returning, Answer::Bytes([b'\n'])) => {
+                self.confirm();
+                return Ok(());
             }
             (_, Answer::Short) => return Err(AllocError),
-            _ => return self.decline(),
+            _ => {}
         }
+        if declines(first, answer) {
+            return self.decline();
+        }
+        self.await_end();
         Ok(())
     }
 }

@@ -159,8 +159,9 @@ pub struct Session {
     /// Whether its client has come to the connection, and is there.
     pub(crate) has_begun: bool,
     pub(crate) is_on: bool,
-    /// Whether memory has run out before.
+    /// Whether memory has run out before, and whether it has run out.
     pub(crate) is_short: bool,
+    pub(crate) is_spent: bool,
     /// Whether the stop file was seen, or the operator has not confirmed a pause; and in which state the client was then.
     pub(crate) is_stopped: bool,
     pub(crate) is_declined: bool,
@@ -208,6 +209,7 @@ impl Model for Session {
         pauses = s.pauses.items;
         keeps = is_some s.run.record;
         short = s.is_short;
+        spent = s.is_spent;
       };
       reports = record {
         named = is_some s.run.contacts;
@@ -242,6 +244,7 @@ impl Session {
           pauses = begun.pauses;
           keeps = begun.keeps;
           short = false;
+          spent = false;
         } }
         ensures reports { result.reports ≡ begun.reports }
         ensures due { spec.IsDue result }
@@ -291,6 +294,7 @@ impl Session {
             has_begun: false,
             is_on: false,
             is_short: false,
+            is_spent: false,
             is_stopped: false,
             is_declined: false,
             seen: None,
@@ -470,6 +474,7 @@ impl Session {
         ensures ends { spec.IsDue self.old
             → spec.confirms_pause self.old.stage (the_reply answer.entry) ≡ true
             → self.new.book.pauses ≡ drop 1 self.old.book.pauses }
+        ensures stops { spec.Stops self.old (the_reply answer.entry) self.new }
     {
         if self.step(answer).is_err() {
             self.run_short();
@@ -485,6 +490,7 @@ impl Session {
         ensures ends { spec.IsDue self.old
             → spec.confirms_pause self.old.stage (the_reply answer.entry) ≡ true
             → self.new.book.pauses ≡ drop 1 self.old.book.pauses }
+        ensures stops { spec.StopsOn result self.old (the_reply answer.entry) self.new }
     {
         match self.stage {
             Stage::Logged | Stage::Beginning | Stage::Peeking | Stage::Connecting => {
@@ -497,9 +503,11 @@ impl Session {
             Stage::MakingFeatures | Stage::MakingContacts | Stage::BeginningContacts => {
                 self.begin(answer)
             }
-            Stage::Checking | Stage::Timing | Stage::Receiving => self.receive(answer),
+            Stage::Checking => self.checked(answer),
+            Stage::Timing | Stage::Receiving => self.receive(answer),
             Stage::Sending => self.sent(answer),
-            Stage::Awaiting | Stage::Returning => self.typed(answer),
+            Stage::Awaiting => self.typed(true, answer),
+            Stage::Returning => self.typed(false, answer),
             Stage::Tracing | Stage::Stamping | Stage::Logging => self.show_on(answer),
             Stage::Recording | Stage::Settling => self.recorded(answer),
             Stage::Reporting => self.has_reported(answer),
@@ -532,24 +540,10 @@ impl Session {
         self.stage = Stage::Telling;
     }
 
-    /// Memory has run out on the connection: it is left, and what was counted is kept.
-    fn give_in(&mut self)
-        ensures ran { spec.Keeps self.old self.new }
-        ensures book { self.new.book ≡ self.old.book }
-        ensures due { spec.IsDue self.new }
-        ensures followed { spec.HasFollowed self.new }
-    {
-        self.break_off(PumpFault::Memory);
-        if self.follow().is_err() {
-            self.tell();
-        }
-    }
-
     /// Memory has run out before the connection: files that did not begin are left as they were.
     fn give_up(&mut self)
         ensures ran { spec.Keeps self.old self.new }
-        ensures book { spec.of_file self.new.book ≡ spec.of_file self.old.book }
-        ensures pauses { self.new.book.pauses ≡ self.old.book.pauses }
+        ensures book { self.new.book ≡ record (self.old.book) { short = true } }
         ensures due { spec.IsDue self.new }
         ensures followed { spec.HasFollowed self.new }
     {
@@ -557,17 +551,22 @@ impl Session {
         self.stage = Stage::Leaving;
     }
 
-    /// Memory has run out. At the end that is said at once.
+    /// Memory has run out: the connection is left, and what was counted on it is kept. At the end that is said at once.
     fn run_short(&mut self)
-        ensures ran { spec.Keeps self.old self.new }
+        ensures ran { spec.Keeps (spec.left self.old) self.new }
         ensures book { spec.of_file self.new.book ≡ spec.of_file self.old.book }
         ensures pauses { self.new.book.pauses ≡ self.old.book.pauses }
+        ensures spent { self.new.book.spent ≡ true }
         ensures due { spec.IsDue self.new }
         ensures followed { spec.HasFollowed self.new }
     {
+        self.is_spent = true;
+        self.break_off(PumpFault::Memory);
         if self.is_on {
             self.is_on = false;
-            self.give_in();
+            if self.follow().is_err() {
+                self.tell();
+            }
         } else if self.has_begun || self.is_short {
             self.tell();
         } else {

@@ -1,6 +1,8 @@
 // On the connection: commands are sent, and lines are heard.
 
-ghost use Rattle.std.specs.Prelude.{◌≡◌, ◌<◌, length, OnOk, None};
+ghost use Rattle.std.specs.Prelude.{◌≡◌, ◌<◌, true, length, OnOk, OnErr, None};
+ghost use Rattle.effects.specs.Effects.{the_reply};
+ghost use Rattle.protocol_model.specs.Client.{may_abort};
 ghost use Rattle.run_session.specs.Records as spec;
 
 use crate::{Session, Stage};
@@ -29,16 +31,6 @@ impl Session {
         self.broken.is_some() || matches!(self.client.state(), State::Done | State::Halted)
     }
 
-    /// The client leaves its connection.
-    fn leave(&mut self)
-        ensures ran { spec.Keeps self.old self.new }
-        ensures book { self.new.book ≡ self.old.book }
-        ensures told { spec.StaysTold self.old self.new }
-        ensures lacks { spec.lacking self.new ≡ spec.lacking self.old }
-    {
-        self.client.leave();
-    }
-
     /// The client writes the command that is due, which is not held back.
     fn send(&mut self) -> Result<(), ClientFault>
         requires { spec.held self.old.book.pauses
@@ -51,13 +43,23 @@ impl Session {
         self.client.send()
     }
 
-    fn abort(&mut self) -> Result<(), ClientFault>
-        ensures ran { spec.Keeps self.old self.new }
+    /// The client aborts. Fails only if out of memory.
+    fn abort(&mut self) -> Result<(), AllocError>
+        ensures ran { OnOk result (spec.Keeps (spec.stopped true self.old) self.new) }
+        ensures spent { OnErr result (spec.IsShort true self.old self.new) }
         ensures book { self.new.book ≡ self.old.book }
         ensures told { spec.StaysTold self.old self.new }
         ensures lacks { spec.lacking self.new ≡ spec.lacking self.old }
     {
-        self.client.abort()
+        match self.client.abort() {
+            Ok(()) => Ok(()),
+            Err(ClientFault::NotNow) => Ok(()),
+            Err(ClientFault::Memory) => Err(AllocError),
+            Err(ClientFault::Faulted(cause)) => {
+                self.break_off(PumpFault::Core(ClientFault::Faulted(cause)));
+                Ok(())
+            }
+        }
     }
 
     fn feed(&mut self, bytes: &[u8]) -> Result<(), ClientFault>
@@ -87,12 +89,13 @@ impl Session {
 
     /// The connection is broken off: the client leaves it.
     pub(crate) fn break_off(&mut self, why: PumpFault<ClientFault>)
+        ensures left { self.new ≡ spec.left self.old }
         ensures ran { spec.Keeps self.old self.new }
         ensures book { self.new.book ≡ self.old.book }
         ensures told { spec.StaysTold self.old self.new }
         ensures lacks { spec.lacking self.new ≡ spec.lacking self.old }
     {
-        self.leave();
+        self.client.leave();
         self.broken = Some(why);
     }
 
@@ -188,9 +191,17 @@ impl Session {
         };
     }
 
+    /// Whether the client is in a state in which it can abort.
+    fn may_abort(&self) -> bool
+        ensures { result ≡ may_abort self.now.pair.end.client.state }
+    {
+        matches!(self.client.state(), State::Running | State::Failing)
+    }
+
     /// The stop file is there, or the operator has not confirmed a pause: the client aborts, if it can.
     pub(crate) fn stop(&mut self) -> Result<(), AllocError>
-        ensures ran { spec.Keeps self.old self.new }
+        ensures ran { OnOk result (spec.Keeps (spec.stopped true self.old) self.new) }
+        ensures spent { OnErr result (spec.IsShort true self.old self.new) }
         ensures book { self.new.book ≡ self.old.book }
         ensures due { OnOk result (spec.IsDue self.new) }
         ensures followed { OnOk result (spec.Follows self.old self.new) }
@@ -199,16 +210,28 @@ impl Session {
         self.is_asked = false;
         self.seen = Some(self.client.state());
         self.wait = Wait::new(self.wait.limit);
-        if !matches!(self.client.state(), State::Running | State::Failing) {
+        if !self.may_abort() {
             return self.go_on();
         }
-        match self.abort() {
-            Ok(()) => self.go_on(),
-            Err(fault) => {
-                self.refuse_core(fault)?;
-                self.go_on()
-            }
+        self.abort()?;
+        self.go_on()
+    }
+
+    /// The stop file was looked for.
+    pub(crate) fn checked(&mut self, answer: Answer<'_>) -> Result<(), AllocError>
+        ensures ran { OnOk result (spec.Keeps (spec.stopped (spec.is_stop Stage.Checking
+            (the_reply answer.entry)) self.old) self.new) }
+        ensures spent { OnErr result (spec.IsShort (spec.is_stop Stage.Checking
+            (the_reply answer.entry)) self.old self.new) }
+        ensures book { self.new.book ≡ self.old.book }
+        ensures due { OnOk result (spec.IsDue self.new) }
+        ensures followed { OnOk result (spec.Follows self.old self.new) }
+    {
+        if let Answer::Found = answer {
+            return self.stop();
         }
+        self.await_unstopped();
+        Ok(())
     }
 
     /// The server has not done what was due for too long.
@@ -240,8 +263,6 @@ impl Session {
         ensures followed { OnOk result (spec.Follows self.old self.new) }
     {
         match (self.stage, answer) {
-            (Stage::Checking, Answer::Found) => return self.stop(),
-            (Stage::Checking, _) => self.await_unstopped(),
             (Stage::Timing, Answer::At(now)) => match self.wait.lapse(now) {
                 Some(lapse) => return self.lapsed(lapse, PumpFault::ReadFailed),
                 None => self.stage = Stage::Receiving,

@@ -7,7 +7,7 @@ use Rattle.run_session.proofs.sessions.Session.send.Goals as goal
 pub returns-clause-ran : goal.returns-clause-ran
 returns-clause-ran c = keeps_by _ _ _ _ c.self.view_is
     (sends_keeps c.send.result c.self.inside.pauses.items Send c.self.inside.client c.send.new.self c.self.inside.growth tt
-    (subst (λ (s : State). held s.book.pauses < length s.pair.end.client.table.tally.unsent) (sym c.self.view_is) c.requires)
+    (λ b. subst (λ (s : State). held s.book.pauses < length s.pair.end.client.table.tally.unsent) (sym c.self.view_is) c.requires)
     c.send.ensures.ok c.send.ensures.can c.send.ensures.refused)
 
 pub returns-clause-told : goal.returns-clause-told

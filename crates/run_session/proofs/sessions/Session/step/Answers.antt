@@ -1,5 +1,7 @@
 use Rattle.run_session.proofs.Names.{ap, Book, Filed, of_file, refl, Stage, State, the_reply, Told}
 use Rattle.run_session.proofs.Filing.{arm, arm_on, is_other, is_quiet, noted_goes, or_other, or_quiet, quiet_goes, quiet_keeps}
+use Rattle.run_session.proofs.Stops.{answered_later, is_still, later, may_stop, or_still, runs_go, still}
+use Rattle.run_session.specs.Records.{answered, is_stop}
 use Rattle.run_session.proofs.Paces.{also_filed, is_paced, on_filed, on_told, or_paced}
 use Rattle.run_session.proofs.sessions.Session.step.Goals as goal
 
@@ -20,16 +22,24 @@ returns-in-MakingFeatures-clause-goes c = arm _ c.args.self.now c.begin.new.self
     (or_quiet c.self.inside.stage Stage.MakingFeatures refl (or_quiet c.self.inside.stage Stage.MakingContacts refl (is_quiet c.self.inside.stage Stage.BeginningContacts refl)) c.in-MakingFeatures.is) c.begin.ensures.ran c.begin.ensures.book
 
 pub returns-in-Checking-clause-goes : goal.returns-in-Checking-clause-goes
-returns-in-Checking-clause-goes c = arm _ c.args.self.now c.receive.new.self (the_reply c.args.answer) c.self.view_is
-    (or_quiet c.self.inside.stage Stage.Checking refl (or_quiet c.self.inside.stage Stage.Timing refl (is_quiet c.self.inside.stage Stage.Receiving refl)) c.in-Checking.is) c.receive.ensures.ran c.receive.ensures.book
+returns-in-Checking-clause-goes c = runs_go c.checked.result _ _ c.args.self.now c.checked.new.self (the_reply c.args.answer) c.self.view_is
+    (is_quiet c.self.inside.stage Stage.Checking refl c.in-Checking.is) c.checked.ensures.ran c.checked.ensures.spent (ap of_file c.checked.ensures.book)
+
+pub returns-in-Timing-clause-goes : goal.returns-in-Timing-clause-goes
+returns-in-Timing-clause-goes c = arm _ c.args.self.now c.receive.new.self (the_reply c.args.answer) c.self.view_is
+    (or_quiet c.self.inside.stage Stage.Timing refl (is_quiet c.self.inside.stage Stage.Receiving refl) c.in-Timing.is) c.receive.ensures.ran c.receive.ensures.book
 
 pub returns-in-Sending-clause-goes : goal.returns-in-Sending-clause-goes
 returns-in-Sending-clause-goes c = arm _ c.args.self.now c.sent.new.self (the_reply c.args.answer) c.self.view_is
     (is_quiet c.self.inside.stage Stage.Sending refl c.in-Sending.is) c.sent.ensures.ran c.sent.ensures.book
 
 pub returns-in-Awaiting-clause-goes : goal.returns-in-Awaiting-clause-goes
-returns-in-Awaiting-clause-goes c = arm_on _ c.args.self.now c.typed.new.self (the_reply c.args.answer) c.self.view_is
-    (or_quiet c.self.inside.stage Stage.Awaiting refl (is_quiet c.self.inside.stage Stage.Returning refl) c.in-Awaiting.is) c.typed.ensures.ran c.typed.ensures.book
+returns-in-Awaiting-clause-goes c = runs_go c.typed.result _ _ c.args.self.now c.typed.new.self (the_reply c.args.answer) c.self.view_is
+    (is_quiet c.self.inside.stage Stage.Awaiting refl c.in-Awaiting.is) c.typed.ensures.ran c.typed.ensures.spent c.typed.ensures.book
+
+pub returns-in-Returning-clause-goes : goal.returns-in-Returning-clause-goes
+returns-in-Returning-clause-goes c = runs_go c.typed-in-Returning.result _ _ c.args.self.now c.typed-in-Returning.new.self (the_reply c.args.answer) c.self.view_is
+    (is_quiet c.self.inside.stage Stage.Returning refl c.in-Returning.is) c.typed-in-Returning.ensures.ran c.typed-in-Returning.ensures.spent c.typed-in-Returning.ensures.book
 
 pub returns-in-Tracing-clause-goes : goal.returns-in-Tracing-clause-goes
 returns-in-Tracing-clause-goes c = arm _ c.args.self.now c.show_on.new.self (the_reply c.args.answer) c.self.view_is
@@ -78,8 +88,12 @@ returns-in-MakingFeatures-clause-followed c = on_filed c.begin.result _ c.args.s
     (or_paced Filed c.self.inside.stage Stage.MakingFeatures refl (or_paced Filed c.self.inside.stage Stage.MakingContacts refl (is_paced Filed c.self.inside.stage Stage.BeginningContacts refl)) c.in-MakingFeatures.is) (ap (λ (b : Book). b.short) c.begin.ensures.book) c.begin.ensures.followed
 
 pub returns-in-Checking-clause-followed : goal.returns-in-Checking-clause-followed
-returns-in-Checking-clause-followed c = on_filed c.receive.result _ c.args.self.now c.receive.new.self c.self.view_is
-    (or_paced Filed c.self.inside.stage Stage.Checking refl (or_paced Filed c.self.inside.stage Stage.Timing refl (is_paced Filed c.self.inside.stage Stage.Receiving refl)) c.in-Checking.is) (ap (λ (b : Book). b.short) c.receive.ensures.book) c.receive.ensures.followed
+returns-in-Checking-clause-followed c = on_filed c.checked.result _ c.args.self.now c.checked.new.self c.self.view_is
+    (is_paced Filed c.self.inside.stage Stage.Checking refl c.in-Checking.is) (ap (λ (b : Book). b.short) c.checked.ensures.book) c.checked.ensures.followed
+
+pub returns-in-Timing-clause-followed : goal.returns-in-Timing-clause-followed
+returns-in-Timing-clause-followed c = on_filed c.receive.result _ c.args.self.now c.receive.new.self c.self.view_is
+    (or_paced Filed c.self.inside.stage Stage.Timing refl (is_paced Filed c.self.inside.stage Stage.Receiving refl) c.in-Timing.is) (ap (λ (b : Book). b.short) c.receive.ensures.book) c.receive.ensures.followed
 
 pub returns-in-Sending-clause-followed : goal.returns-in-Sending-clause-followed
 returns-in-Sending-clause-followed c = on_filed c.sent.result _ c.args.self.now c.sent.new.self c.self.view_is
@@ -87,7 +101,11 @@ returns-in-Sending-clause-followed c = on_filed c.sent.result _ c.args.self.now 
 
 pub returns-in-Awaiting-clause-followed : goal.returns-in-Awaiting-clause-followed
 returns-in-Awaiting-clause-followed c = on_filed c.typed.result _ c.args.self.now c.typed.new.self c.self.view_is
-    (or_paced Filed c.self.inside.stage Stage.Awaiting refl (is_paced Filed c.self.inside.stage Stage.Returning refl) c.in-Awaiting.is) c.typed.ensures.short c.typed.ensures.followed
+    (is_paced Filed c.self.inside.stage Stage.Awaiting refl c.in-Awaiting.is) c.typed.ensures.short c.typed.ensures.followed
+
+pub returns-in-Returning-clause-followed : goal.returns-in-Returning-clause-followed
+returns-in-Returning-clause-followed c = on_filed c.typed-in-Returning.result _ c.args.self.now c.typed-in-Returning.new.self c.self.view_is
+    (is_paced Filed c.self.inside.stage Stage.Returning refl c.in-Returning.is) c.typed-in-Returning.ensures.short c.typed-in-Returning.ensures.followed
 
 pub returns-in-Tracing-clause-followed : goal.returns-in-Tracing-clause-followed
 returns-in-Tracing-clause-followed c = on_told c.show_on.result _ c.args.self.now c.show_on.new.self c.self.view_is
@@ -118,3 +136,95 @@ pub returns-in-ReplacingFeatures-clause-followed : goal.returns-in-ReplacingFeat
 returns-in-ReplacingFeatures-clause-followed c = on_filed c.has_replaced.result _ c.args.self.now c.has_replaced.new.self c.self.view_is
     (or_paced Filed c.self.inside.stage Stage.ReplacingFeatures refl (or_paced Filed c.self.inside.stage Stage.ReplacingRecord refl (is_paced Filed c.self.inside.stage Stage.ReplacingContacts refl)) c.in-ReplacingFeatures.is)
     (ap (λ (s : State). s.book.short) c.has_replaced.ensures.quiet) c.has_replaced.ensures.followed
+
+pub returns-in-Logged-clause-stops : goal.returns-in-Logged-clause-stops
+returns-in-Logged-clause-stops c = still c.call.result _ c.args.self.now c.call.new.self (the_reply c.args.answer) c.self.view_is
+    (or_still (the_reply c.args.answer) c.self.inside.stage Stage.Logged refl (or_still (the_reply c.args.answer) c.self.inside.stage Stage.Beginning refl (or_still (the_reply c.args.answer) c.self.inside.stage Stage.Peeking refl (is_still (the_reply c.args.answer) c.self.inside.stage Stage.Connecting refl))) c.in-Logged.is)
+    (later c.args.self.now c.call.new.self c.call.ensures.ran)
+
+pub returns-in-Warning-clause-stops : goal.returns-in-Warning-clause-stops
+returns-in-Warning-clause-stops c = still c.call-in-Warning.result _ c.args.self.now c.call-in-Warning.new.self (the_reply c.args.answer) c.self.view_is
+    (or_still (the_reply c.args.answer) c.self.inside.stage Stage.Warning refl (or_still (the_reply c.args.answer) c.self.inside.stage Stage.Elapsing refl (or_still (the_reply c.args.answer) c.self.inside.stage Stage.Pausing refl (is_still (the_reply c.args.answer) c.self.inside.stage Stage.Limiting refl))) c.in-Warning.is)
+    (later c.args.self.now c.call-in-Warning.new.self c.call-in-Warning.ensures.ran)
+
+pub returns-in-BeginningFeatures-clause-stops : goal.returns-in-BeginningFeatures-clause-stops
+returns-in-BeginningFeatures-clause-stops c = still c.begun_features.result _ c.args.self.now c.begun_features.new.self (the_reply c.args.answer) c.self.view_is
+    (is_still (the_reply c.args.answer) c.self.inside.stage Stage.BeginningFeatures refl c.in-BeginningFeatures.is)
+    (answered_later c.args.self.now c.begun_features.new.self (the_reply c.args.answer) c.begun_features.ensures.ran)
+
+pub returns-in-MakingFeatures-clause-stops : goal.returns-in-MakingFeatures-clause-stops
+returns-in-MakingFeatures-clause-stops c = still c.begin.result _ c.args.self.now c.begin.new.self (the_reply c.args.answer) c.self.view_is
+    (or_still (the_reply c.args.answer) c.self.inside.stage Stage.MakingFeatures refl (or_still (the_reply c.args.answer) c.self.inside.stage Stage.MakingContacts refl (is_still (the_reply c.args.answer) c.self.inside.stage Stage.BeginningContacts refl)) c.in-MakingFeatures.is)
+    (later c.args.self.now c.begin.new.self c.begin.ensures.ran)
+
+pub returns-in-Timing-clause-stops : goal.returns-in-Timing-clause-stops
+returns-in-Timing-clause-stops c = still c.receive.result _ c.args.self.now c.receive.new.self (the_reply c.args.answer) c.self.view_is
+    (or_still (the_reply c.args.answer) c.self.inside.stage Stage.Timing refl (is_still (the_reply c.args.answer) c.self.inside.stage Stage.Receiving refl) c.in-Timing.is)
+    (later c.args.self.now c.receive.new.self c.receive.ensures.ran)
+
+pub returns-in-Sending-clause-stops : goal.returns-in-Sending-clause-stops
+returns-in-Sending-clause-stops c = still c.sent.result _ c.args.self.now c.sent.new.self (the_reply c.args.answer) c.self.view_is
+    (is_still (the_reply c.args.answer) c.self.inside.stage Stage.Sending refl c.in-Sending.is)
+    (later c.args.self.now c.sent.new.self c.sent.ensures.ran)
+
+pub returns-in-Tracing-clause-stops : goal.returns-in-Tracing-clause-stops
+returns-in-Tracing-clause-stops c = still c.show_on.result _ c.args.self.now c.show_on.new.self (the_reply c.args.answer) c.self.view_is
+    (or_still (the_reply c.args.answer) c.self.inside.stage Stage.Tracing refl (or_still (the_reply c.args.answer) c.self.inside.stage Stage.Stamping refl (is_still (the_reply c.args.answer) c.self.inside.stage Stage.Logging refl)) c.in-Tracing.is)
+    (later c.args.self.now c.show_on.new.self c.show_on.ensures.ran)
+
+pub returns-in-Recording-clause-stops : goal.returns-in-Recording-clause-stops
+returns-in-Recording-clause-stops c = still c.recorded.result _ c.args.self.now c.recorded.new.self (the_reply c.args.answer) c.self.view_is
+    (or_still (the_reply c.args.answer) c.self.inside.stage Stage.Recording refl (is_still (the_reply c.args.answer) c.self.inside.stage Stage.Settling refl) c.in-Recording.is)
+    (later c.args.self.now c.recorded.new.self c.recorded.ensures.ran)
+
+pub returns-in-Reporting-clause-stops : goal.returns-in-Reporting-clause-stops
+returns-in-Reporting-clause-stops c = still c.has_reported.result _ c.args.self.now c.has_reported.new.self (the_reply c.args.answer) c.self.view_is
+    (is_still (the_reply c.args.answer) c.self.inside.stage Stage.Reporting refl c.in-Reporting.is)
+    (answered_later c.args.self.now c.has_reported.new.self (the_reply c.args.answer) c.has_reported.ensures.ran)
+
+pub returns-in-Listing-clause-stops : goal.returns-in-Listing-clause-stops
+returns-in-Listing-clause-stops c = still c.has_listed.result _ c.args.self.now c.has_listed.new.self (the_reply c.args.answer) c.self.view_is
+    (is_still (the_reply c.args.answer) c.self.inside.stage Stage.Listing refl c.in-Listing.is)
+    (answered_later c.args.self.now c.has_listed.new.self (the_reply c.args.answer) c.has_listed.ensures.ran)
+
+pub returns-in-Showing-clause-stops : goal.returns-in-Showing-clause-stops
+returns-in-Showing-clause-stops c = still c.has_shown.result _ c.args.self.now c.has_shown.new.self (the_reply c.args.answer) c.self.view_is
+    (is_still (the_reply c.args.answer) c.self.inside.stage Stage.Showing refl c.in-Showing.is)
+    (later c.args.self.now c.has_shown.new.self c.has_shown.ensures.ran)
+
+pub returns-in-Printing-clause-stops : goal.returns-in-Printing-clause-stops
+returns-in-Printing-clause-stops c = still c.has_printed.result _ c.args.self.now c.has_printed.new.self (the_reply c.args.answer) c.self.view_is
+    (is_still (the_reply c.args.answer) c.self.inside.stage Stage.Printing refl c.in-Printing.is)
+    (answered_later c.args.self.now c.has_printed.new.self (the_reply c.args.answer) (quiet_keeps (answered c.args.self.now (the_reply c.args.answer)) c.has_printed.new.self c.has_printed.ensures.quiet))
+
+pub returns-in-Parting-clause-stops : goal.returns-in-Parting-clause-stops
+returns-in-Parting-clause-stops c = still c.leave_on.result _ c.args.self.now c.leave_on.new.self (the_reply c.args.answer) c.self.view_is
+    (or_still (the_reply c.args.answer) c.self.inside.stage Stage.Parting refl (or_still (the_reply c.args.answer) c.self.inside.stage Stage.Closing refl (or_still (the_reply c.args.answer) c.self.inside.stage Stage.Draining refl (is_still (the_reply c.args.answer) c.self.inside.stage Stage.Leaving refl))) c.in-Parting.is)
+    (later c.args.self.now c.leave_on.new.self (quiet_keeps c.args.self.now c.leave_on.new.self c.leave_on.ensures.quiet))
+
+pub returns-in-DiscardingFeatures-clause-stops : goal.returns-in-DiscardingFeatures-clause-stops
+returns-in-DiscardingFeatures-clause-stops c = still c.leave_on-in-DiscardingFeatures.result _ c.args.self.now c.leave_on-in-DiscardingFeatures.new.self (the_reply c.args.answer) c.self.view_is
+    (or_still (the_reply c.args.answer) c.self.inside.stage Stage.DiscardingFeatures refl (is_still (the_reply c.args.answer) c.self.inside.stage Stage.DiscardingContacts refl) c.in-DiscardingFeatures.is)
+    (later c.args.self.now c.leave_on-in-DiscardingFeatures.new.self (quiet_keeps c.args.self.now c.leave_on-in-DiscardingFeatures.new.self c.leave_on-in-DiscardingFeatures.ensures.quiet))
+
+pub returns-in-Standing-clause-stops : goal.returns-in-Standing-clause-stops
+returns-in-Standing-clause-stops c = still c.has_stood.result _ c.args.self.now c.has_stood.new.self (the_reply c.args.answer) c.self.view_is
+    (is_still (the_reply c.args.answer) c.self.inside.stage Stage.Standing refl c.in-Standing.is)
+    (later c.args.self.now c.has_stood.new.self (quiet_keeps c.args.self.now c.has_stood.new.self c.has_stood.ensures.quiet))
+
+pub returns-in-ReplacingFeatures-clause-stops : goal.returns-in-ReplacingFeatures-clause-stops
+returns-in-ReplacingFeatures-clause-stops c = still c.has_replaced.result _ c.args.self.now c.has_replaced.new.self (the_reply c.args.answer) c.self.view_is
+    (or_still (the_reply c.args.answer) c.self.inside.stage Stage.ReplacingFeatures refl (or_still (the_reply c.args.answer) c.self.inside.stage Stage.ReplacingRecord refl (is_still (the_reply c.args.answer) c.self.inside.stage Stage.ReplacingContacts refl)) c.in-ReplacingFeatures.is)
+    (answered_later c.args.self.now c.has_replaced.new.self (the_reply c.args.answer) (quiet_keeps (answered c.args.self.now (the_reply c.args.answer)) c.has_replaced.new.self c.has_replaced.ensures.quiet))
+
+pub returns-in-Checking-clause-stops : goal.returns-in-Checking-clause-stops
+returns-in-Checking-clause-stops c = may_stop c.checked.result _ _ c.args.self.now c.checked.new.self (the_reply c.args.answer) c.self.view_is
+    (ap (λ (st : Stage). is_stop st (the_reply c.args.answer)) c.in-Checking.is) c.checked.ensures.ran c.checked.ensures.spent
+
+pub returns-in-Awaiting-clause-stops : goal.returns-in-Awaiting-clause-stops
+returns-in-Awaiting-clause-stops c = may_stop c.typed.result _ _ c.args.self.now c.typed.new.self (the_reply c.args.answer) c.self.view_is
+    (ap (λ (s : State). is_stop s.stage (the_reply c.args.answer)) c.self.view_is) c.typed.ensures.ran c.typed.ensures.spent
+
+pub returns-in-Returning-clause-stops : goal.returns-in-Returning-clause-stops
+returns-in-Returning-clause-stops c = may_stop c.typed-in-Returning.result _ _ c.args.self.now c.typed-in-Returning.new.self (the_reply c.args.answer) c.self.view_is
+    (ap (λ (s : State). is_stop s.stage (the_reply c.args.answer)) c.self.view_is) c.typed-in-Returning.ensures.ran c.typed-in-Returning.ensures.spent

@@ -1,0 +1,159 @@
+-- What an answer that stops the run, or any other, makes of the client.
+use Rattle.run_session.proofs.Names.{◌∙◌, ◌≡◌, ◌⊎◌, Abort, ap, begins, behind_call, Bool, calls, ClientEnd, done_by, Err, false, GoesOn, IfErr, inl, inr}
+use Rattle.run_session.proofs.Names.{cond, HasReported, Ran, false≢true, IsKept, IsRun, Option, IsRunOf, Keeps, Leave, List, None, of_file, Ok, OnErr, OnOk, Outside, Pair, possible, refl, Reply}
+use Rattle.run_session.proofs.Names.{Result, Stage, State, subst, sym, true, writes, Act, ℕ}
+use Rattle.std.specs.Prelude.{is_err}
+use Rattle.run_session.specs.Records.{answered, is_stop, IsLater, IsShort, left, Origin, stopped, Stops, StopsOn, Write}
+use Rattle.run_session.proofs.Filing.{by_write, moved}
+use Rattle.client_core.specs.Refusals.{IsSendRefused}
+use Rattle.client_core.specs.declared.faults.ClientFault.{ClientFault}
+use Rattle.run_session.proofs.Reporting.{stays_reported}
+
+-- ---- later ones
+
+pub later : (s t : State) → Keeps s t → IsLater s t
+later s t keeps = λ w run. let now = keeps w run in record { ran = now.ran; reported = now.reported; same = refl }
+
+pub answered_later : (s t : State) (reply : Reply) → Keeps (answered s reply) t → IsLater s t
+answered_later s t reply keeps = λ w run.
+    let now = keeps (record w { marks = (answered s reply).reports.marks }) (record { ran = run.ran; reported = run.reported; same = refl }) in
+    record { ran = now.ran; reported = now.reported; same = refl }
+
+left_later : (x m t : State) → IsLater x m → Keeps (left m) t → IsLater x t
+left_later x m t is keeps = λ w run.
+    let at = is w run in
+    let now = keeps (record w { marks = m.reports.marks })
+    (record { ran = calls m.book.pauses m.pair Leave at.ran tt tt; reported = at.reported; same = refl }) in
+    record { ran = now.ran; reported = now.reported; same = refl }
+
+-- ---- an answer
+
+-- one that does not stop the run
+pub still : {A E : Type 0} (r : Result A E) (v s t : State) (reply : Reply) → v ≡ s → is_stop v.stage reply ≡ false → IsLater s t → StopsOn r s reply t
+still (Ok a) v s t reply is other after = subst (λ (b : Bool). IsLater (stopped b s) t) (sym (ap (λ (x : State). is_stop x.stage reply) (sym is) ∙ other)) after
+still (Err e) v s t reply is other after =
+    inl (subst (λ (b : Bool). IsLater (stopped b s) t) (sym (ap (λ (x : State). is_stop x.stage reply) (sym is) ∙ other)) after)
+
+pub is_still : (reply : Reply) (st a : Stage) → is_stop a reply ≡ false → st ≡ a → is_stop st reply ≡ false
+is_still reply st a h e = ap (λ (x : Stage). is_stop x reply) e ∙ h
+
+pub or_still : {X : Type 0} (reply : Reply) (st a : Stage) → is_stop a reply ≡ false → (X → is_stop st reply ≡ false) → (st ≡ a) ⊎ X
+    → is_stop st reply ≡ false
+or_still reply st a h f (inl e) = is_still reply st a h e
+or_still reply st a h f (inr x) = f x
+
+-- one that may stop it
+pub may_stop : {A E : Type 0} (r : Result A E) (b : Bool) (v s t : State) (reply : Reply) → v ≡ s → is_stop v.stage reply ≡ b
+    → OnOk r (Keeps (stopped b s) t) → OnErr r (IsShort b s t) → StopsOn r s reply t
+may_stop (Ok a) b v s t reply is at ran short =
+    subst (λ (b : Bool). IsLater (stopped b s) t) (sym (ap (λ (x : State). is_stop x.stage reply) (sym is) ∙ at)) (later (stopped b s) t ran)
+may_stop (Err e) b v s t reply is at ran (inl runs) =
+    inl (subst (λ (b : Bool). IsLater (stopped b s) t) (sym (ap (λ (x : State). is_stop x.stage reply) (sym is) ∙ at)) (later (stopped b s) t runs))
+may_stop (Err e) b v s t reply is at ran (inr same) = inr same
+
+-- a run that goes on after the client could abort
+pub ran_on : {A E : Type 0} (r : Result A E) (v s m t : State) → v ≡ s → Keeps (stopped true v) m → Keeps m t → OnOk r (Keeps (stopped true s) t)
+ran_on (Ok a) v s m t is first more = λ w run. more w (first w (subst (λ (x : State). IsRunOf w (stopped true x)) (sym is) run))
+ran_on (Err e) v s m t is first more = tt
+
+pub ran_short : {A E : Type 0} (r : Result A E) (v s m t : State) → v ≡ s → Keeps (stopped true v) m → Keeps m t → OnErr r (IsShort true s t)
+ran_short (Ok a) v s m t is first more = tt
+ran_short (Err e) v s m t is first more = inl (λ w run. more w (first w (subst (λ (x : State). IsRunOf w (stopped true x)) (sym is) run)))
+
+pub is_short : {A E : Type 0} (r : Result A E) (v s t : State) → v ≡ s → IsShort true v t → OnErr r (IsShort true s t)
+is_short (Ok a) v s t is short = tt
+is_short (Err e) v s t is short = subst (λ (x : State). IsShort true x t) is short
+
+-- what is kept of a client is kept of one that aborts
+kept_stopped : (b : Bool) (first : Pair) (before : List (ℕ × Act)) (s : State) (o : Outside) → IsKept first before s o → IsKept first before (stopped b s) o
+kept_stopped false first before s o k = k
+kept_stopped true first before s o k = record {
+  ran = record {
+    ran = calls s.book.pauses s.pair Abort k.ran.ran tt refl;
+    reported = stays_reported {b = true} before s.book.pauses s.pair (stopped true s).pair s.reports
+        (calls s.book.pauses s.pair Abort (begins s.book.pauses) tt refl) k.ran.reported;
+    same = k.ran.same;
+  };
+  front = k.front;
+  filed = k.filed;
+  within = k.within;
+  safe = k.safe;
+}
+
+keeps_go : (s m t : State) (reply : Reply) → writes s.stage ≡ None
+    → ((first : Pair) (before : List (ℕ × Act)) (o : Outside) → IsKept first before s o → IsKept first before m o) → Keeps m t
+    → of_file t.book ≡ of_file m.book → GoesOn s reply t
+keeps_go s m t reply quiet kept keeps same = λ first before o n k.
+    subst (λ (w : Option Write). IsKept first before t (by_write w n s reply o)) (sym quiet) (moved first before m t o keeps same (kept first before o k))
+
+goes : (b : Bool) (s t : State) (reply : Reply) → writes s.stage ≡ None → Keeps (stopped b s) t → of_file t.book ≡ of_file s.book → GoesOn s reply t
+goes false s t reply quiet keeps same = keeps_go s s t reply quiet (λ first before o k. k) keeps same
+goes true s t reply quiet keeps same = keeps_go s (stopped true s) t reply quiet (λ first before o k. kept_stopped true first before s o k) keeps same
+
+pub runs_go : {A E : Type 0} (r : Result A E) (b : Bool) (v s t : State) (reply : Reply) → v ≡ s → writes v.stage ≡ None
+    → OnOk r (Keeps (stopped b s) t) → OnErr r (IsShort b s t) → of_file t.book ≡ of_file s.book → GoesOn s reply t
+runs_go r b v s t reply is quiet ran short same = go r ran short
+  where
+    at : writes s.stage ≡ None
+    at = ap (λ (x : State). writes x.stage) (sym is) ∙ quiet
+
+    go : {A E : Type 0} (r : Result A E) → OnOk r (Keeps (stopped b s) t) → OnErr r (IsShort b s t) → GoesOn s reply t
+    go (Ok a) ran short = goes b s t reply at ran same
+    go (Err e) ran (inl runs) = goes b s t reply at runs same
+    go (Err e) ran (inr none) = goes false s t reply at (λ w run. subst (λ (x : State). IsRunOf w x) (sym none) run) same
+
+-- ---- the client aborts
+
+-- what its call leaves of it
+abbrev pub Aborted : {A : Type 0} → Result A ClientFault → ClientEnd → ClientEnd → Type 0
+Aborted (Ok a) e f = f ≡ behind_call Abort e
+Aborted (Err ClientFault.NotNow) e f = f ≡ behind_call Abort e
+Aborted (Err (ClientFault.Faulted cause)) e f = f ≡ behind_call Abort e
+Aborted (Err ClientFault.Memory) e f = f ≡ e
+
+made : (b : Bool) (e g f : ClientEnd) → b ≡ true → f ≡ g → f ≡ cond b g e
+made true e g f can is = is
+made false e g f can is = absurd (false≢true can)
+
+unmade : (b : Bool) (e g f : ClientEnd) → b ≡ false → f ≡ e → f ≡ cond b g e
+unmade true e g f cannot is = absurd (false≢true (sym cannot))
+unmade false e g f cannot is = is
+
+pub aborted : {A : Type 0} (r : Result A ClientFault) (e f : ClientEnd) → OnOk r (f ≡ done_by Abort e) → OnOk r (possible Abort e ≡ true)
+    → IfErr r (λ why. IsSendRefused (possible Abort e) e f (done_by Abort e) why) → Aborted r e f
+aborted (Ok a) e f done can refused = made (possible Abort e) e (done_by Abort e) f can done
+aborted (Err ClientFault.NotNow) e f done can refused = unmade (possible Abort e) e (done_by Abort e) f refused.2 refused.0
+aborted (Err (ClientFault.Faulted cause)) e f done can (inl refused) = unmade (possible Abort e) e (done_by Abort e) f refused.0 refused.1
+aborted (Err (ClientFault.Faulted cause)) e f done can (inr refused) = made (possible Abort e) e (done_by Abort e) f refused.0 refused.1
+aborted (Err ClientFault.Memory) e f done can refused = refused
+
+pub aborted_keeps : (v s : State) (f : ClientEnd) → v ≡ s → f ≡ behind_call Abort v.pair.end → (w : Origin) → IsRunOf w (stopped true s)
+    → IsRun w v.book.pauses (record { end = f; recording = v.pair.recording }) v.reports
+aborted_keeps v s f is made w run =
+    subst (λ (x : ClientEnd). IsRun w v.book.pauses (record { end = x; recording = v.pair.recording }) v.reports) (sym made)
+    (subst (λ (x : State). IsRunOf w (stopped true x)) (sym is) run)
+
+-- ---- what that says
+
+pub calm : (before : List (ℕ × Act)) (s t : State) → HasReported before s.pair s.reports → IsLater s t → Ran false s.pair t.book.pauses t.pair
+calm before s t has is = (is (record { aborts = false; first = s.pair; before = before; marks = s.reports.marks })
+    (record { ran = begins s.book.pauses; reported = has; same = refl })).ran
+
+pub with_memory : (b : Bool) (s t : State) (reply : Reply) → is_stop s.stage reply ≡ b → t.book.spent ≡ false → Stops s reply t → IsLater (stopped b s) t
+with_memory b s t reply at enough (inl is) = subst (λ (b : Bool). IsLater (stopped b s) t) at is
+with_memory b s t reply at enough (inr is) = absurd (false≢true (sym enough ∙ is.1))
+
+-- ---- memory runs out
+
+pub keeps_left : (s t : State) → Keeps (left s) t → Keeps s t
+keeps_left s t keeps = λ w run. keeps w (record { ran = calls s.book.pauses s.pair Leave run.ran tt tt; reported = run.reported; same = run.same })
+
+pub left_stops : {A E : Type 0} (r : Result A E) (s m t : State) (reply : Reply) → StopsOn r s reply m → Keeps (left m) t → t.book.spent ≡ true
+    → Stops s reply t
+left_stops (Ok a) s m t reply stops keeps spent = inl (left_later (stopped (is_stop s.stage reply) s) m t stops keeps)
+left_stops (Err e) s m t reply (inl stops) keeps spent = inl (left_later (stopped (is_stop s.stage reply) s) m t stops keeps)
+left_stops (Err e) s m t reply (inr same) keeps spent = inr (later (left s) t (subst (λ (x : State). Keeps (left x) t) same keeps), spent)
+
+pub ok_stops : {A E : Type 0} (r : Result A E) (s t : State) (reply : Reply) → is_err r ≡ false → StopsOn r s reply t → Stops s reply t
+ok_stops (Ok a) s t reply done stops = inl stops
+ok_stops (Err e) s t reply done stops = absurd (false≢true (sym done))

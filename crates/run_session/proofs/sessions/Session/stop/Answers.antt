@@ -1,0 +1,13 @@
+use Rattle.run_session.proofs.Stops.{is_short, ran_on, ran_short}
+use Rattle.run_session.proofs.sessions.Session.stop.Goals as goal
+
+pub returns-in_err-abort-clause-spent : goal.returns-in_err-abort-clause-spent
+returns-in_err-abort-clause-spent c = is_short c.from_residual.result _ c.args.self.now c.abort.new.self c.self.view_is c.in_err-abort.ensures.spent
+
+pub returns-clause-ran : goal.returns-clause-ran
+returns-clause-ran c = ran_on c.go_on-2.result _ c.args.self.now c.abort.new.self c.go_on-2.new.self c.self.view_is
+    c.in_ok-abort.ensures.ran c.go_on-2.ensures.ran
+
+pub returns-clause-spent : goal.returns-clause-spent
+returns-clause-spent c = ran_short c.go_on-2.result _ c.args.self.now c.abort.new.self c.go_on-2.new.self c.self.view_is
+    c.in_ok-abort.ensures.ran c.go_on-2.ensures.ran
