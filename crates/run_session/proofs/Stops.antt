@@ -51,7 +51,7 @@ may_stop (Err e) b v s t reply is at ran (inl runs) =
     inl (subst (λ (b : Bool). IsLater (stopped b s) t) (sym (ap (λ (x : State). is_stop x.stage reply) (sym is) ∙ at)) (later (stopped b s) t runs))
 may_stop (Err e) b v s t reply is at ran (inr same) = inr same
 
--- a run that goes on after the client could abort
+-- a run that continues after the client could abort
 pub ran_on : {A E : Type 0} (r : Result A E) (v s m t : State) → v ≡ s → Keeps (stopped true v) m → Keeps m t → OnOk r (Keeps (stopped true s) t)
 ran_on (Ok a) v s m t is first more = λ w run. more w (first w (subst (λ (x : State). IsRunOf w (stopped true x)) (sym is) run))
 ran_on (Err e) v s m t is first more = tt
