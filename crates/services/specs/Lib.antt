@@ -1,4 +1,5 @@
 pub mod Files
+pub mod Kinds
 pub mod Naming
 pub mod Serving
 pub mod Sessions

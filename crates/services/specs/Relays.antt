@@ -4,8 +4,9 @@ use Rattle.effects.specs.declared.vocabulary.Cause.TheVariants.{Interrupted}
 use Rattle.effects.specs.declared.vocabulary.Growth.TheVariants.{Told}
 use Rattle.effects.specs.declared.vocabulary.Peer.{Peer}
 use Rattle.effects.specs.declared.vocabulary.Peer.TheVariants.{Client, Server}
-use Rattle.effects.specs.Effects.{Ask, Make, Discard, SetAside, Begin, Append, Keep, Names, Create, Save, Settle, Remove, Extend, Add, Stamp, Now, Sleep, Listen, Accept, Connect, Join, Wait, Receive, Pass, Close, Leave, Say, Exit}
+use Rattle.effects.specs.Effects.{Ask, Make, Discard, Begin, Append, Keep, Names, Create, Save, Settle, Remove, Extend, Stamp, Now, Sleep, Listen, Accept, Connect, Join, Wait, Receive, Pass, Close, Leave, Say, Exit}
 use Rattle.effects.specs.Effects.{Reply, Done, Bytes, End, Found, Nothing, Took, Failed, Short}
+use Rattle.services.specs.Kinds.{IsAdd, IsSay, IsSetAside}
 use Rattle.services.specs.declared.relay_stages.RelayStage.{RelayStage}
 use Rattle.services.specs.declared.relay_stages.RelayStage.TheVariants as stage
 use Rattle.witness.specs.Relaying.{Relaying, Course, Relays as IsCourse}
@@ -110,17 +111,9 @@ IsRemove (Remove name) = ⊤
 IsRemove (Say text) = text ≡ []
 IsRemove ask = ⊥
 
-abbrev pub IsSetAside : Ask → Type 0
-IsSetAside (SetAside growth old) = growth ≡ Told
-IsSetAside ask = ⊥
-
 abbrev pub IsExtend : Ask → Type 0
 IsExtend (Extend name) = ⊤
 IsExtend ask = ⊥
-
-abbrev pub IsAdd : Ask → Type 0
-IsAdd (Add text) = ⊤
-IsAdd ask = ⊥
 
 abbrev pub IsConnect : Ask → Type 0
 IsConnect (Connect host port ms) = ⊤
@@ -129,10 +122,6 @@ IsConnect ask = ⊥
 abbrev pub IsWait : Ask → Type 0
 IsWait (Wait ms) = ⊤
 IsWait ask = ⊥
-
-abbrev pub IsSay : Ask → Type 0
-IsSay (Say text) = ⊤
-IsSay ask = ⊥
 
 -- all that waits for the client is sent on, once all that the server told was written
 abbrev pub IsDown : Limited → Ask → Type 0
@@ -148,7 +137,7 @@ AsksAt stage.Creating s ask = IsCreate ask
 AsksAt stage.Heading s ask = IsSave ask
 AsksAt stage.Removing s ask = IsRemove ask
 AsksAt stage.Discarding s ask = ask ≡ Discard Told
-AsksAt stage.SettingAside s ask = IsSetAside ask
+AsksAt stage.SettingAside s ask = IsSetAside Told ask
 AsksAt stage.Beginning s ask = ask ≡ Begin Told
 AsksAt stage.Logged s ask = IsExtend ask
 AsksAt stage.Accepting s ask = ask ≡ Accept None None

@@ -9,7 +9,8 @@ use Rattle.effects.specs.declared.vocabulary.Cause.TheVariants.{Link}
 use Rattle.effects.specs.declared.vocabulary.Growth.{Growth}
 use Rattle.effects.specs.declared.vocabulary.Growth.TheVariants.{Contacts}
 use Rattle.effects.specs.declared.vocabulary.Peer.TheVariants.{Client}
-use Rattle.effects.specs.Effects.{Ask, Exists, Look, Make, Discard, SetAside, Begin, Keep, Replace, Extend, Add, Stamp, Now, Sleep, Listen, Accept, Receive, Send, Leave, Print, Say, Exit, Reply, Done, Failed, Found, Did}
+use Rattle.effects.specs.Effects.{Ask, Exists, Look, Make, Discard, Begin, Keep, Replace, Extend, Stamp, Now, Sleep, Listen, Accept, Receive, Send, Leave, Print, Say, Exit, Reply, Done, Failed, Found, Did}
+use Rattle.services.specs.Kinds.{IsAdd, IsSay, IsSetAside}
 use Rattle.services.specs.declared.stages.Stage.{Stage}
 use Rattle.services.specs.declared.stages.Stage.TheVariants as stage
 use Rattle.services.specs.Serving.{Talk, Traffic, passed, heard_more, is_over, may_end, may_leave, HasBroken, IsServing, IsAt, IsFree}
@@ -301,21 +302,9 @@ abbrev pub IsReplace : Core → Ask → Type 0
 IsReplace c (Replace name beside whole) = (name ≡ c.name) × (whole ≡ c.text)
 IsReplace c ask = ⊥
 
-abbrev pub IsSetAside : Ask → Type 0
-IsSetAside (SetAside growth old) = growth ≡ Contacts
-IsSetAside ask = ⊥
-
 abbrev pub IsExists : Ask → Type 0
 IsExists (Exists name) = ⊤
 IsExists ask = ⊥
-
-abbrev pub IsAdd : Ask → Type 0
-IsAdd (Add text) = ⊤
-IsAdd ask = ⊥
-
-abbrev pub IsSay : Ask → Type 0
-IsSay (Say text) = ⊤
-IsSay ask = ⊥
 
 -- what each stage asks for, and nothing else
 abbrev pub AsksAt : Stage → State → Ask → Type 0
@@ -323,7 +312,7 @@ AsksAt stage.Logged s ask = IsOpening ask
 AsksAt stage.Looking s ask = ask ≡ Look s.core.name
 AsksAt stage.Making s ask = IsMake s.core ask
 AsksAt stage.Discarding s ask = ask ≡ Discard Contacts
-AsksAt stage.SettingAside s ask = IsSetAside ask
+AsksAt stage.SettingAside s ask = IsSetAside Contacts ask
 AsksAt stage.Beginning s ask = ask ≡ Begin Contacts
 AsksAt stage.Keeping s ask = ask ≡ Keep Contacts s.core.text
 AsksAt stage.Listening s ask = IsListen ask
