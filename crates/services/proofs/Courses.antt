@@ -6,7 +6,7 @@ use Rattle.effects.specs.declared.vocabulary.Peer.{Peer}
 use Rattle.effects.specs.declared.vocabulary.Peer.TheVariants.{Client, Server}
 use Rattle.watched_ends.specs.Limits.{Limited, Within, Past, up_of, up_sent, down_of, down_sent, due_of, without_due, IsTold, IsRead, all, some, none}
 use Rattle.witness.specs.Relaying as moves
-use Rattle.witness.specs.Relaying.{Relaying, Course, moved, with_move}
+use Rattle.witness.specs.Relaying.{Relaying, moved, with_move}
 use Rattle.services.specs.Relays.{RelayTraffic, HasCourse, came, heard, told_more, up_passed, down_passed, nothing_passed, Relayed, begins, hears, tells, loses, ups, downs}
 
 abbrev CourseAt : ℕ → Bool → RelayTraffic → Limited → Type 0

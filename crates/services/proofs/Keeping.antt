@@ -1,14 +1,14 @@
 -- What the contacts file has stays all that the server has done.
-use Rattle.std.proofs.Common.{◌≡◌, refl, sym, ap, subst, ◌∙◌, true≢false, ℕ, Bool, true, false, List, [], ◌∷◌, ◌++◌, ◌&&◌, not, length, drop, map, append-nil, codes}
+use Rattle.std.proofs.Common.{◌≡◌, refl, sym, ap, subst, ◌∙◌, true≢false, ℕ, true, false, List, [], ◌∷◌, ◌++◌, drop, map, append-nil, codes}
 use Rattle.std.proofs.lemmas.List.{map-append}
 use Rattle.std.proofs.Math.Seq.{drop-append_seam}
 use Rattle.contact_ledger.specs.Lines.{text_of}
 use Rattle.contact_ledger.specs.ContactTexts.{act_line, contacts_text, contact_lines}
 use Rattle.contact_ledger.specs.declared.acts.Act.{Act}
 use Rattle.contact_ledger.proofs.WrittenTexts.{text_more}
-use Rattle.effects.specs.Effects.{Reply, Done}
+use Rattle.effects.specs.Effects.{Reply}
 use Rattle.services.specs.declared.stages.Stage.{Stage}
-use Rattle.services.specs.Sessions.{Core, Outside, State, GoesOn, due, due_at, outcome, is_serving, Ready, IsKept, IsBefore, HasAllBut, IsMore, followed}
+use Rattle.services.specs.Sessions.{Core, Outside, State, GoesOn, due, due_at, outcome, is_serving, Ready, IsKept, HasAllBut, IsMore, followed}
 
 pub serving_ready : (s : Stage) (c : Core) (o : Outside) → is_serving s ≡ true → IsKept c o → Ready s c o
 serving_ready Stage.Logged c o e k = absurd (true≢false (sym e))

@@ -1,7 +1,7 @@
 -- A session that is run is where its answers lead.
 use Rattle.std.proofs.Common.{◌≡◌, inl, inr, refl, ◌∙◌, true≢false, ℕ, zero, suc, Bool, true, false, List, [], ◌∷◌, ◌++◌, Option, Some, None, sym, ap, subst, if◌then◌else◌}
 use Rattle.effects.specs.declared.vocabulary.Growth.{Growth}
-use Rattle.effects.specs.Effects.{Ask, Look, Make, Reply, Done, Short, Did, Carries}
+use Rattle.effects.specs.Effects.{Ask, Make, Reply, Done, Short, Did, Carries}
 use Rattle.services.specs.declared.stages.Stage.{Stage}
 use Rattle.services.specs.Sessions.{State, Outside, untouched, outcome, makes, is_done, due, due_at, Ready, IsPlain, IsStatus, HasServed, Asks, AsksAt, Steps, Led, starts, follows, NoneBroken, WasSeen, AreSeen}
 

@@ -1,12 +1,12 @@
 -- The name of a contacts file, and what of it stays the same when a text is added to it (this profile).
-use Rattle.std.specs.Prelude.{◌≡◌, ℕ, List, [], Option, Some, None, String, string_bytes}
-use Rattle.std.specs.Global.{Global}
+use Rattle.std.specs.Prelude.{◌≡◌, ℕ, List, [], Option, Some, None, string_bytes}
 use Rattle.services.specs.declared.contacts.Contacts.{Contacts}
+use Rattle.services.specs.declared.contacts.GrowingNames.{GrowingNames}
 
--- the first of its names, or nothing
-abbrev pub name_of : Option (String Global × String Global × String Global) → List ℕ
+-- the name, or nothing
+abbrev pub name_of : Option GrowingNames → List ℕ
 name_of None = []
-name_of (Some names) = string_bytes names.0
+name_of (Some names) = string_bytes names.name
 
 pub record AreSame (old new : Contacts) : Type 0 where
   pub names : new.names ≡ old.names

@@ -1,6 +1,6 @@
 // The contacts file of a service, and what it is to have next.
 
-ghost use Rattle.std.specs.Prelude.{◌≡◌, ◌++◌, ◌&&◌, not, false, [], OnOk, IfOk, length, drop, map, is_some};
+ghost use Rattle.std.specs.Prelude.{◌≡◌, ◌++◌, ◌&&◌, not, false, [], OnOk, IfOk, length, drop, map, is_some, string_bytes};
 ghost use Rattle.std.specs.Option.{option_map_or};
 ghost use Rattle.services.specs.Files as spec;
 ghost use Rattle.contact_ledger.specs.Lines.{text_of};
@@ -9,12 +9,31 @@ ghost use Rattle.contact_ledger.specs.ContactTexts.{act_line, contacts_text};
 use contact_ledger::{ServerLedger, add_entry, write_contacts};
 use std::alloc::{AllocError, Global};
 
+/// The names of a file that grows, and of those next to it for its next text and for what was in it before.
+#[derive(Drop)]
+pub struct GrowingNames {
+    pub name: String,
+    pub beside: String,
+    pub old: String,
+}
+
+impl GrowingNames {
+    pub fn new(alloc: Global, name: &str) -> Result<GrowingNames, AllocError>
+        ensures { IfOk result (λ names. string_bytes names.name ≡ name.now) }
+    {
+        Ok(GrowingNames {
+            name: String::from_str(alloc, name)?,
+            beside: format!(in alloc; "{name}.new")?,
+            old: format!(in alloc; "{name}.old")?,
+        })
+    }
+}
+
 /// The contacts file, if one is named.
 #[derive(Drop)]
 pub struct Contacts {
     alloc: Global,
-    /// Its name, and those of the files next to it for its next text and for what was in it before.
-    names: Option<(String, String, String)>,
+    names: Option<GrowingNames>,
     /// Whether it grows.
     pub grows: bool,
     /// Whether there was more in it than the first bytes of its first text.
@@ -27,14 +46,6 @@ pub struct Contacts {
     pub has_failed: bool,
 }
 
-/// The name of a file, or nothing.
-fn or_none(name: Option<&String>) -> &str {
-    match name {
-        Some(name) => name.as_str(),
-        None => "",
-    }
-}
-
 impl Contacts {
     pub fn new(alloc: Global, name: Option<&str>) -> Result<Contacts, AllocError>
         ensures name { IfOk result (λ c. spec.name_of c.names
@@ -45,11 +56,7 @@ impl Contacts {
         ensures lost { IfOk result (λ c. c.has_failed ≡ false) }
     {
         let names = match name {
-            Some(name) => Some((
-                String::from_str(alloc, name)?,
-                format!(in alloc; "{name}.new")?,
-                format!(in alloc; "{name}.old")?,
-            )),
+            Some(name) => Some(GrowingNames::new(alloc, name)?),
             None => None,
         };
         let mut text = Vec::new(alloc);
@@ -75,18 +82,17 @@ impl Contacts {
     pub fn name(&self) -> &str
         ensures { result.now ≡ spec.name_of self.now.names }
     {
-        match &self.names {
-            Some((name, _, _)) => name.as_str(),
-            None => "",
-        }
+        self.names.as_ref().map_or("", |names| names.name.as_str())
     }
 
     pub fn beside(&self) -> &str {
-        or_none(self.names.as_ref().map(|names| &names.1))
+        self.names
+            .as_ref()
+            .map_or("", |names| names.beside.as_str())
     }
 
     pub fn old(&self) -> &str {
-        or_none(self.names.as_ref().map(|names| &names.2))
+        self.names.as_ref().map_or("", |names| names.old.as_str())
     }
 
     /// What was to be written has been.

@@ -1,6 +1,6 @@
 // The files that a service or a relay names.
 
-ghost use Rattle.std.specs.Prelude.{◌≡◌, ◌++◌, IfOk, OnOk, option_map, string_bytes};
+ghost use Rattle.std.specs.Prelude.{◌≡◌, IfOk, OnOk};
 ghost use Rattle.services.specs.Naming as spec;
 
 use crate::{Relay, Service};
@@ -23,22 +23,13 @@ impl Service {
     }
 }
 
-/// The name of a file in a folder. Fails only if out of memory.
-fn name_in(alloc: Global, folder: &str, file: &str) -> Result<String, AllocError>
-    ensures { IfOk result (λ name. string_bytes name ≡ folder.now ++ file.now) }
-{
-    let mut name = String::from_str(alloc, folder)?;
-    name.push_str(file)?;
-    Ok(name)
-}
-
 /// The files that the bytes of the first connection are kept in join others. Fails only if out of memory.
 fn add_recording(files: &mut NamedFiles, alloc: Global, folder: &str) -> Result<(), AllocError>
     ensures { OnOk result (files.new ≡ spec.with_recording folder.now files.old) }
 {
-    let up = name_in(alloc, folder, "/1.up")?;
-    let down = name_in(alloc, folder, "/1.down")?;
-    let order = name_in(alloc, folder, "/1.order")?;
+    let up = format!(in alloc; "{folder}/1.up")?;
+    let down = format!(in alloc; "{folder}/1.down")?;
+    let order = format!(in alloc; "{folder}/1.order")?;
     files.add("--record-bytes", Some(up.as_str()), false)?;
     files.add("--record-bytes", Some(down.as_str()), false)?;
     files.add("--record-bytes", Some(order.as_str()), false)

@@ -13,18 +13,13 @@ pub struct Recording {
     pub made: u8,
 }
 
-/// The name of a file of the connection of this number in a folder.
-fn name_in(alloc: Global, folder: &str, number: u64, end: &str) -> Result<String, AllocError> {
-    format!(in alloc; "{folder}/{number}.{end}")
-}
-
 impl Recording {
     /// That of the connection of this number in a folder, of which nothing was made. Fails only if out of memory.
     pub fn new(alloc: Global, folder: &str, number: u64) -> Result<Recording, AllocError> {
         Ok(Recording {
-            up: name_in(alloc, folder, number, "up")?,
-            down: name_in(alloc, folder, number, "down")?,
-            order: name_in(alloc, folder, number, "order")?,
+            up: format!(in alloc; "{folder}/{number}.up")?,
+            down: format!(in alloc; "{folder}/{number}.down")?,
+            order: format!(in alloc; "{folder}/{number}.order")?,
             made: 0,
         })
     }
@@ -62,24 +57,14 @@ pub fn slot_after(made: u8) -> Slot {
 
 /// Whether a name is that of a recording: a number, and `.up`, `.down` or `.order`.
 fn is_recording(name: &[u8]) -> bool {
-    let number = if let Some(number) = name.strip_suffix(b".up") {
-        number
-    } else if let Some(number) = name.strip_suffix(b".down") {
-        number
-    } else if let Some(number) = name.strip_suffix(b".order") {
-        number
-    } else {
-        return false;
-    };
-    !number.is_empty() && number.iter().all(|byte| byte.is_ascii_digit())
+    let up_or_down = name.strip_suffix(b".up").or(name.strip_suffix(b".down"));
+    match up_or_down.or(name.strip_suffix(b".order")) {
+        Some(number) => !number.is_empty() && number.iter().all(|byte| byte.is_ascii_digit()),
+        None => false,
+    }
 }
 
 /// Whether a recording is among these names, each with a `/` after it.
 pub fn hold_recording(names: &[u8]) -> bool {
-    for name in names.split(|byte| *byte == b'/') {
-        if is_recording(name) {
-            return true;
-        }
-    }
-    false
+    names.split(|byte| *byte == b'/').any(is_recording)
 }

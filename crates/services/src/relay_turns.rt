@@ -7,12 +7,11 @@ ghost use Rattle.services.specs.Relays as spec;
 
 use crate::relay_stages::RelayStage as Stage;
 use crate::relaying::{Ended, Ends, RelaySession};
+use crate::taking::UNTAKEN;
 use effects::{Answer, Cause, Peer};
 use session_telling::{Side, Wait, cause_of};
 use std::alloc::AllocError;
 use watched_ends::LimitedRelay;
-
-const UNTAKEN: &str = "dme: a connection cannot be taken\n";
 
 /// How many seconds a server may be silent once its client has ended what it sends.
 const LEFT_SECONDS: u32 = 5;

@@ -5,20 +5,17 @@ ghost use Rattle.effects.specs.Effects.{the_ask, the_reply, Reply};
 ghost use Rattle.watched_ends.specs.Limits.{IsTold, down_of};
 ghost use Rattle.services.specs.Relays as spec;
 
+use crate::contacts::GrowingNames;
 use crate::recordings::{Recording, recording_in, slot_after};
 use crate::relay_stages::RelayStage as Stage;
 use crate::relays::Relay;
+use crate::sessions::{LOOK_MS, OUT_OF_MEMORY};
 use effects::{Answer, Cause, Effect, Growth, Peer, Slot};
 use session_telling::{Lines, Wait};
 use std::alloc::{AllocError, Global};
 use std::marker::Model;
 use watched_ends::{LimitedRelay, ORDER_HEADER};
 use witness::HEADER;
-
-/// How long it waits before it looks at the time again, in milliseconds.
-const LOOK_MS: u64 = 100;
-
-const OUT_OF_MEMORY: &str = "dme: out of memory\n";
 
 /// Why a connection is no longer relayed.
 #[derive(Clone, Copy, Debug)]
@@ -33,24 +30,6 @@ pub enum Ended {
     Silent,
     /// Out of memory.
     Memory,
-}
-
-/// The names of the told file, and of those next to it.
-#[derive(Drop)]
-pub struct ToldNames {
-    pub name: String,
-    pub beside: String,
-    pub old: String,
-}
-
-impl ToldNames {
-    fn new(alloc: Global, name: &str) -> Result<ToldNames, AllocError> {
-        Ok(ToldNames {
-            name: String::from_str(alloc, name)?,
-            beside: format!(in alloc; "{name}.new")?,
-            old: format!(in alloc; "{name}.old")?,
-        })
-    }
 }
 
 /// What of a connection has come to its end.
@@ -84,7 +63,7 @@ impl Ends {
 pub struct RelaySession {
     pub(crate) alloc: Global,
     pub(crate) order: Relay,
-    pub(crate) names: ToldNames,
+    pub(crate) names: GrowingNames,
     pub(crate) stage: Stage,
     /// What comes after what is said.
     pub(crate) next: Stage,
@@ -143,7 +122,7 @@ impl RelaySession {
     pub fn new(alloc: Global, order: Relay) -> Result<RelaySession, AllocError>
         ensures { IfOk result (λ s. spec.Begins order.connections s) }
     {
-        let names = ToldNames::new(alloc, order.told.as_str())?;
+        let names = GrowingNames::new(alloc, order.told.as_str())?;
         let recording = recording_in(alloc, order.folder.as_deref(), 1)?;
         let is_shown = order.trace || order.log.is_some();
         let is_logged = order.log.is_some();

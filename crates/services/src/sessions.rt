@@ -18,9 +18,9 @@ use std::marker::Model;
 use tool_rack::Setup;
 
 /// How long it waits before it looks at the stop file and at the time again, in milliseconds.
-const LOOK_MS: u64 = 100;
+pub(crate) const LOOK_MS: u64 = 100;
 
-const OUT_OF_MEMORY: &str = "dme: out of memory\n";
+pub(crate) const OUT_OF_MEMORY: &str = "dme: out of memory\n";
 
 /// Why a connection was broken off.
 #[derive(Clone, Copy, Debug)]
@@ -305,19 +305,6 @@ impl Session {
         }
     }
 
-    /// Memory has run out while it serves: the service ends.
-    fn give_in(&mut self)
-        ensures ends { spec.Ends self.new }
-        ensures talk { self.new.talk ≡ self.old.talk }
-        ensures broken { self.new.core.broken ≡ self.old.core.broken }
-        ensures over { serving.is_over (spec.due self.new) ≡ true }
-        ensures stands { spec.Stands self.new }
-    {
-        if self.close().is_err() {
-            self.tell(OUT_OF_MEMORY, 4);
-        }
-    }
-
     /// Memory has run out: the connection is left. At the end of a service that is said at once.
     fn run_short(&mut self)
         ensures ends { spec.Ends self.new }
@@ -333,7 +320,11 @@ impl Session {
             Stage::Logged | Stage::Looking | Stage::Making | Stage::Listening => self.give_up(),
             Stage::Discarding | Stage::SettingAside | Stage::Beginning => self.give_up(),
             Stage::Replacing | Stage::Printing => self.tell(OUT_OF_MEMORY, 4),
-            _ => self.give_in(),
+            _ => {
+                if self.close().is_err() {
+                    self.tell(OUT_OF_MEMORY, 4);
+                }
+            }
         }
     }
 }

@@ -12,7 +12,7 @@ use link_world::PumpFault;
 use session_telling::Wait;
 use std::alloc::AllocError;
 
-const UNTAKEN: &str = "dme: a connection cannot be taken\n";
+pub(crate) const UNTAKEN: &str = "dme: a connection cannot be taken\n";
 
 impl Session {
     /// What comes before a connection is taken.
