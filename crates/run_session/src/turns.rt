@@ -17,10 +17,10 @@ const MOST_SHOWN: usize = 200;
 
 /// Adds the bytes of a line, without its end, as far as they are shown.
 fn add_shown(shown: &mut Vec<u8>, line: &[u8]) -> Result<(), AllocError> {
-    for byte in line {
-        if *byte != b'\n' && *byte != b'\r' && shown.len() < MOST_SHOWN {
-            shown.push(*byte)?;
-        }
+    let line = line.strip_suffix(b"\n").unwrap_or(line);
+    for part in line.split(|byte| *byte == b'\r') {
+        let room = MOST_SHOWN.saturating_sub(shown.len());
+        shown.extend_from_slice(part.get(..room).unwrap_or(part))?;
     }
     Ok(())
 }
@@ -327,7 +327,9 @@ impl Session {
         ensures due { OnOk result (spec.IsDue self.new) }
         ensures followed { OnOk result (spec.HasFollowed self.new) }
     {
-        self.wait.came(piece);
+        if self.wait.limit.is_some() {
+            self.wait.came(piece);
+        }
         for line in piece.split_inclusive(|byte| *byte == b'\n') {
             if !self.is_over() {
                 self.hear(line)?;
