@@ -1,8 +1,8 @@
 -- Entries of acts that are added in pieces, and entries that follow one another.
 use Rattle.record_laws.proofs.Names.{[], ◌++◌, ◌+◌, ◌-◌, ◌∙◌, ◌∷◌, ◌≡◌, ◌≤◌, Act, ap, append-nil, append_assoc, arith, Completed, completed_feature}
 use Rattle.record_laws.proofs.Names.{Completes, contacts, Counted, counted, counted_after, drop, entries_of, Entry, Feature, Follow, Follows}
-use Rattle.record_laws.proofs.Names.{IsLastRun, Kept, length, List, refl, Refused, Serves, slice_get, subst, sym, Wanted, with_completed}
-use Rattle.record_laws.proofs.Names.{with_refused, with_told, ℕ}
+use Rattle.record_laws.proofs.Names.{IsLastRun, Kept, length, List, refl, Noted, Serves, slice_get, subst, sym, Wanted, with_completed}
+use Rattle.record_laws.proofs.Names.{with_noted, with_told, ℕ}
 use Rattle.record_text.specs.declared.entries.Entry.TheVariants.{Told}
 
 -- ---- entries of acts
@@ -53,7 +53,7 @@ one_grown ws old new (Told n a) f = record {
   acts = (n, a) ∷ [];
   acts_are = ap (λ (k : Kept). k.told) f.2;
 }
-one_grown ws old new (Refused n text) f = record {
+one_grown ws old new (Noted n note text) f = record {
   features = [];
   features_are = ap (λ (k : Kept). k.features) f.2 ∙ sym (append-nil old.features);
   acts = [];
@@ -92,7 +92,7 @@ one_last ws old new (Told n a) f =
     let upto : old.last ≤ n = f.1 in
     let is : new.last ≡ n = ap (λ (k : Kept). k.last) f.2 in
     omega (arith, upto, is)
-one_last ws old new (Refused n text) f =
+one_last ws old new (Noted n note text) f =
     let upto : old.last ≤ n = f.1 in
     let is : new.last ≡ n = ap (λ (k : Kept). k.last) f.2 in
     omega (arith, upto, is)
@@ -143,10 +143,10 @@ one_alike ws old mid new (Told n a) h f = (
     last = refl;
   }),
 )
-one_alike ws old mid new (Refused n text) h f = (
-  with_refused mid n text,
+one_alike ws old mid new (Noted n note text) h f = (
+  with_noted mid n note text,
   (f.0, subst (λ (k : ℕ). k ≤ n) (sym h.last) f.1, refl),
-  subst (λ (k : Kept). AreAlike (with_refused mid n text) k) (sym f.2)
+  subst (λ (k : Kept). AreAlike (with_noted mid n note text) k) (sym f.2)
       (record { features = h.features; told = h.told; used = h.used; last = refl }),
 )
 one_alike ws old mid new (Completed n label) h f =

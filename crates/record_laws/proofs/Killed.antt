@@ -4,7 +4,7 @@ use Rattle.record_laws.proofs.Names.{AreRecordLines, AreWritten, arith, BeginsWi
 use Rattle.record_laws.proofs.Names.{Completed, contacts, contacts_more, Continues, Entry, entry_line, false, false≢true, Feature, Follow, Follows}
 use Rattle.record_laws.proofs.Names.{Growth, head_lines, inl, inr, IsNew, IsPartGiven, IsProgram, IsRecorded, IsSame, Kept, length, length-append}
 use Rattle.record_laws.proofs.Names.{List, ltb-false, ltb-true, MadeContact, map, Meaning, Moment, nat_lt, new_client_end, nothing_kept, Option}
-use Rattle.record_laws.proofs.Names.{record_lines, Recorded, recorded, refl, Refused, Sound, subst, sym, take, take-append-add, take_all, text_of}
+use Rattle.record_laws.proofs.Names.{record_lines, Recorded, recorded, refl, Noted, Sound, subst, sym, take, take-append-add, take_all, text_of}
 use Rattle.record_laws.proofs.Names.{told_behind, true, Wanted, whole_lines, ℕ}
 use Rattle.contact_ledger.proofs.WrittenTexts.{text_more}
 use Rattle.record_text.specs.Reading.{AreTornHead, IsRecord, IsUnbegun}
@@ -44,7 +44,7 @@ follow_fits ws (e ∷ es) old new fits f = follow_fits ws es f.0 new (one_fits e
 
     one_fits : (x : Entry) (mid : Kept) → Follows ws old x mid → mid.used ≤ length (contacts mid.told)
     one_fits (Told n a) mid g = subst (λ (k : Kept). k.used ≤ length (contacts k.told)) (sym g.2) (told_fits n a)
-    one_fits (Refused n text) mid g = subst (λ (k : Kept). k.used ≤ length (contacts k.told)) (sym g.2) fits
+    one_fits (Noted n note text) mid g = subst (λ (k : Kept). k.used ≤ length (contacts k.told)) (sym g.2) fits
     one_fits (Completed n label) mid g = subst (λ (k : Kept). k.used ≤ length (contacts k.told)) (sym g.1.more) (omega arith)
 
 -- the entries of the record that a run continues, and what they keep
@@ -165,6 +165,7 @@ record_of : (part : Option (List ℕ)) (ws : List Wanted) (es : List Entry) (kep
 record_of part ws es kept fs acts text given asked f features told is = (
   kept.last,
   kept.errors,
+  kept.notes,
   subst (λ (t : List ℕ). IsRecord t (says fs acts)) (sym is)
       (subst (λ (l : List (ℕ × Act)). IsRecord (text_of (record_lines part ws es)) (says fs l)) told
       (subst (λ (l : List Feature). IsRecord (text_of (record_lines part ws es)) (says l kept.told)) features
@@ -172,7 +173,7 @@ record_of part ws es kept fs acts text given asked f features told is = (
 )
   where
     says : List Feature → List (ℕ × Act) → Recorded
-    says l told = record { part = part; asked = ws; features = l; told = told; last = kept.last; errors = kept.errors }
+    says l told = record { part = part; asked = ws; features = l; told = told; last = kept.last; errors = kept.errors; notes = kept.notes }
 
 -- the text says what the client holds, once what is due is added
 pub says_what_was_told : (p : Meaning) (part : Option (List ℕ)) (bytes : List ℕ) (b : Beginning) (window : ℕ) (ms : List Moment)

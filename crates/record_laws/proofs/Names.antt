@@ -36,18 +36,21 @@ pub use Rattle.protocol_model.specs.Plan.{is_empty, plan}
 pub use Rattle.protocol_model.specs.Undisturbed.{AreUpTo, followed}
 pub use Rattle.protocol_model.specs.declared.held.Datum.{Datum}
 pub use Rattle.protocol_model.specs.declared.plans.Planned.{Planned}
-pub use Rattle.record_laws.specs.Recordings.{AreErrors, AreFit, AreWritten, behind_moments, Calls, calls_in, Fits, Moment, recorded_by, Tell}
+pub use Rattle.record_laws.specs.Recordings.{AreFit, AreNotes, AreWritten, behind_moments, Calls, calls_in, Fits, Moment, recorded_by, Tell}
 pub use Rattle.record_laws.specs.Recordings.{told_unless}
 pub use Rattle.record_laws.specs.Told.{EndsUnfinished, first_touches, numbered, told_behind, told_between, told_by}
 pub use Rattle.record_text.specs.Beginnings.{AreWhole, BeginsWith, Continues, EndsLine, IsNew, IsSame}
-pub use Rattle.record_text.specs.Entries.{entry_line, kept_error}
-pub use Rattle.record_text.specs.Growths.{Growth, refusals, with_errors}
+pub use Rattle.record_text.specs.Entries.{entry_line}
+pub use Rattle.record_text.specs.Notes.{IsNoteText, Says}
+pub use Rattle.record_text.specs.declared.notes.Note.{Note}
+pub use Rattle.record_text.specs.declared.run_errors.Remark.{Remark}
+pub use Rattle.record_text.specs.Growths.{Growth, noted, with_notes}
 pub use Rattle.record_text.specs.Heads.{AreAsked, head_lines, IsAsked, IsPartGiven}
 pub use Rattle.record_text.specs.Records.{AreRecordLines, completed_feature, Completes, Follow, Follows, IsLastRun, IsRecorded, Kept, last_frame}
-pub use Rattle.record_text.specs.Records.{nothing_kept, record_lines, Recorded, recorded, with_completed, with_refused, with_told}
+pub use Rattle.record_text.specs.Records.{nothing_kept, record_lines, Recorded, recorded, with_completed, with_noted, with_told}
 pub use Rattle.record_text.specs.Tellings.{Counted, counted, counted_after, entries_of, one_point}
 pub use Rattle.record_text.specs.declared.entries.Entry.{Entry}
-pub use Rattle.record_text.specs.declared.entries.Entry.TheVariants.{Completed, Refused}
+pub use Rattle.record_text.specs.declared.entries.Entry.TheVariants.{Completed, Noted}
 pub use Rattle.std.proofs.Common.{[], ◌&&◌, ◌++◌, ◌+◌, ◌-◌, ◌<◌, ◌==◌, ◌||◌, ◌∙◌, ◌∷◌, ◌≡◌, ◌≤◌, ◌⊎◌, ap, append-nil, append_assoc, arith, Bool}
 pub use Rattle.std.proofs.Common.{bytes_eq, codes, cond, drop, drop-drop, eq-eqb, eqb, eqb-true, Err, false, inl, inr, le-leb, leb-true, length}
 pub use Rattle.std.proofs.Common.{length-append, List, lt-ltb, ltb-false, ltb-true, map, nat_le, nat_lt, None, not, Ok, Option, refl, Result}

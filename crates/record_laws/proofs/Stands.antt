@@ -1,13 +1,13 @@
 -- What holds of a record while it follows a client: its entries follow one another, and what they leave is what the client holds.
 use Rattle.record_laws.proofs.Names.{[], ◌++◌, ◌+◌, ◌<◌, ◌||◌, ◌∙◌, ◌∷◌, ◌≡◌, ◌≤◌, Abort, Act, act_of, AllByRecursion, ap, append-nil, append_assoc}
-use Rattle.record_laws.proofs.Names.{AreAsked, AreErrors, AreFit, AreWritten, arith, begins_session, behind_call, behind_calls, behind_moments, Bool}
+use Rattle.record_laws.proofs.Names.{AreAsked, AreFit, AreNotes, IsNoteText, Note, noted, Says, AreWritten, arith, begins_session, behind_call, behind_calls, behind_moments, Bool}
 use Rattle.record_laws.proofs.Names.{Call, Calls, calls_in, Client, client_behind, client_connected, ClientEnd, cond, Connected, connection_most}
 use Rattle.record_laws.proofs.Names.{contacts, Counted, counted_after, counted_next, Datum, done_by, drop, drop-length, entries_of, Entry, entry_line}
 use Rattle.record_laws.proofs.Names.{false, false≢true, Feature, Feed, Fits, Follow, Growth, IsConnection, IsProgram, IsProgress, IsWrittenAct, Kept}
-use Rattle.record_laws.proofs.Names.{kept_error, Leave, leb-true, length, length-append, List, ltb-true, map, Meaning, Moment, nat_le, nat_lt}
+use Rattle.record_laws.proofs.Names.{Leave, leb-true, length, length-append, List, ltb-true, map, Meaning, Moment, nat_le, nat_lt}
 use Rattle.record_laws.proofs.Names.{new_client_end, next_number, next_of, numbered, Option, passed_over, Point, possible, ReadOne, recorded_by, refl}
-use Rattle.record_laws.proofs.Names.{refusals, Restart, Resume, Send, Sent, Sound, subst, suc, sym, Table, Tag, take_all, tallied, Tally, Tell}
-use Rattle.record_laws.proofs.Names.{tells_homed, text_of, told_behind, told_by, told_unless, touches_in, true, Wanted, with_errors, with_refused, ℕ}
+use Rattle.record_laws.proofs.Names.{Restart, Resume, Send, Sent, Sound, subst, suc, sym, Table, Tag, take_all, tallied, Tally, Tell}
+use Rattle.record_laws.proofs.Names.{tells_homed, text_of, told_behind, told_by, told_unless, touches_in, true, Wanted, with_notes, with_noted, ℕ}
 use Rattle.std.proofs.lemmas.List.{drop-append-le}
 use Rattle.dme_line.specs.declared.commands.Kind.{Kind}
 use Rattle.protocol_model.specs.Replies.{Mark}
@@ -132,21 +132,20 @@ told_stands b acts v r h =
       };
     }
 
--- ---- errors
+-- ---- notes
 
--- the entries of errors follow what is kept, and keep the same
-record ErrorsKept (ws : List Wanted) (n : ℕ) (kept : Kept) (errors : List (List ℕ)) : Type 0 where
+-- the entries of notes follow what is kept, and keep the same
+record NotesKept (ws : List Wanted) (n : ℕ) (kept : Kept) (notes : List Says) : Type 0 where
   new : Kept
-  follow : Follow ws kept (refusals n errors) new
+  follow : Follow ws kept (noted n notes) new
   features : new.features ≡ kept.features
   told : new.told ≡ kept.told
   used : new.used ≡ kept.used
   last : new.last ≤ n
 
-errors_kept : (ws : List Wanted) (n last : ℕ) (kept : Kept) (errors : List (List ℕ)) → IsConnection n → kept.last ≤ n
-    → AreErrors errors last
-    → ErrorsKept ws n kept errors
-errors_kept ws n last kept [] connection above h = record {
+notes_kept : (ws : List Wanted) (n last : ℕ) (kept : Kept) (notes : List Says) → IsConnection n → kept.last ≤ n → AreNotes notes last
+    → NotesKept ws n kept notes
+notes_kept ws n last kept [] connection above h = record {
   new = kept;
   follow = refl;
   features = refl;
@@ -154,22 +153,22 @@ errors_kept ws n last kept [] connection above h = record {
   used = refl;
   last = above;
 }
-errors_kept ws n last kept (error ∷ errors) connection above h =
-    let mid : Kept = with_refused kept n (kept_error error) in
-    let rest : ErrorsKept ws n mid errors = errors_kept ws n last mid errors connection (omega arith) h.2 in
+notes_kept ws n last kept ((note, text) ∷ notes) connection above h =
+    let mid : Kept = with_noted kept n note text in
+    let rest : NotesKept ws n mid notes = notes_kept ws n last mid notes connection (omega arith) h.2 in
     record {
-      new = ErrorsKept.new rest;
-      follow = (mid, ((connection, h.0), above, refl), ErrorsKept.follow rest);
-      features = ErrorsKept.features rest;
-      told = ErrorsKept.told rest;
-      used = ErrorsKept.used rest;
-      last = ErrorsKept.last rest;
+      new = NotesKept.new rest;
+      follow = (mid, ((connection, h.0), above, refl), NotesKept.follow rest);
+      features = NotesKept.features rest;
+      told = NotesKept.told rest;
+      used = NotesKept.used rest;
+      last = NotesKept.last rest;
     }
 
--- errors are added; what was due before is due after them
-errors_stand : (b : Base) (acts : List (ℕ × Act)) (v : View) (r : Growth) (errors : List (List ℕ)) → AreErrors errors v.last
-    → Stands b acts v r → Stands b acts v (with_errors errors r)
-errors_stand b acts v r [] are h = record {
+-- notes are added; what was due before is due after them
+notes_stand : (b : Base) (acts : List (ℕ × Act)) (v : View) (r : Growth) (notes : List Says) → AreNotes notes v.last
+    → Stands b acts v r → Stands b acts v (with_notes notes r)
+notes_stand b acts v r [] are h = record {
   done = h.done;
   text = append-nil r.text ∙ h.text;
   kept = h.kept;
@@ -191,19 +190,19 @@ errors_stand b acts v r [] are h = record {
     unused = o.unused;
   };
 }
-errors_stand b acts v r (error ∷ errors) are h =
+notes_stand b acts v r ((note, text) ∷ notes) are h =
     let ws : List Wanted = v.program.features in
     let n : ℕ = r.telling.connection in
     let p : IsPlaced n v.last h.kept = h.placed are.1 in
     let cut : Parts ws h.done (due v r) b.kept h.kept = follow_parts ws h.done (due v r) b.kept h.kept h.follow in
     let grows : cut.mid.last ≤ h.kept.last = follow_last ws (due v r) cut.mid h.kept cut.behind in
     let last_line : h.kept.last ≤ n = p.last_line in
-    let k : ErrorsKept ws n cut.mid (error ∷ errors) =
-    errors_kept ws n v.last cut.mid (error ∷ errors) p.connection (omega (arith, grows, last_line)) are in
-    let more : List Entry = refusals n (error ∷ errors) in
-    let l : Later ws n r.telling.counted (ErrorsKept.new k) h.kept (due_acts v r) =
-    later ws n r.telling.counted cut.mid (ErrorsKept.new k) h.kept (due_acts v r) (ErrorsKept.features k) (ErrorsKept.told k)
-    (ErrorsKept.used k) (ErrorsKept.last k) p.last_line cut.behind in
+    let k : NotesKept ws n cut.mid ((note, text) ∷ notes) =
+    notes_kept ws n v.last cut.mid ((note, text) ∷ notes) p.connection (omega (arith, grows, last_line)) are in
+    let more : List Entry = noted n ((note, text) ∷ notes) in
+    let l : Later ws n r.telling.counted (NotesKept.new k) h.kept (due_acts v r) =
+    later ws n r.telling.counted cut.mid (NotesKept.new k) h.kept (due_acts v r) (NotesKept.features k) (NotesKept.told k)
+    (NotesKept.used k) (NotesKept.last k) p.last_line cut.behind in
     let last : l.new.last ≤ n = l.last in
     let below : n ≤ v.last = p.below in
     let used : l.new.used ≡ h.kept.used = l.used in
@@ -214,8 +213,8 @@ errors_stand b acts v r (error ∷ errors) are h =
       done = h.done ++ more;
       text = lines_joined r.text h.done more b.text h.text;
       kept = l.new;
-      follow = follow_more ws (h.done ++ more) (due v r) b.kept (ErrorsKept.new k) l.new
-          (follow_more ws h.done more b.kept cut.mid (ErrorsKept.new k) cut.front (ErrorsKept.follow k)) l.follow;
+      follow = follow_more ws (h.done ++ more) (due v r) b.kept (NotesKept.new k) l.new
+          (follow_more ws h.done more b.kept cut.mid (NotesKept.new k) cut.front (NotesKept.follow k)) l.follow;
       features = l.features ∙ h.features;
       told = l.told ∙ h.told;
       held = h.held;
@@ -672,9 +671,9 @@ moments_stand p kept window earlier b program sound asked [] acts e r at fit wri
   end_is = refl;
   stands = with_none (λ (l : List (ℕ × Act)). Stands b l (view e.client) r) acts [] refl h;
 }
-moments_stand p kept window earlier b program sound asked (Tell lacks errors ∷ ms) acts e r at fit written h =
-    moments_stand p kept window earlier b program sound asked ms acts e (with_errors errors (told_unless lacks e r)) at fit.1 written
-    (errors_stand b acts (view e.client) (told_unless lacks e r) errors fit.0 (unless lacks))
+moments_stand p kept window earlier b program sound asked (Tell lacks notes ∷ ms) acts e r at fit written h =
+    moments_stand p kept window earlier b program sound asked ms acts e (with_notes notes (told_unless lacks e r)) at fit.1 written
+    (notes_stand b acts (view e.client) (told_unless lacks e r) notes fit.0 (unless lacks))
   where
     unless : (x : Bool) → Stands b acts (view e.client) (told_unless x e r)
     unless true = h

@@ -5,8 +5,8 @@ use Rattle.contact_ledger.specs.ContactTexts.{IsWrittenAct}
 use Rattle.contact_ledger.specs.declared.acts.Act.{Act}
 use Rattle.protocol_model.specs.Ends.{ClientEnd}
 use Rattle.client_core.specs.Calls.{Call, Connected, Send, Feed, ReadOne, Abort, Resume, Leave, Restart, Sent, possible, behind_call}
-use Rattle.record_text.specs.Entries.{IsRefusal, kept_error}
-use Rattle.record_text.specs.Growths.{Growth, begun, with_acts, with_acts_unless, with_errors}
+use Rattle.record_text.specs.Notes.{IsNoteText, Says}
+use Rattle.record_text.specs.Growths.{Growth, begun, with_acts, with_acts_unless, with_notes}
 
 -- the lines of the acts that the client has counted are added, and those of the features that they complete
 abbrev pub told_now : ClientEnd → Growth → Growth
@@ -34,11 +34,10 @@ pub record Pair : Type 0 where
   pub end : ClientEnd
   pub recording : Growth
 
--- a moment of a run: a call of the client; or the lines that are due are added, unless memory runs out for them, and then those of errors,
--- as `Recorder::follow` does
+-- a moment of a run: a call of the client; or the lines that are due are added, unless memory runs out for them, and then those of notes
 pub data Moment : Type 0 where
   Calls : Call → Moment
-  Tell : Bool → List (List ℕ) → Moment
+  Tell : Bool → List Says → Moment
 
 -- what a moment leaves; a call that is not possible changes nothing
 abbrev pub behind_moment : Moment → Pair → Pair
@@ -46,7 +45,7 @@ behind_moment (Calls call) p = record {
   end = behind_call call p.end;
   recording = if possible call p.end then recorded_by call p.end p.recording else p.recording;
 }
-behind_moment (Tell lacks errors) p = record { end = p.end; recording = with_errors errors (told_unless lacks p.end p.recording) }
+behind_moment (Tell lacks notes) p = record { end = p.end; recording = with_notes notes (told_unless lacks p.end p.recording) }
 
 -- moments, one after another
 abbrev pub behind_moments : List Moment → Pair → Pair
@@ -57,7 +56,7 @@ behind_moments (m ∷ ms) p = behind_moments ms (behind_moment m p)
 abbrev pub calls_in : List Moment → List Call
 calls_in [] = []
 calls_in (Calls call ∷ ms) = call ∷ calls_in ms
-calls_in (Tell lacks errors ∷ ms) = calls_in ms
+calls_in (Tell lacks notes ∷ ms) = calls_in ms
 
 -- a call fits a record whose next connection has this number: no connection has a smaller one, and no restart discards a feature
 abbrev pub Fits : ℕ → Call → ClientEnd → Type 0
@@ -71,16 +70,16 @@ Fits first Resume e = Unit {0}
 Fits first Leave e = Unit {0}
 Fits first (Sent k) e = Unit {0}
 
--- errors of a server: each has a line, and the client has made a connection, the number of the last of which is this
-abbrev pub AreErrors : List (List ℕ) → ℕ → Type 0
-AreErrors [] last = Unit {0}
-AreErrors (error ∷ errors) last = IsRefusal (kept_error error) × (1 ≤ last) × AreErrors errors last
+-- notes: each can say what it says, and the client has made a connection, the number of the last of which is this
+abbrev pub AreNotes : List Says → ℕ → Type 0
+AreNotes [] last = Unit {0}
+AreNotes ((note, text) ∷ notes) last = IsNoteText note text × (1 ≤ last) × AreNotes notes last
 
 -- each moment fits
 abbrev pub AreFit : ℕ → List Moment → ClientEnd → Type 0
 AreFit first [] e = Unit {0}
 AreFit first (Calls call ∷ ms) e = Fits first call e × AreFit first ms (behind_call call e)
-AreFit first (Tell lacks errors ∷ ms) e = AreErrors errors e.client.last × AreFit first ms e
+AreFit first (Tell lacks notes ∷ ms) e = AreNotes notes e.client.last × AreFit first ms e
 
 -- acts that can be written
 abbrev pub AreWritten : List (ℕ × Act) → Type 0

@@ -9,6 +9,7 @@ use Rattle.protocol_model.specs.Ends.{new_client_end}
 use Rattle.record_text.specs.Reading.{IsRecord}
 use Rattle.record_text.specs.Records.{Recorded}
 use Rattle.record_text.specs.declared.run_errors.RunError.{RunError}
+use Rattle.record_text.specs.declared.run_errors.Remark.{Remark}
 use Rattle.record_text.specs.Beginnings.{BeginsWith, IsSame}
 use Rattle.record_text.specs.Growths as growths
 use Rattle.record_text.specs.declared.opening.Beginning.{Beginning}
@@ -24,13 +25,14 @@ run_begun p window b = record {
 
 -- a text is a record of a part and of these wanted features; it says that these features are complete and that these acts were reported
 abbrev pub IsRecordOf : Option (List ℕ) → List Wanted → List Feature → List (ℕ × Act) → List ℕ → Type 0
-IsRecordOf part wanted features told text = (last : ℕ) × (errors : List RunError) × IsRecord text (record {
+IsRecordOf part wanted features told text = (last : ℕ) × (errors : List RunError) × (notes : List Remark) × IsRecord text (record {
   part = part;
   asked = wanted;
   features = features;
   told = told;
   last = last;
   errors = errors;
+  notes = notes;
 })
 
 -- a run over a file that has some bytes, killed at any moment, when the file has others: what the run found whole, and a prefix of what it

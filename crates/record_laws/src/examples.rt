@@ -8,8 +8,10 @@ ghost use Rattle.contact_ledger.specs.Lines.{text_of};
 ghost use Rattle.protocol_model.specs.World.{start};
 ghost use Rattle.protocol_model.specs.declared.events.Event.TheVariants.{ClientReads};
 ghost use Rattle.record_text.specs.Entries.{entry_line};
-ghost use Rattle.record_text.specs.declared.entries.Entry.TheVariants.{Told, Refused, Completed};
-ghost use Rattle.record_text.specs.Growths.{with_errors};
+ghost use Rattle.record_text.specs.declared.entries.Entry.TheVariants.{Told, Noted, Completed};
+ghost use Rattle.record_text.specs.Entries.{error_note};
+ghost use Rattle.record_text.specs.declared.notes.Note.TheVariants.{Refused};
+ghost use Rattle.record_text.specs.Growths.{with_notes};
 ghost use Rattle.record_laws.specs.Recordings.{Calls, Tell, AreFit, behind_moments, told_now};
 ghost use Rattle.record_laws.specs.Examples.{contact, empty, feature, halted, program};
 ghost use Rattle.record_laws.specs.Worlds.{told_in};
@@ -51,12 +53,12 @@ pub fn resumed_rows()
           told = 1;
           text = text_of (map entry_line (Told 3 contact ∷ []));
         } }
-    ensures error { (with_errors (codes "00009 !" ∷ []) empty).text
-        ≡ text_of (map entry_line (Refused 3 (codes "00009 !") ∷ [])) }
+    ensures error { (with_notes (error_note (codes "00009 !") ∷ []) empty).text
+        ≡ text_of (map entry_line (Noted 3 Refused (codes "00009 !") ∷ [])) }
     ensures later { (told_now (halted (contact ∷ []) [])
-        (behind_moments (Tell true (codes "00009 !" ∷ []) ∷ [])
+        (behind_moments (Tell true (error_note (codes "00009 !") ∷ []) ∷ [])
         (record { end = halted (contact ∷ []) []; recording = empty })).recording).text
-        ≡ text_of (map entry_line (Refused 3 (codes "00009 !") ∷ Told 3 contact ∷ [])) }
+        ≡ text_of (map entry_line (Noted 3 Refused (codes "00009 !") ∷ Told 3 contact ∷ [])) }
 {}
 
 /// A connection with a number of an earlier one does not fit a record, and neither does a restart that gives a completed feature up. An

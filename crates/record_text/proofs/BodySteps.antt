@@ -7,6 +7,7 @@ use Rattle.std.proofs.lemmas.List.Recursion.{is_count_by}
 use Rattle.protocol_model.specs.Client.{origin_of}
 use Rattle.record_text.specs.declared.run_errors.Reported.{Reported}
 use Rattle.record_text.specs.declared.run_errors.RunError.{RunError}
+use Rattle.record_text.specs.declared.run_errors.Remark.{Remark}
 
 -- ---- contacts
 
@@ -135,9 +136,9 @@ pub completes : (asked : List Wanted) (old new : Kept) (n : ℕ) (label : List �
     → CanComplete asked old n label w points → frame ≡ last_frame w.touches
     → new.features ≡ old.features ++ feature_of label points n frame ∷ [] → new.told ≡ old.told → new.used ≡ contact_count old.told
     → new.last ≡ old.last → new.waiting ≡ []
-    → new.errors ≡ old.errors ++ errors_during label (contact_count old.told - length points) old.waiting
+    → new.errors ≡ old.errors ++ errors_during label (contact_count old.told - length points) old.waiting → new.notes ≡ old.notes
     → Completes asked old n label new
-completes asked old new n label w points frame h same features told used last waiting errors = record {
+completes asked old new n label w points frame h same features told used last waiting errors notes = record {
   wanted = w;
   points = points;
   next = h.next;
@@ -148,12 +149,13 @@ completes asked old new n label w points frame h same features told used last wa
       (used ∙ sym (contacts_counted old.told)) (last ∙ sym h.same) waiting
       (errors ∙ ap (λ (l : List ℕ). old.errors ++ errors_during l (contact_count old.told - length points) old.waiting) h.label_is
       ∙ ap (λ (k : ℕ). old.errors ++ errors_during w.label (contact_count old.told - k) old.waiting)
-      (sym (serves_length n w.touches points (drop (length (contacts old.told) - length w.touches) (contacts old.told)) h.run.serves)));
+      (sym (serves_length n w.touches points (drop (length (contacts old.told) - length w.touches) (contacts old.told)) h.run.serves)))
+      notes;
 }
   where
-    kept_of : List Feature → List (ℕ × Act) → ℕ → ℕ → List Reported → List RunError → Kept
-    kept_of a b i j c d = record { features = a; told = b; used = i; last = j; waiting = c; errors = d }
+    kept_of : List Feature → List (ℕ × Act) → ℕ → ℕ → List Reported → List RunError → List Remark → Kept
+    kept_of a b i j c d m = record { features = a; told = b; used = i; last = j; waiting = c; errors = d; notes = m }
 
-    same_kept : {a b : List Feature} {c d : List (ℕ × Act)} {i j k l : ℕ} {u v : List Reported} {x y : List RunError}
-        → a ≡ b → c ≡ d → i ≡ j → k ≡ l → u ≡ v → x ≡ y → kept_of a c i k u x ≡ kept_of b d j l v y
-    same_kept p q r s t o = λ z. kept_of (p z) (q z) (r z) (s z) (t z) (o z)
+    same_kept : {a b : List Feature} {c d : List (ℕ × Act)} {i j k l : ℕ} {u v : List Reported} {x y : List RunError} {m n : List Remark}
+        → a ≡ b → c ≡ d → i ≡ j → k ≡ l → u ≡ v → x ≡ y → m ≡ n → kept_of a c i k u x m ≡ kept_of b d j l v y n
+    same_kept p q r s t o w = λ z. kept_of (p z) (q z) (r z) (s z) (t z) (o z) (w z)

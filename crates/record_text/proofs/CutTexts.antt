@@ -3,15 +3,15 @@ use Rattle.record_text.proofs.Names.{[], ◌++◌, ◌+◌, ◌<◌, ◌∙◌, 
 use Rattle.record_text.proofs.Names.{AreTornHead, arith, asked_lines, BeginsHeader, codes, Completed, decimal, decimal_plain, drop, Entry, entry_line}
 use Rattle.record_text.proofs.Names.{entry_plain, Follow, head_lines, header, inl, inr, is_plain, is_printed, IsAskedTouch, IsPartGiven, IsRecord}
 use Rattle.record_text.proofs.Names.{IsWrittenEntry, Kept, le-leb, leb-true, length, line_of, List, list_all, map, name_plain, nat_le, None}
-use Rattle.record_text.proofs.Names.{nothing_kept, Option, part_lines, record_lines, recorded, refl, Refused, Some, subst, suc, sym, take}
+use Rattle.record_text.proofs.Names.{nothing_kept, Option, part_lines, record_lines, recorded, refl, Note, Noted, Some, subst, suc, sym, take}
 use Rattle.record_text.proofs.Names.{take-append-add, take-append-drop, text_of, Told, Touch, touch_fields, touch_line, true, Wanted, wanted_lines}
-use Rattle.record_text.proofs.Names.{zero, ℕ}
+use Rattle.record_text.proofs.Names.{word_of, zero, ℕ}
 use Rattle.std.proofs.lemmas.Bool.{and_from, and_parts}
 use Rattle.std.proofs.lemmas.List.{take-append-le}
 use Rattle.contact_ledger.specs.Lines.{whole_lines}
 use Rattle.contact_ledger.proofs.TextLines.{AreTexts, cut_text, IsText, lines_back}
 use Rattle.record_text.specs.Cuts.{begun, ReadsCut, unbegun}
-use Rattle.record_text.proofs.RecordFields.{touch_plain, feature_plain}
+use Rattle.record_text.proofs.RecordFields.{touch_plain, feature_plain, word_plain}
 use Rattle.record_text.proofs.StageOnes.{written_follows}
 
 -- ---- each line is a text without a line feed
@@ -36,6 +36,13 @@ printed_text (x ∷ xs) h =
     let more = printed_text xs p.1 in
     record { all = and_from _ _ (and_parts (nat_le 32 x) _ p.0).0 more.all }
 
+-- the word of a note, and what it says
+noted_text : (note : Note) (text : List ℕ) → IsText text → IsText (32 ∷ (word_of note ++ 32 ∷ text))
+noted_text note text h =
+    let rest : IsText (32 ∷ text) = record { all = h.all } in
+    let more = plain_text (word_of note) (32 ∷ text) (word_plain note) rest in
+    record { all = more.all }
+
 texts_append : (xs ys : List (List ℕ)) → AreTexts xs → AreTexts ys → AreTexts (xs ++ ys)
 texts_append [] ys a b = b
 texts_append (x ∷ xs) ys a b = (a.0, texts_append xs ys a.1 b)
@@ -59,10 +66,11 @@ part_text (Some text) h =
 
 entry_text : (e : Entry) → IsWrittenEntry e → IsText (entry_line e)
 entry_text (Told n a) h = line_text (decimal n) (act_fields a) (entry_plain (n, a) h)
-entry_text (Refused n text) h =
+entry_text (Noted n note text) h =
     let number = decimal_plain n (omega (arith, h.0.1)) in
-    let t = printed_text text h.1.printed in
-    plain_text (decimal n) (codes " REFUSED " ++ text) number.plain (record { all = t.all })
+    let t = printed_text text h.1.printed.printed in
+    plain_text (decimal n) (32 ∷ (word_of note ++ 32 ∷ text)) number.plain
+    (noted_text note text t)
 entry_text (Completed n label) h = line_text (decimal n) (codes "COMPLETED" ∷ label ∷ [])
     (decimal_plain n (omega (arith, h.0.1)), (record { plain = refl }, (name_plain label h.1, tt)))
 

@@ -20,12 +20,14 @@ pub use Rattle.fixed_um.specs.Names.{IsName}
 pub use Rattle.fixed_um.specs.declared.frames.Frame.{Frame}
 pub use Rattle.fixed_um.specs.declared.lengths.Point.{Point}
 pub use Rattle.protocol_model.specs.Claims.{contacts, MadeContact, Serves}
-pub use Rattle.record_text.specs.Entries.{completed_line, entry_line, fitting, IsFitting, IsRefusal, IsWrittenEntry, kept_error, refused_line}
+pub use Rattle.record_text.specs.Entries.{completed_line, entry_line, fitting, IsFitting, IsWrittenEntry, kept_error, noted_line}
 pub use Rattle.record_text.specs.Heads.{AreAsked, asked_lines, feature_line, head_lines, header, is_printed, IsAsked, IsAskedTouch, IsPart}
 pub use Rattle.record_text.specs.Heads.{IsPartGiven, part_line, part_lines, touch_fields, touch_line, wanted_lines}
+pub use Rattle.record_text.specs.Notes.{IsNoteText, Says, word_of}
+pub use Rattle.record_text.specs.declared.notes.Note.{Note}
 pub use Rattle.record_text.specs.Reading.{AreTornHead, BeginsHeader, IsDamagedRecord, IsRecord, IsUnbegun, ReadsRecord}
 pub use Rattle.record_text.specs.Records.{AreRecordLines, Begins, completed_feature, Completes, errors_during, Follow, Follows, IsLastRun, IsRecorded}
-pub use Rattle.record_text.specs.Records.{Kept, last_frame, nothing_kept, record_lines, Recorded, recorded, with_completed, with_refused, with_told}
+pub use Rattle.record_text.specs.Records.{Kept, last_frame, nothing_kept, record_lines, Recorded, recorded, with_completed, with_noted, with_told}
 pub use Rattle.record_text.specs.Serving.{CanComplete, IsServedBy}
 pub use Rattle.record_text.specs.Stages.{AddsEntry, AddsTouch, body, EndsFeature, EndsHead, FollowsLine, HasHead, HasTornHead, head, IsBadHead}
 pub use Rattle.record_text.specs.Stages.{IsOpen, IsValid, Leads, LeadsNowhere, NamesPart, Next, none, OpensFeature, some, Stage, stage_of, start}
@@ -33,7 +35,7 @@ pub use Rattle.record_text.specs.Stages.{StopsAfter, wanted_with, with_touch, wi
 pub use Rattle.record_text.specs.Tellings.{counted, Counts, entries_of, Telling, told_on}
 pub use Rattle.record_text.specs.Unfinished.{Asking, Unfinished}
 pub use Rattle.record_text.specs.declared.entries.Entry.{Entry}
-pub use Rattle.record_text.specs.declared.entries.Entry.TheVariants.{Completed, Refused, Told}
+pub use Rattle.record_text.specs.declared.entries.Entry.TheVariants.{Completed, Noted, Told}
 pub use Rattle.record_text.specs.declared.faults.RecordFault.{RecordFault}
 pub use Rattle.record_text.specs.declared.faults.RecordFault.TheVariants.{Damaged, Memory}
 pub use Rattle.record_text.specs.declared.heads.Place.{Place}

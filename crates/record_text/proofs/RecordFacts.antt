@@ -2,8 +2,8 @@
 use Rattle.record_text.proofs.Names.{[], ◌++◌, ◌+◌, ◌-◌, ◌∙◌, ◌∷◌, ◌≡◌, ◌≤◌, Act, AllByRecursion, ap, AreAsked, AreRecordLines, arith, CanBeWritten}
 use Rattle.record_text.proofs.Names.{Completed, completed_feature, Completes, connection_most, contacts, drop, Entry, Feature, Follow, Follows}
 use Rattle.record_text.proofs.Names.{IsAsked, IsPointCount, IsRecorded, IsWrittenEntry, Kept, length, length-append, List, MadeContact, nothing_kept}
-use Rattle.record_text.proofs.Names.{Recorded, recorded, refl, Refused, Serves, slice_get, Some, subst, suc, sym, take, take-append-drop, take_all}
-use Rattle.record_text.proofs.Names.{Told, Wanted, with_completed, with_refused, with_told, zero, ℕ}
+use Rattle.record_text.proofs.Names.{Recorded, recorded, refl, Note, Noted, Serves, slice_get, Some, subst, suc, sym, take, take-append-drop, take_all}
+use Rattle.record_text.proofs.Names.{Told, Wanted, with_completed, with_noted, with_told, zero, ℕ}
 use Rattle.std.proofs.Math.Seq.{take-append-le}
 use Rattle.protocol_model.specs.Undisturbed.{AreUpTo}
 use Rattle.protocol_model.proofs.invariant.Served.{contacts_more, Served, served_more, served_push, served_sound, up_to_above, up_to_more}
@@ -67,10 +67,10 @@ told_well asked old new n a h most above e =
     } in
     subst (λ (k : Kept). IsWell asked k) (sym e) well
 
-refused_well : (asked : List Wanted) (old new : Kept) (n : ℕ) (text : List ℕ) → IsWell asked old → n ≤ connection_most → old.last ≤ n
-    → new ≡ with_refused old n text → IsWell asked new
-refused_well asked old new n text h most above e =
-    let next : Kept = with_refused old n text in
+noted_well : (asked : List Wanted) (old new : Kept) (n : ℕ) (note : Note) (text : List ℕ) → IsWell asked old → n ≤ connection_most
+    → old.last ≤ n → new ≡ with_noted old n note text → IsWell asked new
+noted_well asked old new n note text h most above e =
+    let next : Kept = with_noted old n note text in
     let well : IsWell asked next = record {
       few = h.few;
       served = h.served;
@@ -134,7 +134,7 @@ completed_well asked old new n label all h written c =
 follows_well : (asked : List Wanted) (old new : Kept) (e : Entry) → AreAsked asked → IsWell asked old → Follows asked old e new
     → IsWell asked new
 follows_well asked old new (Told n a) all h f = told_well asked old new n a h f.0.0.1 f.1 f.2
-follows_well asked old new (Refused n text) all h f = refused_well asked old new n text h f.0.0.1 f.1 f.2
+follows_well asked old new (Noted n note text) all h f = noted_well asked old new n note text h f.0.0.1 f.1 f.2
 follows_well asked old new (Completed n label) all h f = completed_well asked old new n label all h f.0 f.1
 
 follow_well : (es : List Entry) (asked : List Wanted) (old new : Kept) → AreAsked asked → IsWell asked old → Follow asked old es new

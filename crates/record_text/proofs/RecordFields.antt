@@ -2,12 +2,14 @@
 use Rattle.record_text.proofs.Names.{[], ◌++◌, ◌==◌, ◌∙◌, ◌∷◌, ◌≡◌, ◌≤◌, Act, act_line, ap, append-nil, ArePlain, arith, codes, Completed}
 use Rattle.record_text.proofs.Names.{completed_line, Decides-eqb, decimal, decimal_plain, direction_fields, direction_plain, direction_tail, Entry}
 use Rattle.record_text.proofs.Names.{entry_line, Err, feature_line, fields_behind, Finds, Frame, frame_fields, frame_plain, frame_tail, IfOk}
-use Rattle.record_text.proofs.Names.{IsAskedTouch, IsConnection, IsEntry, IsFrame, IsName, IsPointCount, IsRefusal, IsWrittenEntry, line_fields, List}
+use Rattle.record_text.proofs.Names.{IsAskedTouch, IsConnection, IsEntry, IsFrame, IsName, IsPointCount, IsNoteText, is_plain, list_all, IsWrittenEntry, if◌then◌else◌, slice_index, line_fields, List}
 use Rattle.record_text.proofs.Names.{made_of, name_plain, None, Ok, Option, part_behind, plain_fields_append, Point, point_fields, point_plain, refl}
-use Rattle.record_text.proofs.Names.{Refused, refused_line, Result, Some, sym, Told, Touch, touch_fields, touch_line, ℕ}
+use Rattle.record_text.proofs.Names.{Noted, noted_line, Note, Result, Some, sym, Told, Touch, touch_fields, touch_line, true, word_of, ℕ}
 use Rattle.std.specs.Bool.{Decides}
+use Rattle.std.specs.Prelude.{MatchOption}
 use Rattle.fixed_um.specs.Shapes.{Direction}
 use Rattle.contact_ledger.specs.Lines.{fields_of}
+use Rattle.record_text.specs.declared.notes.Note.TheVariants.{Refused, By, Operator, Program, Setup, Opened, Dated, Left}
 
 -- ---- a touch
 
@@ -96,18 +98,56 @@ pub completed_made : (line label : List ℕ) (n : ℕ) → fields_of line ≡ de
     → line ≡ completed_line n label
 completed_made line label n e = made_of line (decimal n ∷ codes "COMPLETED" ∷ label ∷ []) e
 
-pub refused_back : (line text : List ℕ) (n : ℕ) → IsConnection n → line ≡ refused_line n text
-    → fields_of line ≡ decimal n ∷ fields_of (codes "REFUSED " ++ text)
-unfolding fields_of
-refused_back line text n h e =
-    let plain = decimal_plain n (omega (arith, h.1)) in
-    rw e (part_behind 32 (decimal n) (codes "REFUSED " ++ text) (omega arith) plain.plain)
+pub word_plain : (note : Note) → list_all is_plain (word_of note) ≡ true
+word_plain Refused = refl
+word_plain By = refl
+word_plain Operator = refl
+word_plain Program = refl
+word_plain Setup = refl
+word_plain Opened = refl
+word_plain Dated = refl
+word_plain Left = refl
 
-pub refused_number : (line text field : List ℕ) (fields : List (List ℕ)) (n : ℕ) → fields_of line ≡ field ∷ fields → IsConnection n
-    → line ≡ refused_line n text → field ≡ decimal n
-refused_number line text field fields n p h e =
-    let both : field ∷ fields ≡ decimal n ∷ fields_of (codes "REFUSED " ++ text) = sym p ∙ refused_back line text n h e in
+pub noted_back : (line text : List ℕ) (n : ℕ) (note : Note) → IsConnection n → line ≡ noted_line n note text
+    → fields_of line ≡ decimal n ∷ word_of note ∷ fields_of text
+unfolding fields_of
+noted_back line text n note h e =
+    let plain = decimal_plain n (omega (arith, h.1)) in
+    rw e (part_behind 32 (decimal n) (word_of note ++ 32 ∷ text) (omega arith) plain.plain)
+    ∙ ap (λ (r : List (List ℕ)). decimal n ∷ r) (part_behind 32 (word_of note) text (omega arith) (word_plain note))
+
+-- the number and the word of a note
+pub noted_number : (line text field : List ℕ) (fields : List (List ℕ)) (n : ℕ) (note : Note) → fields_of line ≡ field ∷ fields → IsConnection n
+    → line ≡ noted_line n note text → field ≡ decimal n
+noted_number line text field fields n note p h e =
+    let both : field ∷ fields ≡ decimal n ∷ word_of note ∷ fields_of text = sym p ∙ noted_back line text n note h e in
     cc
+
+pub noted_word : (line text field word : List ℕ) (fields : List (List ℕ)) (n : ℕ) (note : Note) → fields_of line ≡ field ∷ word ∷ fields
+    → IsConnection n → line ≡ noted_line n note text → word ≡ word_of note
+noted_word line text field word fields n note p h e =
+    let both : field ∷ word ∷ fields ≡ decimal n ∷ word_of note ∷ fields_of text = sym p ∙ noted_back line text n note h e in
+    cc
+
+-- a note is known by its word
+abbrev note_named : List ℕ → Note
+note_named word = let at = λ (k : ℕ). slice_index word k in
+    if at 0 == 66 then By else if at 0 == 68 then Dated else if at 0 == 76 then Left else if at 0 == 80 then Program
+    else if at 0 == 82 then Refused else if at 0 == 79 then (if at 3 == 82 then Operator else Opened)
+    else Setup
+
+named : (note : Note) → note_named (word_of note) ≡ note
+named Refused = refl
+named By = refl
+named Operator = refl
+named Program = refl
+named Setup = refl
+named Opened = refl
+named Dated = refl
+named Left = refl
+
+pub one_note : (m n : Note) → word_of m ≡ word_of n → m ≡ n
+one_note m n e = sym (named m) ∙ ap (λ (w : List ℕ). note_named w) e ∙ named n
 
 pub completed_found : (line number word label r s t name : List ℕ) (n : ℕ) → fields_of line ≡ number ∷ fields_behind r
     → fields_behind r ≡ word ∷ fields_behind s → word ≡ codes "COMPLETED" → fields_behind s ≡ label ∷ fields_behind t
@@ -125,26 +165,57 @@ append_same (b ∷ bs) x y e =
     let rest : bs ++ x ≡ bs ++ y = cc in
     append_same bs x y rest
 
--- what follows the number of an error
-pub refused_rest : (line number rest text : List ℕ) (fields : List (List ℕ)) (n : ℕ) → fields_of line ≡ number ∷ fields
-    → line ≡ number ++ rest → IsConnection n → line ≡ refused_line n text → rest ≡ codes " REFUSED " ++ text
-refused_rest line number rest text fields n p q h e =
-    append_same number rest (codes " REFUSED " ++ text) (sym q ∙ e
-    ∙ ap (λ (x : List ℕ). x ++ (codes " REFUSED " ++ text)) (sym (refused_number line text number fields n p h e)))
+-- what follows the number and the word of a note
+pub noted_rest : (line field word rest text : List ℕ) (fields : List (List ℕ)) (n : ℕ) (note : Note) → fields_of line ≡ field ∷ word ∷ fields
+    → IsConnection n → line ≡ noted_line n note text → line ≡ field ++ (32 ∷ (word ++ 32 ∷ rest)) → rest ≡ text
+noted_rest line field word rest text fields n note p h e q =
+    let number = noted_number line text field (word ∷ fields) n note p h e in
+    let named = noted_word line text field word fields n note p h e in
+    let both : decimal n ++ (32 ∷ (word_of note ++ 32 ∷ rest)) ≡ decimal n ++ (32 ∷ (word_of note ++ 32 ∷ text)) =
+    ap (λ (f : List ℕ). f ++ (32 ∷ (word_of note ++ 32 ∷ rest))) (sym number)
+    ∙ ap (λ (w : List ℕ). field ++ (32 ∷ (w ++ 32 ∷ rest))) (sym named) ∙ sym q ∙ e in
+    append_same (32 ∷ []) rest text (append_same (word_of note) (32 ∷ rest) (32 ∷ text)
+    (append_same (32 ∷ []) (word_of note ++ 32 ∷ rest) (word_of note ++ 32 ∷ text)
+    (append_same (decimal n) (32 ∷ (word_of note ++ 32 ∷ rest)) (32 ∷ (word_of note ++ 32 ∷ text)) both)))
 
-pub refused_text : (rest text other : List ℕ) → rest ≡ codes " REFUSED " ++ text → rest ≡ codes " REFUSED " ++ other → other ≡ text
-refused_text rest text other p q = append_same (codes " REFUSED ") other text (sym q ∙ p)
+-- a line that ends after its number is of no note
+pub no_word : (line text field : List ℕ) (n : ℕ) (note : Note) → fields_of line ≡ field ∷ [] → IsConnection n → line ≡ noted_line n note text → ⊥
+no_word line text field n note p h e =
+    let both : field ∷ [] ≡ decimal n ∷ word_of note ∷ fields_of text = sym p ∙ noted_back line text n note h e in
+    absurd cc
+
+pub noted_parts : (line field word text : List ℕ) (fields : List (List ℕ)) (n : ℕ) (note : Note) → fields_of line ≡ field ∷ word ∷ fields
+    → IsConnection n → line ≡ noted_line n note text → line ≡ field ++ (32 ∷ (word ++ 32 ∷ text))
+noted_parts line field word text fields n note p h e =
+    let number = noted_number line text field (word ∷ fields) n note p h e in
+    let named = noted_word line text field word fields n note p h e in
+    e ∙ ap (λ (f : List ℕ). f ++ (32 ∷ (word_of note ++ 32 ∷ text))) (sym number)
+    ∙ ap (λ (w : List ℕ). field ++ (32 ∷ (w ++ 32 ∷ text))) (sym named)
+
+-- what follows a number and a word, each with the space after it, is found or not
+pub tail_found : {V : Type 0} (now : V → List ℕ) (line number first second word third space : List ℕ) → space ≡ codes " " → line ≡ number ++ first → first ≡ 32 ∷ second
+    → second ≡ word ++ third → (r : Option V) → MatchOption r ((rest : List ℕ) → third ≡ space ++ rest → ⊥) (λ rest. third ≡ space ++ now rest)
+    → MatchOption r ((rest : List ℕ) → line ≡ number ++ (32 ∷ (word ++ 32 ∷ rest)) → ⊥)
+    (λ rest. line ≡ number ++ (32 ∷ (word ++ 32 ∷ now rest)))
+tail_found now line number first second word third space s p q u None h = λ rest e.
+    let one : first ≡ 32 ∷ (word ++ 32 ∷ rest) = append_same number first (32 ∷ (word ++ 32 ∷ rest)) (sym p ∙ e) in
+    let two : second ≡ word ++ 32 ∷ rest = append_same (32 ∷ []) second (word ++ 32 ∷ rest) (sym q ∙ one) in
+    let three : third ≡ 32 ∷ rest = append_same word third (32 ∷ rest) (sym u ∙ two) in
+    h rest (three ∙ ap (λ (x : List ℕ). x ++ rest) (sym s))
+tail_found now line number first second word third space s p q u (Some rest) h =
+    p ∙ ap (λ (x : List ℕ). number ++ x) (q ∙ ap (λ (x : List ℕ). 32 ∷ x) (u ∙ ap (λ (x : List ℕ). word ++ x)
+    (h ∙ ap (λ (x : List ℕ). x ++ now rest) s)))
 
 -- a line that is of no entry
 pub no_entry : (line : List ℕ) (a : Entry) → ((e : ℕ × Act) → IsEntry e × (line ≡ act_line e) → ⊥)
-    → ((r : ℕ × List ℕ) → IsConnection r.0 × IsRefusal r.1 × (line ≡ refused_line r.0 r.1) → ⊥)
+    → ((r : ℕ × Note × List ℕ) → IsConnection r.0 × IsNoteText r.1 r.2 × (line ≡ noted_line r.0 r.1 r.2) → ⊥)
     → ((c : ℕ × List ℕ) → IsConnection c.0 × IsName c.1 × (line ≡ completed_line c.0 c.1) → ⊥)
     → IsWrittenEntry a × (line ≡ entry_line a) → ⊥
-no_entry line (Told n act) told refused completed h = told (n, act) (h.0, h.1)
-no_entry line (Refused n text) told refused completed h = refused (n, text) (h.0.0, h.0.1, h.1)
-no_entry line (Completed n label) told refused completed h = completed (n, label) (h.0.0, h.0.1, h.1)
+no_entry line (Told n act) told noted completed h = told (n, act) (h.0, h.1)
+no_entry line (Noted n note text) told noted completed h = noted (n, note, text) (h.0.0, h.0.1, h.1)
+no_entry line (Completed n label) told noted completed h = completed (n, label) (h.0.0, h.0.1, h.1)
 
 pub byte_test : (a b : ℕ) → Decides (a == b) (a ≡ b)
 byte_test a b = Decides-eqb a b
 
-pub ruleset fields = (touch_back, touch_made, feature_back, feature_made, completed_back, completed_made, refused_number)
+pub ruleset fields = (touch_back, touch_made, feature_back, feature_made, completed_back, completed_made, noted_number)

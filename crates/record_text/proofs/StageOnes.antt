@@ -3,13 +3,15 @@ use Rattle.record_text.proofs.Names.{[], ◌++◌, ◌-◌, ◌∙◌, ◌∷◌
 use Rattle.record_text.proofs.Names.{Completed, completed_line, Completes, contacts, decimal, direction_fields, drop, Entry, entry_back, entry_line}
 use Rattle.record_text.proofs.Names.{feature_line, Follows, frame_fields, head, inl, inr, IsAskedTouch, IsConnection, IsEntry, IsName, IsPointCount}
 use Rattle.record_text.proofs.Names.{IsWrittenEntry, Kept, kind, Leads, length, line_of, List, MadeContact, Next, Option, part_behind, part_line}
-use Rattle.record_text.proofs.Names.{Point, point_fields, pos, refl, Refused, refused_line, Serves, slice_index, Some, Stage, start, subst, sym, Told}
-use Rattle.record_text.proofs.Names.{Touch, touch_fields, touch_line, Unfinished, Wanted, wanted_with, with_touch, within, ℕ}
+use Rattle.record_text.proofs.Names.{Point, point_fields, pos, refl, Noted, noted_line, Note, Serves, slice_index, Some, Stage, start, subst, sym, Told}
+use Rattle.record_text.proofs.Names.{Touch, touch_fields, touch_line, Unfinished, Wanted, wanted_with, with_touch, within, word_of, Bool, true, false, ℕ}
+use Rattle.std.specs.Prelude.{◌||◌, ◌==◌}
 use Rattle.std.proofs.lemmas.Fmt.{decimal_injective}
 use Rattle.contact_ledger.specs.Lines.{fields_of}
 use Rattle.contact_ledger.proofs.OneEntry.{one_entry}
 use Rattle.record_text.specs.Records as records
-use Rattle.record_text.proofs.RecordFields.{append_same, touch_back, feature_back, completed_back, refused_back}
+use Rattle.record_text.proofs.RecordFields.{append_same, touch_back, feature_back, completed_back, noted_back, noted_number, noted_rest, noted_word, one_note}
+use Rattle.record_text.specs.declared.notes.Note.TheVariants as note
 
 -- ---- a line of a head says one thing
 
@@ -64,13 +66,37 @@ one_touch t u h g e =
 
 -- ---- and so does the line of an entry
 
-no_refused : (a : Act) (rest : List (List ℕ)) → act_fields a ≡ codes "REFUSED" ∷ rest → ⊥
-no_refused (Act.HomedIs homed) rest e = let k : 777 ≡ 707 = ap (λ (fs : List (List ℕ)). kind fs) e in omega (arith, k)
-no_refused Act.Homed rest e = let k : 775 ≡ 707 = ap (λ (fs : List (List ℕ)). kind fs) e in omega (arith, k)
-no_refused (Act.Moved target frame) rest e = let k : 865 ≡ 707 = ap (λ (fs : List (List ℕ)). kind fs) e in omega (arith, k)
-no_refused (Act.Changed tool) rest e = let k : 657 ≡ 707 = ap (λ (fs : List (List ℕ)). kind fs) e in omega (arith, k)
-no_refused (Act.Framed frame) rest e = let k : 656 ≡ 707 = ap (λ (fs : List (List ℕ)). kind fs) e in omega (arith, k)
-no_refused (Act.Contact t d n f p) rest e = let k : 787 ≡ 707 = ap (λ (fs : List (List ℕ)). kind fs) e in omega (arith, k)
+-- no act is read as a note
+abbrev is_noted : List ℕ → Bool
+is_noted word = let first = slice_index word 0 in
+    (first == 66) || (first == 68) || (first == 76) || (first == 79) || (first == 80) || (first == 82) || (first == 83)
+
+abbrev first_noted : List (List ℕ) → Bool
+first_noted [] = false
+first_noted (word ∷ fields) = is_noted word
+
+word_noted : (note : Note) → is_noted (word_of note) ≡ true
+word_noted note.Refused = refl
+word_noted note.By = refl
+word_noted note.Operator = refl
+word_noted note.Program = refl
+word_noted note.Setup = refl
+word_noted note.Opened = refl
+word_noted note.Dated = refl
+word_noted note.Left = refl
+
+act_noted : (a : Act) → first_noted (act_fields a) ≡ false
+act_noted (Act.HomedIs homed) = refl
+act_noted Act.Homed = refl
+act_noted (Act.Moved target frame) = refl
+act_noted (Act.Changed tool) = refl
+act_noted (Act.Framed frame) = refl
+act_noted (Act.Contact t d n f p) = refl
+
+no_noted : (a : Act) (note : Note) (rest : List (List ℕ)) → act_fields a ≡ word_of note ∷ rest → ⊥
+no_noted a note rest e =
+    let both : false ≡ true = sym (act_noted a) ∙ ap (λ (fs : List (List ℕ)). first_noted fs) e ∙ word_noted note in
+    absurd cc
 
 no_completed : (a : Act) (rest : List (List ℕ)) → act_fields a ≡ codes "COMPLETED" ∷ rest → ⊥
 no_completed (Act.HomedIs homed) rest e = let k : 777 ≡ 779 = ap (λ (fs : List (List ℕ)). kind fs) e in omega (arith, k)
@@ -80,17 +106,13 @@ no_completed (Act.Changed tool) rest e = let k : 657 ≡ 779 = ap (λ (fs : List
 no_completed (Act.Framed frame) rest e = let k : 656 ≡ 779 = ap (λ (fs : List (List ℕ)). kind fs) e in omega (arith, k)
 no_completed (Act.Contact t d n f p) rest e = let k : 787 ≡ 779 = ap (λ (fs : List (List ℕ)). kind fs) e in omega (arith, k)
 
-refused_fields : (n : ℕ) (text : List ℕ) → IsConnection n → fields_of (refused_line n text) ≡ decimal n ∷ codes "REFUSED" ∷ fields_of text
-unfolding fields_of
-refused_fields n text h = refused_back (refused_line n text) text n h refl
-    ∙ ap (λ (r : List (List ℕ)). decimal n ∷ r) (part_behind 32 (codes "REFUSED") text (omega arith) refl)
-
-told_refused : (n m : ℕ) (a : Act) (text : List ℕ) → IsEntry (n, a) → IsConnection m → act_line (n, a) ≡ refused_line m text → ⊥
-told_refused n m a text h g e =
-    let fields : decimal n ∷ act_fields a ≡ decimal m ∷ codes "REFUSED" ∷ fields_of text =
-    sym (entry_back (act_line (n, a)) n a h refl) ∙ ap (λ (l : List ℕ). fields_of l) e ∙ refused_fields m text g in
-    let same : act_fields a ≡ codes "REFUSED" ∷ fields_of text = cc in
-    no_refused a (fields_of text) same
+told_noted : (n m : ℕ) (a : Act) (note : Note) (text : List ℕ) → IsEntry (n, a) → IsConnection m
+    → act_line (n, a) ≡ noted_line m note text → ⊥
+told_noted n m a note text h g e =
+    let fields : decimal n ∷ act_fields a ≡ decimal m ∷ word_of note ∷ fields_of text =
+    sym (entry_back (act_line (n, a)) n a h refl) ∙ noted_back (act_line (n, a)) text m note g e in
+    let same : act_fields a ≡ word_of note ∷ fields_of text = cc in
+    no_noted a note (fields_of text) same
 
 told_completed : (n m : ℕ) (a : Act) (label : List ℕ) → IsEntry (n, a) → IsConnection m → IsName label
     → act_line (n, a) ≡ completed_line m label → ⊥
@@ -100,25 +122,26 @@ told_completed n m a label h g k e =
     let same : act_fields a ≡ codes "COMPLETED" ∷ label ∷ [] = cc in
     no_completed a (label ∷ []) same
 
-refused_completed : (n m : ℕ) (text label : List ℕ) → IsConnection n → IsConnection m → IsName label
-    → refused_line n text ≡ completed_line m label → ⊥
-refused_completed n m text label h g k e =
-    let fields : decimal n ∷ codes "REFUSED" ∷ fields_of text ≡ decimal m ∷ codes "COMPLETED" ∷ label ∷ [] =
-    sym (refused_fields n text h) ∙ completed_back (refused_line n text) label m g k e in
-    let word : codes "REFUSED" ≡ codes "COMPLETED" = cc in
-    let first : 82 ≡ 67 = ap (λ (t : List ℕ). slice_index t 0) word in
-    omega (arith, first)
+noted_completed : (n m : ℕ) (note : Note) (text label : List ℕ) → IsConnection n → IsConnection m → IsName label
+    → noted_line n note text ≡ completed_line m label → ⊥
+noted_completed n m note text label h g k e =
+    let fields : decimal n ∷ word_of note ∷ fields_of text ≡ decimal m ∷ codes "COMPLETED" ∷ label ∷ [] =
+    sym (noted_back (noted_line n note text) text n note h refl) ∙ completed_back (noted_line n note text) label m g k e in
+    let word : word_of note ≡ codes "COMPLETED" = cc in
+    let both : true ≡ false = sym (word_noted note) ∙ ap (λ (w : List ℕ). is_noted w) word in
+    absurd cc
 
-one_refused : (n m : ℕ) (text other : List ℕ) → IsConnection n → IsConnection m → refused_line n text ≡ refused_line m other
-    → (n ≡ m) × (text ≡ other)
-one_refused n m text other h g e =
-    let fields : decimal n ∷ codes "REFUSED" ∷ fields_of text ≡ decimal m ∷ codes "REFUSED" ∷ fields_of other =
-    sym (refused_fields n text h) ∙ ap (λ (l : List ℕ). fields_of l) e ∙ refused_fields m other g in
-    let number : decimal n ≡ decimal m = cc in
-    let rest : decimal m ++ (codes " REFUSED " ++ text) ≡ decimal m ++ (codes " REFUSED " ++ other) =
-    ap (λ (d : List ℕ). d ++ (codes " REFUSED " ++ text)) (sym number) ∙ e in (
+one_noted : (n m : ℕ) (note other_note : Note) (text other : List ℕ) → IsConnection n → IsConnection m
+    → noted_line n note text ≡ noted_line m other_note other → (n ≡ m) × (note ≡ other_note) × (text ≡ other)
+one_noted n m note other_note text other h g e =
+    let back = noted_back (noted_line n note text) text n note h refl in
+    let number : decimal n ≡ decimal m =
+    noted_number (noted_line n note text) other (decimal n) (word_of note ∷ fields_of text) m other_note back g e in
+    let word : word_of note ≡ word_of other_note =
+    noted_word (noted_line n note text) other (decimal n) (word_of note) (fields_of text) m other_note back g e in (
       decimal_injective n m (omega (arith, h.1)) (omega (arith, g.1)) number,
-      append_same (codes " REFUSED ") text other (append_same (decimal m) (codes " REFUSED " ++ text) (codes " REFUSED " ++ other) rest),
+      one_note note other_note word,
+      noted_rest (noted_line n note text) (decimal n) (word_of note) text other (fields_of text) m other_note back g e refl,
     )
 
 one_completed : (n m : ℕ) (label other : List ℕ) → IsConnection n → IsConnection m → IsName label → IsName other
@@ -132,15 +155,15 @@ one_completed n m label other h g k l e =
 
 pub one_line : (e f : Entry) → IsWrittenEntry e → IsWrittenEntry f → entry_line e ≡ entry_line f → e ≡ f
 one_line (Told n a) (Told m b) h g e = ap (λ (x : ℕ × Act). Told x.0 x.1) (one_entry (n, a) (m, b) h g e)
-one_line (Told n a) (Refused m text) h g e = absurd (told_refused n m a text h g.0 e)
+one_line (Told n a) (Noted m note text) h g e = absurd (told_noted n m a note text h g.0 e)
 one_line (Told n a) (Completed m label) h g e = absurd (told_completed n m a label h g.0 g.1 e)
-one_line (Refused n text) (Told m b) h g e = absurd (told_refused m n b text g h.0 (sym e))
-one_line (Refused n text) (Refused m other) h g e =
-    let same = one_refused n m text other h.0 g.0 e in
-    λ k. Refused (same.0 k) (same.1 k)
-one_line (Refused n text) (Completed m label) h g e = absurd (refused_completed n m text label h.0 g.0 g.1 e)
+one_line (Noted n note text) (Told m b) h g e = absurd (told_noted m n b note text g h.0 (sym e))
+one_line (Noted n note text) (Noted m other_note other) h g e =
+    let same = one_noted n m note other_note text other h.0 g.0 e in
+    λ k. Noted (same.0 k) (same.1 k) (same.2 k)
+one_line (Noted n note text) (Completed m label) h g e = absurd (noted_completed n m note text label h.0 g.0 g.1 e)
 one_line (Completed n label) (Told m b) h g e = absurd (told_completed m n b label g h.0 h.1 (sym e))
-one_line (Completed n label) (Refused m text) h g e = absurd (refused_completed m n text label g.0 h.0 h.1 (sym e))
+one_line (Completed n label) (Noted m note text) h g e = absurd (noted_completed m n note text label g.0 h.0 h.1 (sym e))
 one_line (Completed n label) (Completed m other) h g e =
     let same = one_completed n m label other h.0 g.0 h.1 g.1 e in
     λ k. Completed (same.0 k) (same.1 k)
@@ -178,12 +201,12 @@ one_completes asked old p q n label h g =
 
 one_follows : (asked : List Wanted) (old p q : Kept) (e : Entry) → Follows asked old e p → Follows asked old e q → p ≡ q
 one_follows asked old p q (Told n a) h g = h.2 ∙ sym g.2
-one_follows asked old p q (Refused n text) h g = h.2 ∙ sym g.2
+one_follows asked old p q (Noted n note text) h g = h.2 ∙ sym g.2
 one_follows asked old p q (Completed n label) h g = one_completes asked old p q n label h.1 g.1
 
 pub written_follows : (asked : List Wanted) (old new : Kept) (entry : Entry) → Follows asked old entry new → IsWrittenEntry entry
 written_follows asked old new (Told n act) h = h.0
-written_follows asked old new (Refused n text) h = h.0
+written_follows asked old new (Noted n note text) h = h.0
 written_follows asked old new (Completed n label) h = h.0
 
 -- ---- a line leads to one stage

@@ -3,10 +3,11 @@ use Rattle.std.specs.Prelude.{◌≡◌, ℕ, if◌then◌else◌, Bool, map, Li
 use Rattle.contact_ledger.specs.Lines.{text_of}
 use Rattle.contact_ledger.specs.declared.acts.Act.{Act}
 use Rattle.dmis_program.specs.declared.features.Wanted.{Wanted}
-use Rattle.record_text.specs.Entries.{entry_line, kept_error}
+use Rattle.record_text.specs.Notes.{Says}
+use Rattle.record_text.specs.Entries.{entry_line, error_note}
 use Rattle.record_text.specs.Tellings.{Telling, entries_of, told_on}
 use Rattle.record_text.specs.declared.entries.Entry.{Entry}
-use Rattle.record_text.specs.declared.entries.Entry.TheVariants.{Refused}
+use Rattle.record_text.specs.declared.entries.Entry.TheVariants.{Noted}
 
 -- a record that grows: what is counted of its entries, how many of the acts that the client has counted on its connection have their
 -- lines, and the text
@@ -40,23 +41,23 @@ with_acts wanted counted g = record {
 abbrev pub with_acts_unless : Bool → List Wanted → List Act → Growth → Growth
 with_acts_unless lacks wanted counted g = if lacks then g else with_acts wanted counted g
 
--- the entries of errors that a server reported on the connection of this number
-abbrev pub refusals : ℕ → List (List ℕ) → List Entry
-refusals n [] = []
-refusals n (error ∷ errors) = Refused n (kept_error error) ∷ refusals n errors
+-- the entries of notes on the connection of this number
+abbrev pub noted : ℕ → List Says → List Entry
+noted n [] = []
+noted n ((note, text) ∷ notes) = Noted n note text ∷ noted n notes
 
 -- their lines
-abbrev pub error_lines : ℕ → List (List ℕ) → List ℕ
-error_lines n errors = text_of (map entry_line (refusals n errors))
+abbrev pub note_lines : ℕ → List Says → List ℕ
+note_lines n notes = text_of (map entry_line (noted n notes))
 
--- they are added, as `write_refused` does
-abbrev pub with_errors : List (List ℕ) → Growth → Growth
-with_errors errors g = record {
+-- they are added, as `write_note` does
+abbrev pub with_notes : List Says → Growth → Growth
+with_notes notes g = record {
   telling = g.telling;
   told = g.told;
-  text = g.text ++ error_lines g.telling.connection errors;
+  text = g.text ++ note_lines g.telling.connection notes;
 }
 
--- those of the first errors are added: that many
+-- those of errors that a server reported are added, as many as these: the first
 pub record AddsErrors (errors : List (List ℕ)) (old new : Growth) (count : ℕ) : Type 0 where
-  pub added : new ≡ with_errors (take count errors) old
+  pub added : new ≡ with_notes (map error_note (take count errors)) old

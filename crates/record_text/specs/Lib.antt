@@ -1,4 +1,5 @@
 pub mod Heads
+pub mod Notes
 pub mod Entries
 pub mod Records
 pub mod Reading

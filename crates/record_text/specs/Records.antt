@@ -1,5 +1,5 @@
 -- What the entries of a record leave, one after another (this profile), and which records exist.
-use Rattle.std.specs.Prelude.{◌≡◌, ℕ, ◌+◌, ◌-◌, ◌≤◌, List, [], ◌∷◌, ◌++◌, length, drop, map, slice_get, Option, Some, nat_lt, if◌then◌else◌}
+use Rattle.std.specs.Prelude.{◌≡◌, ℕ, ◌+◌, ◌-◌, ◌≤◌, List, [], ◌∷◌, ◌++◌, length, drop, map, slice_get, Option, Some, nat_lt, if◌then◌else◌, Bool, true, false}
 use Rattle.std.specs.List.{AllByRecursion}
 use Rattle.fixed_um.specs.declared.lengths.Point.{Point}
 use Rattle.fixed_um.specs.declared.frames.Frame.{Frame}
@@ -13,16 +13,19 @@ use Rattle.dmis_program.specs.declared.features.Wanted.{Wanted}
 use Rattle.protocol_model.specs.Claims.{contacts, Serves, Sound}
 use Rattle.protocol_model.specs.Client.{origin_of}
 use Rattle.protocol_model.specs.Undisturbed.{AreUpTo}
+use Rattle.record_text.specs.Notes.{is_error}
+use Rattle.record_text.specs.declared.notes.Note.{Note}
 use Rattle.record_text.specs.Heads.{IsPartGiven, AreAsked, head_lines}
 use Rattle.record_text.specs.Entries.{IsWrittenEntry, entry_line}
 use Rattle.record_text.specs.declared.run_errors.Reported.{Reported}
 use Rattle.record_text.specs.declared.run_errors.RunError.{RunError}
 use Rattle.record_text.specs.declared.entries.Entry.{Entry}
-use Rattle.record_text.specs.declared.entries.Entry.TheVariants.{Told, Refused, Completed}
+use Rattle.record_text.specs.declared.entries.Entry.TheVariants.{Told, Noted, Completed}
+use Rattle.record_text.specs.declared.run_errors.Remark.{Remark}
 
 -- what entries leave: the features completed, the acts reported, how many contacts are used up (those before the last COMPLETED), the
--- connection of the last line, which is 0 if there is no line, the errors reported since the last COMPLETED, and those that were reported
--- during the run of a completed feature
+-- connection of the last line, which is 0 if there is no line, the errors reported since the last COMPLETED, those that were reported
+-- during the run of a completed feature, and the other notes
 pub record Kept : Type 0 where
   pub features : List Feature
   pub told : List (ℕ × Act)
@@ -30,9 +33,10 @@ pub record Kept : Type 0 where
   pub last : ℕ
   pub waiting : List Reported
   pub errors : List RunError
+  pub notes : List Remark
 
 abbrev pub nothing_kept : Kept
-nothing_kept = record { features = []; told = []; used = 0; last = 0; waiting = []; errors = [] }
+nothing_kept = record { features = []; told = []; used = 0; last = 0; waiting = []; errors = []; notes = [] }
 
 -- of errors, those that were reported when more contacts had been reported than these: if that many precede the run of a feature, it had
 -- begun
@@ -58,13 +62,24 @@ pub record IsLastRun (kept : Kept) (wanted : Wanted) (n : ℕ) (points : List Po
   pub unused : kept.used + length wanted.touches ≤ length (contacts kept.told)
   pub serves : Serves n wanted.touches points (drop (length (contacts kept.told) - length wanted.touches) (contacts kept.told))
 
--- what an act, an error and COMPLETED leave
+-- what an act, a note and COMPLETED leave
 abbrev pub with_told : Kept → ℕ → Act → Kept
 with_told old n act = record old { told = old.told ++ (n, act) ∷ []; last = n }
 
-abbrev pub with_refused : Kept → ℕ → List ℕ → Kept
-with_refused old n text =
-    record old { last = n; waiting = old.waiting ++ record { contacts = contact_count old.told; text = text } ∷ [] }
+abbrev pub waiting_with : Bool → ℕ → List ℕ → List Reported → List Reported
+waiting_with true contacts text waiting = waiting ++ record { contacts = contacts; text = text } ∷ []
+waiting_with false contacts text waiting = waiting
+
+abbrev pub notes_with : Bool → (n features : ℕ) → Note → List ℕ → List Remark → List Remark
+notes_with true n features note text notes = notes
+notes_with false n features note text notes = notes ++ record { connection = n; features = features; note = note; text = text } ∷ []
+
+abbrev pub with_noted : Kept → ℕ → Note → List ℕ → Kept
+with_noted old n note text = record old {
+  last = n;
+  waiting = waiting_with (is_error note) (contact_count old.told) text old.waiting;
+  notes = notes_with (is_error note) n (length old.features) note text old.notes;
+}
 
 abbrev pub with_completed : Kept → ℕ → Wanted → List Point → Kept
 with_completed old n wanted points = record {
@@ -75,6 +90,7 @@ with_completed old n wanted points = record {
   waiting = [];
   errors = old.errors
       ++ errors_during wanted.label (contact_count old.told - length wanted.touches) old.waiting;
+  notes = old.notes;
 }
 
 -- COMPLETED can follow: its label is that of the next wanted feature, its connection that of the line before it, and the last contacts
@@ -91,7 +107,7 @@ pub record Completes (asked : List Wanted) (old : Kept) (n : ℕ) (label : List 
 -- an entry follows what is kept, and leaves this; numbers of connections never decrease
 abbrev pub Follows : List Wanted → Kept → Entry → Kept → Type 0
 Follows asked old (Told n act) new = IsWrittenEntry (Told n act) × (old.last ≤ n) × (new ≡ with_told old n act)
-Follows asked old (Refused n text) new = IsWrittenEntry (Refused n text) × (old.last ≤ n) × (new ≡ with_refused old n text)
+Follows asked old (Noted n note text) new = IsWrittenEntry (Noted n note text) × (old.last ≤ n) × (new ≡ with_noted old n note text)
 Follows asked old (Completed n label) new = IsWrittenEntry (Completed n label) × Completes asked old n label new
 
 -- entries follow one another, and leave this
@@ -103,8 +119,8 @@ Follow asked old (entry ∷ entries) new = (mid : Kept) × Follows asked old ent
 abbrev pub record_lines : Option (List ℕ) → List Wanted → List Entry → List (List ℕ)
 record_lines part asked entries = head_lines part asked ++ map entry_line entries
 
--- what a record says: the part, what was asked, the features completed, the acts reported, the last connection, and the errors that were
--- reported during the run of a completed feature
+-- what a record says: the part, what was asked, the features completed, the acts reported, the last connection, the errors that were
+-- reported during the run of a completed feature, and the other notes
 pub record Recorded : Type 0 where
   pub part : Option (List ℕ)
   pub asked : List Wanted
@@ -112,11 +128,12 @@ pub record Recorded : Type 0 where
   pub told : List (ℕ × Act)
   pub last : ℕ
   pub errors : List RunError
+  pub notes : List Remark
 
 -- what a head and what its entries leave say together
 abbrev pub recorded : Option (List ℕ) → List Wanted → Kept → Recorded
 recorded part asked kept =
-    record { part = part; asked = asked; features = kept.features; told = kept.told; last = kept.last; errors = kept.errors }
+    record { part = part; asked = asked; features = kept.features; told = kept.told; last = kept.last; errors = kept.errors; notes = kept.notes }
 
 -- what holds of each record that is read: its claim is sound, its features can be written to a features
 -- file, and no act was reported on a connection after the last

@@ -1,14 +1,15 @@
 // What the entries of a record leave.
 
 ghost use Rattle.std.specs.Prelude.{◌≡◌, ◌++◌, ℕ, Err, IfOk, OnOk, MatchOption};
-ghost use Rattle.record_text.specs.Names.{Finds, IsConnection, Wanted, IsWrittenEntry, nothing_kept, last_frame, errors_during, with_told, with_refused, IsLastRun, Completes, Follows, CanComplete, Damaged};
+ghost use Rattle.record_text.specs.Names.{Finds, IsConnection, Wanted, IsWrittenEntry, nothing_kept, last_frame, errors_during, with_told, with_noted, IsLastRun, Completes, Follows, CanComplete, Damaged};
 ghost use Rattle.record_text.specs.Records.{Kept};
 
 use crate::asked::Asked;
 use crate::comparing::same_name;
-use crate::entries::{Entry, Refusal};
+use crate::entries::{Entry, Printed};
 use crate::faults::RecordFault;
-use crate::run_errors::{Reported, RunError};
+use crate::notes::{Note, is_error};
+use crate::run_errors::{Remark, Reported, RunError};
 use crate::runs::{behind_contacts, last_frame, served_points};
 use contact_ledger::{Act, Feature, FeatureLedger, Origin, Points, ServerLedger};
 use fixed_um::{Frame, Name};
@@ -23,6 +24,7 @@ pub(crate) struct Body {
     pub(crate) told: ServerLedger,
     pub(crate) last: u64,
     pub(crate) errors: Vec<RunError>,
+    pub(crate) notes: Vec<Remark>,
     waiting: Vec<Reported>,
     used: u64,
     from: usize,
@@ -42,6 +44,7 @@ impl Model for Body {
       last = b.last;
       waiting = b.waiting.items;
       errors = b.errors.items;
+      notes = b.notes.items;
     } };
 
     ghost invariant = { λ b. (b.used ≤ length (contacts b.told)) × (b.from ≤ length b.told)
@@ -63,7 +66,7 @@ fn push_during(
     while let [first, others @ ..] = left {
         if before < first.contacts {
             let label = label.copy(alloc)?;
-            let text = Refusal::new(alloc, first.text.as_bytes())?;
+            let text = Printed::new(alloc, first.text.as_bytes())?;
             errors.push(RunError { label, text })?;
         }
         left = others;
@@ -81,6 +84,7 @@ impl Body {
             told: ServerLedger::new(alloc),
             last: 0,
             errors: Vec::new(alloc),
+            notes: Vec::new(alloc),
             waiting: Vec::new(alloc),
             used: 0,
             from: 0,
@@ -142,13 +146,22 @@ impl Body {
         Ok(())
     }
 
-    fn refuse(&mut self, connection: u64, text: Refusal) -> Result<(), AllocError>
+    fn note(&mut self, connection: u64, note: Note, text: Printed) -> Result<(), AllocError>
         requires { IsConnection connection }
-        ensures { OnOk result (self.new ≡ with_refused self.old connection text) }
+        ensures { OnOk result (self.new ≡ with_noted self.old connection note text) }
     {
-        let contacts = self.told.contacts();
-        self.waiting.push(Reported { contacts, text })?;
         self.last = connection;
+        if is_error(note) {
+            let contacts = self.told.contacts();
+            self.waiting.push(Reported { contacts, text })?;
+            return Ok(());
+        }
+        self.notes.push(Remark {
+            connection,
+            features: self.features.list().len() as u64,
+            note,
+            text,
+        })?;
         Ok(())
     }
 
@@ -204,11 +217,11 @@ impl Body {
                 self.tell(connection, act)?;
                 Ok(())
             }
-            Entry::Refused(connection, text) => {
+            Entry::Noted(connection, note, text) => {
                 if connection < self.last {
                     return Err(RecordFault::Damaged(number));
                 }
-                self.refuse(connection, text)?;
+                self.note(connection, note, text)?;
                 Ok(())
             }
             Entry::Completed(connection, label) => {

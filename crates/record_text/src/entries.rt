@@ -2,18 +2,19 @@
 
 ghost use Rattle.std.specs.Prelude.{◌≡◌, IfOk};
 
+use crate::notes::Note;
 use contact_ledger::Act;
 use fixed_um::Name;
 use std::alloc::{AllocError, Global};
 use std::marker::Model;
 
-/// What is kept of an error that a server reported: 1 to 400 bytes from 32 to 126, as they were read. Contracts see the bytes.
+/// What a note says: bytes from 32 to 126, as they were read. Contracts see the bytes.
 #[derive(Debug, Drop)]
-pub struct Refusal {
+pub struct Printed {
     bytes: Vec<u8>,
 }
 
-impl Model for Refusal {
+impl Model for Printed {
     ghost use Rattle.std.specs.Prelude.{ℕ, List};
 
     ghost Value = { List ℕ };
@@ -21,13 +22,13 @@ impl Model for Refusal {
     ghost view = { λ r. r.bytes.items };
 }
 
-impl Refusal {
+impl Printed {
     /// A copy of these bytes. Fails only if out of memory.
-    pub fn new(alloc: Global, text: &[u8]) -> Result<Refusal, AllocError>
-        ensures { IfOk result (λ refusal. refusal ≡ text.now) }
+    pub fn new(alloc: Global, text: &[u8]) -> Result<Printed, AllocError>
+        ensures { IfOk result (λ printed. printed ≡ text.now) }
     {
         let bytes = Vec::from_slice(alloc, text)?;
-        Ok(Refusal { bytes })
+        Ok(Printed { bytes })
     }
 
     /// The bytes.
@@ -43,8 +44,8 @@ impl Refusal {
 pub enum Entry {
     /// An act that the server reported, as it was counted.
     Told(u64, Act),
-    /// An error that the server reported, from its tag on.
-    Refused(u64, Refusal),
+    /// An error that the server reported, or something else besides acts.
+    Noted(u64, Note, Printed),
     /// The wanted feature of this label is complete: its points are those of the last contacts before this line.
     Completed(u64, Name),
 }

@@ -1,18 +1,15 @@
 // Reading the line of an entry.
 
-ghost use Rattle.std.specs.Prelude.{◌≡◌, ◌++◌, codes, MatchOption, IfOk, ℕ, List};
-ghost use Rattle.record_text.specs.Names.{Finds, IsName, IsConnection, IsRefusal, IsWrittenEntry, refused_line, completed_line, entry_line};
+ghost use Rattle.std.specs.Prelude.{◌≡◌, ◌++◌, ◌∷◌, codes, MatchOption, IfOk, ℕ, List};
+ghost use Rattle.record_text.specs.Names.{Finds, IsName, IsConnection, IsNoteText, IsWrittenEntry, noted_line, completed_line, entry_line};
 
-use crate::entries::{Entry, Refusal};
-use crate::parts::is_text;
+use crate::entries::{Entry, Printed};
+use crate::notes::{Note, can_say, note_of};
 use contact_ledger::forms::{Forms, read_name, read_number};
 use contact_ledger::lines::{first_field, next_field};
 use contact_ledger::{CONNECTION_MAX, read_entry};
 use fixed_um::Name;
 use std::alloc::{AllocError, Global};
-
-/// The most bytes that are kept of an error that a server reported (this profile).
-const REFUSAL_MAX: usize = 400;
 
 fn after_prefix<'a>(text: &'a [u8], prefix: &[u8]) -> Option<&'a [u8]>
     ensures { MatchOption result ((rest : List ℕ) → text.now ≡ prefix.now ++ rest → ⊥)
@@ -21,26 +18,47 @@ fn after_prefix<'a>(text: &'a [u8], prefix: &[u8]) -> Option<&'a [u8]>
     text.strip_prefix(prefix)
 }
 
-#[tactic(auto, using(crate::proofs::RecordFields::fields))]
-fn read_refused(alloc: Global, line: &[u8]) -> Result<Option<(u64, Refusal)>, AllocError>
-    ensures { IfOk result (λ found. Finds found (λ r. IsConnection r.0 × IsRefusal r.1
-        × (line.now ≡ refused_line r.0 r.1))) }
+/// What follows the number of a connection and a word, each with the space after it.
+fn text_after<'a>(line: &'a [u8], number: &[u8], word: &[u8]) -> Option<&'a [u8]>
+    ensures { MatchOption result
+        ((rest : List ℕ) → line.now ≡ number.now ++ (32 ∷ (word.now ++ 32 ∷ rest)) → ⊥)
+        (λ rest. line.now ≡ number.now ++ (32 ∷ (word.now ++ 32 ∷ rest.now))) }
 {
-    let (number, _) = first_field(line);
+    let Some(rest) = after_prefix(line, number) else {
+        return None;
+    };
+    let Some(rest) = after_prefix(rest, b" ".as_slice()) else {
+        return None;
+    };
+    let Some(rest) = after_prefix(rest, word) else {
+        return None;
+    };
+    after_prefix(rest, b" ".as_slice())
+}
+
+#[tactic(auto, using(crate::proofs::RecordFields::fields))]
+fn read_noted(alloc: Global, line: &[u8]) -> Result<Option<(u64, Note, Printed)>, AllocError>
+    ensures { IfOk result (λ found. Finds found (λ r. IsConnection r.0 × IsNoteText r.1 r.2
+        × (line.now ≡ noted_line r.0 r.1 r.2))) }
+{
+    let (number, rest) = first_field(line);
     let Some(connection) = read_number(number, CONNECTION_MAX) else {
         return Ok(None);
     };
-    let Some(rest) = after_prefix(line, number) else {
+    let Some((word, _)) = next_field(rest) else {
         return Ok(None);
     };
-    let Some(text) = after_prefix(rest, b" REFUSED ".as_slice()) else {
+    let Some(note) = note_of(word) else {
         return Ok(None);
     };
-    if !is_text(text, REFUSAL_MAX) {
+    let Some(text) = text_after(line, number, word) else {
+        return Ok(None);
+    };
+    if !can_say(note, text) {
         return Ok(None);
     }
-    let refusal = Refusal::new(alloc, text)?;
-    Ok(Some((connection, refusal)))
+    let text = Printed::new(alloc, text)?;
+    Ok(Some((connection, note, text)))
 }
 
 #[tactic(auto, using(crate::proofs::RecordFields::fields))]
@@ -81,8 +99,8 @@ pub(crate) fn read_line(
     if let Some((connection, act)) = read_entry(alloc, forms, line)? {
         return Ok(Some(Entry::Told(connection, act)));
     }
-    if let Some((connection, refusal)) = read_refused(alloc, line)? {
-        return Ok(Some(Entry::Refused(connection, refusal)));
+    if let Some((connection, note, text)) = read_noted(alloc, line)? {
+        return Ok(Some(Entry::Noted(connection, note, text)));
     }
     if let Some((connection, label)) = read_completed(alloc, line)? {
         return Ok(Some(Entry::Completed(connection, label)));

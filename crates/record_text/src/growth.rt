@@ -1,9 +1,12 @@
 // The text of a record that grows during a run.
 
-ghost use Rattle.std.specs.Prelude.{◌≡◌, ℕ, map, length, OnOk, OnErr};
-ghost use Rattle.record_text.specs.Growths.{begun, with_acts, with_errors, AddsErrors};
+ghost use Rattle.std.specs.Prelude.{◌≡◌, ◌∷◌, [], ℕ, map, length, OnOk, OnErr};
+ghost use Rattle.record_text.specs.Growths.{begun, with_acts, with_notes, AddsErrors};
+ghost use Rattle.record_text.specs.Entries.{error_note};
+ghost use Rattle.record_text.specs.Notes.{IsNoteText};
 
-use crate::refusals::write_refused;
+use crate::note_writing::{write_note, write_refused};
+use crate::notes::Note;
 use crate::telling::Telling;
 use client_core::Client;
 use std::alloc::AllocError;
@@ -68,7 +71,8 @@ impl Growth {
 
     /// Adds the lines of errors that the server reported. Fails only if out of memory, and then the first of them are added.
     pub fn tell_errors(&mut self, errors: &[Vec<u8>]) -> Result<(), AllocError>
-        ensures ok { OnOk result (self.new ≡ with_errors (map (λ e. e.items) errors.now) self.old) }
+        ensures ok { OnOk result (self.new
+            ≡ with_notes (map error_note (map (λ e. e.items) errors.now)) self.old) }
         ensures err { OnErr result ((n : ℕ) × AddsErrors (map (λ e. e.items) errors.now) self.old
             self.new n) }
     {
@@ -77,5 +81,15 @@ impl Growth {
             write_refused(&mut self.text, connection, error.as_slice())?;
         }
         Ok(())
+    }
+
+    /// Adds the line of a note that says this. Fails only if out of memory, and then nothing is added.
+    ///
+    /// The caller must ensure that it can say it (`can_say`).
+    pub fn tell_note(&mut self, note: Note, text: &[u8]) -> Result<(), AllocError>
+        ensures ok { OnOk result (self.new ≡ with_notes ((note, text.now) ∷ []) self.old) }
+        ensures err { OnErr result (self.new ≡ self.old) }
+    {
+        write_note(&mut self.text, self.telling.connection(), note, text)
     }
 }

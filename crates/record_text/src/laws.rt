@@ -1,7 +1,9 @@
 // What follows from the definitions alone. Each function has laws for its contract and does nothing.
 
-ghost use Rattle.std.specs.Prelude.{◌≡◌, ◌<◌, ◌++◌, ◌∷◌, [], ℕ, List, Option, codes, length, take};
-ghost use Rattle.record_text.specs.Names.{text_of, Act, Wanted, Point, IsFitting, fitting, kept_error, IsPartGiven, AreAsked, IsRecord, IsUnbegun, IsDamagedRecord, Recorded, IsRecorded, recorded, Kept, nothing_kept, errors_during, with_told, with_completed, Follow, record_lines, ReadsCut, Entry};
+ghost use Rattle.std.specs.Prelude.{◌≡◌, ◌<◌, ◌++◌, ◌∷◌, [], ℕ, List, Option, codes, length, take, true, false};
+ghost use Rattle.record_text.specs.declared.notes.Note.{Note};
+ghost use Rattle.record_text.specs.declared.notes.Note.TheVariants.{Refused, Operator, Program, Setup, Opened, Dated, Left};
+ghost use Rattle.record_text.specs.Names.{text_of, Act, Wanted, Point, IsFitting, fitting, kept_error, IsPartGiven, AreAsked, IsRecord, IsUnbegun, IsDamagedRecord, Recorded, IsRecorded, recorded, Kept, nothing_kept, errors_during, with_told, with_completed, Follow, record_lines, ReadsCut, Entry, has_form, is_time, with_noted};
 
 /// A text is read in one way: it is one record, or not a record yet, or a line of it is the first that is damaged.
 pub fn records_are_read_in_one_way()
@@ -50,4 +52,35 @@ pub fn errors_of_a_run_are_named()
         → (with_completed old n wanted points).waiting ≡ [] }
     ensures kept { (old : Kept) (n : ℕ) (act : Act)
         → (with_told old n act).errors ≡ old.errors }
+{}
+
+/// What notes say has the form of their word: a time is in UTC with milliseconds, a digest has 64 digits to the base of sixteen, and a
+/// connection is made with a server and ends in some way.
+pub fn notes_have_their_forms()
+    ensures time { is_time (codes "2026-11-30T02:28:49.123Z") ≡ true }
+    ensures local { is_time (codes "2026-11-30T02:28:49.123+01:00") ≡ false }
+    ensures short { is_time (codes "2026-11-30T02:28:49Z") ≡ false }
+    ensures dated { has_form Dated (codes "2026-11-30T02:28:49.123Z ") ≡ false }
+    ensures opened { has_form Opened (codes "2026-11-30T02:28:49.123Z cmm1 1294") ≡ true }
+    ensures left { has_form Left (codes "2026-11-30T02:28:49.123Z ") ≡ false }
+    ensures program { has_form Program (codes
+        "a b.dmis 0123456789abcdef0123456789abcdef0123456789abcdef0123456789abcdef") ≡ true }
+    ensures unnamed { has_form Setup (codes
+        " 0123456789abcdef0123456789abcdef0123456789abcdef0123456789abcdef") ≡ false }
+    ensures upper { has_form Setup (codes
+        "a 0123456789abcdef0123456789abcdef0123456789abcdef0123456789abcdeF") ≡ false }
+{}
+
+/// A note measures nothing. One of an error waits for the next `COMPLETED`; another is kept, with how many features are complete above it.
+pub fn notes_measure_nothing()
+    ensures features { (old : Kept) (n : ℕ) (note : Note) (text : List ℕ)
+        → (with_noted old n note text).features ≡ old.features }
+    ensures acts { (old : Kept) (n : ℕ) (note : Note) (text : List ℕ)
+        → (with_noted old n note text).told ≡ old.told }
+    ensures error { (with_noted nothing_kept 3 Refused (codes "00009 !")).waiting
+        ≡ record { contacts = 0; text = codes "00009 !" } ∷ [] }
+    ensures no_note { (with_noted nothing_kept 3 Refused (codes "00009 !")).notes ≡ [] }
+    ensures note { (with_noted nothing_kept 3 Operator (codes "A. B.")).notes
+        ≡ record { connection = 3; features = 0; note = Operator; text = codes "A. B." } ∷ [] }
+    ensures no_error { (with_noted nothing_kept 3 Operator (codes "A. B.")).waiting ≡ [] }
 {}

@@ -1,7 +1,8 @@
 //! The record of a run: what was asked, what the server reported, and which features were completed, as one text that only grows. It is
 //! written line by line during a run, as the client counts, and read back before the next run, which trusts nothing in it.
 //!
-//! - `entries`: `Entry`, what a line after the head says, and `Refusal`
+//! - `entries`: `Entry`, what a line after the head says, and `Printed`, what a note says
+//! - `notes`: what notes are about, and what they can say
 //! - `parts`, `asked`: the part and the wanted features of a head
 //! - `heads`, `head_reading`, `touch_reading`: the head, line by line
 //! - `entry_reading`, `bodies`, `runs`: the entries, line by line, and what they leave
@@ -9,7 +10,7 @@
 //! - `records`, `record_reading`: `Record`, and reading it
 //! - `strangers`: whether a record is that of a part and a program
 //! - `opening`: what a record's text gives a run to continue from, or why the run may not continue it
-//! - `head_writing`, `telling`, `refusals`: writing
+//! - `head_writing`, `telling`, `note_writing`: writing
 //! - `growth`: the text of a record that grows during a run
 //! - `faults`: why a record is refused
 //! - `laws`: what follows from the definitions
@@ -26,11 +27,12 @@ mod head_reading;
 mod head_writing;
 mod heads;
 pub mod laws;
+mod note_writing;
+pub mod notes;
 mod opening;
 mod parts;
 mod record_reading;
 mod records;
-mod refusals;
 pub mod run_errors;
 mod runs;
 mod strangers;
@@ -38,15 +40,16 @@ pub mod telling;
 mod touch_reading;
 
 pub use asked::Asked;
-pub use entries::{Entry, Refusal};
+pub use entries::{Entry, Printed};
 pub use faults::RecordFault;
 pub use growth::Growth;
 pub use head_writing::write_head;
+pub use note_writing::{write_note, write_refused};
+pub use notes::{Note, can_say};
 pub use opening::{Beginning, RecordRefusal, begin_record};
 pub use parts::is_part;
 pub use record_reading::read_record;
 pub use records::Record;
-pub use refusals::write_refused;
-pub use run_errors::RunError;
+pub use run_errors::{Remark, RunError};
 pub use strangers::{is_of_part, other_feature};
 pub use telling::Telling;

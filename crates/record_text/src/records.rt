@@ -7,12 +7,12 @@ use crate::asked::Asked;
 use crate::bodies::Body;
 use crate::heads::Head;
 use crate::parts::Part;
-use crate::run_errors::RunError;
+use crate::run_errors::{Remark, RunError};
 use contact_ledger::{FeatureLedger, ServerLedger};
 use std::marker::Model;
 
 /// A record of a run (this profile): the part, what was asked, the features completed, the acts reported, the greatest connection of a
-/// line, and the errors reported during the run of a feature. Contracts see it as a `Recorded`.
+/// line, the errors reported during the run of a feature, and the other notes. Contracts see it as a `Recorded`.
 #[derive(Debug, Drop)]
 pub struct Record {
     part: Option<Part>,
@@ -21,6 +21,7 @@ pub struct Record {
     told: ServerLedger,
     last: u64,
     errors: Vec<RunError>,
+    notes: Vec<Remark>,
 }
 
 impl Model for Record {
@@ -35,6 +36,7 @@ impl Model for Record {
       told = r.told;
       last = r.last;
       errors = r.errors.items;
+      notes = r.notes.items;
     } };
 }
 
@@ -49,6 +51,7 @@ impl Record {
             told: body.told,
             last: body.last,
             errors: body.errors,
+            notes: body.notes,
         }
     }
 
@@ -95,6 +98,13 @@ impl Record {
         ensures errors { result.now ≡ self.now.errors }
     {
         self.errors.as_slice()
+    }
+
+    /// What else is noted, in order.
+    pub fn notes(&self) -> &[Remark]
+        ensures notes { result.now ≡ self.now.notes }
+    {
+        self.notes.as_slice()
     }
 
     /// The features and the acts.

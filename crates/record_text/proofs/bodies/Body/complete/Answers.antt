@@ -23,3 +23,4 @@ returns-clause-completes c =
     (ap (λ (k : Kept). k.last) same)
     c.clear.ensures.items
     (pushed ∙ ap (λ (k : Kept). k.errors ++ errors_during c.args.label (contact_count k.told - length c.in-Some.points) k.waiting) same)
+    (ap (λ (k : Kept). k.notes) same)

@@ -28,6 +28,7 @@ returns c =
       last = c.self.inside.last;
       waiting = c.self.inside.waiting.items;
       errors = c.self.inside.errors.items;
+      notes = c.self.inside.notes.items;
     } in
     rw (← c.self.view_is) (last_found kept c.args.wanted.now c.args.connection c.self.inside.from
     (c.saturating_sub-unused.result - length c.touches.result.now) c.behind_contacts-acts.result.now c.served_points.result

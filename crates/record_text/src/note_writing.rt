@@ -1,8 +1,10 @@
-// Writing the errors that a server reported.
+// Writing notes, among them the errors that a server reported.
 
 ghost use Rattle.std.specs.Prelude.{◌≡◌, ◌++◌, ◌∷◌, [], OnOk, IfOk, length, string_bytes};
-ghost use Rattle.record_text.specs.Names.{Writes, text_of, visible, kept_error, refused_line};
+ghost use Rattle.record_text.specs.declared.notes.Note.TheVariants as note;
+ghost use Rattle.record_text.specs.Names.{Writes, text_of, visible, kept_error, noted_line};
 
+use crate::notes::Note;
 use itoa::Buffer;
 use session_telling::push_visible;
 use std::alloc::{AllocError, Global};
@@ -10,15 +12,34 @@ use std::alloc::{AllocError, Global};
 /// The most bytes that are kept of an error (this profile).
 const MOST_KEPT: usize = 400;
 
-fn add_refused(line: &mut Vec<u8>, connection: u64, text: &[u8]) -> Result<(), AllocError>
+fn add_note(line: &mut Vec<u8>, connection: u64, note: Note, text: &[u8]) -> Result<(), AllocError>
     ensures { OnOk result (line.new.items ≡ line.old.items
-        ++ text_of (refused_line connection text.now ∷ [])) }
+        ++ text_of (noted_line connection note text.now ∷ [])) }
 {
     let mut buffer = Buffer::new();
     line.extend_from_slice(buffer.format(connection).as_bytes())?;
-    line.extend_from_slice(b" REFUSED ")?;
+    line.push(b' ')?;
+    line.extend_from_slice(note.word())?;
+    line.push(b' ')?;
     line.extend_from_slice(text)?;
     line.push(b'\n')?;
+    Ok(())
+}
+
+/// Appends the line of a note on the connection of this number, which says this text.
+///
+/// The caller must ensure that it can say it (`can_say`). Fails only if out of memory, and then nothing is appended.
+pub fn write_note(
+    out: &mut Vec<u8>,
+    connection: u64,
+    note: Note,
+    text: &[u8],
+) -> Result<(), AllocError>
+    ensures { Writes result out.old out.new (text_of (noted_line connection note text.now ∷ [])) }
+{
+    let mut line = Vec::new(*out.allocator());
+    add_note(&mut line, connection, note, text)?;
+    out.extend_from_slice(line.as_slice())?;
     Ok(())
 }
 
@@ -53,11 +74,8 @@ fn kept_of(alloc: Global, text: &[u8]) -> Result<String, AllocError>
 /// Fails only if out of memory, and then nothing is appended.
 pub fn write_refused(out: &mut Vec<u8>, connection: u64, text: &[u8]) -> Result<(), AllocError>
     ensures { Writes result out.old out.new
-        (text_of (refused_line connection (kept_error text.now) ∷ [])) }
+        (text_of (noted_line connection note.Refused (kept_error text.now) ∷ [])) }
 {
     let kept = kept_of(*out.allocator(), text)?;
-    let mut line = Vec::new(*out.allocator());
-    add_refused(&mut line, connection, kept.as_bytes())?;
-    out.extend_from_slice(line.as_slice())?;
-    Ok(())
+    write_note(out, connection, Note::Refused, kept.as_bytes())
 }
