@@ -1,16 +1,8 @@
-// Which program this is. `tools/release` writes the commit and the toolchain.
+// Which program this is.
 
 use crate::faults::Fault;
+use dme_words::{COMMIT, TOOLCHAIN, VERSION};
 use order_parts::OrderFault;
-
-/// The version of `dme`.
-const VERSION: &str = "1.0.0";
-
-/// The commit whose sources a release was built from; a program that is built between two releases knows neither its own nor its toolchain.
-const COMMIT: &str = "not a release";
-
-/// The toolchain that has proved and built a release, as `rt version` prints it.
-const TOOLCHAIN: &str = "not a release";
 
 /// Whether the words of a command line ask for the version alone.
 pub fn is_asked(words: &[String]) -> bool {

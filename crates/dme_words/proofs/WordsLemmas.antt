@@ -8,7 +8,7 @@ use Rattle.std.specs.declared.alloc.Global.{Global}
 use Rattle.clap.specs.declared.parser.matches.ArgMatches.{ArgMatches}
 use Rattle.dme_words.specs.declared.orders.Order.{Order}
 use Rattle.dme_words.specs.declared.words.WordsFault.{WordsFault}
-use Rattle.dme_words.specs.declared.words.WordsFault.TheVariants.{Control, Line, Memory, Misfits, NoCode, NoFindingForm, NoForm, NoPart, NoSeconds}
+use Rattle.dme_words.specs.declared.words.WordsFault.TheVariants.{Control, Line, Memory, Misfits, NoCode, NoFindingForm, NoForm, NoName, NoSeconds}
 use Rattle.clap.specs.declared.error.Error.{Error}
 use Rattle.clap.specs.declared.error.kind.ErrorKind.TheVariants.{OutOfMemory}
 use Rattle.dme_words.proofs.AskedLemmas.{asked}
@@ -49,7 +49,8 @@ no_line p told (inr (inl (is, none))) = none
 no_line p told (inr (inr (inl (is, none)))) = none
 no_line p told (inr (inr (inr (inl (is, inl (inl none)))))) = none
 no_line p told (inr (inr (inr (inl (is, inl (inr (inl none))))))) = none
-no_line p told (inr (inr (inr (inl (is, inl (inr (inr none))))))) = none
+no_line p told (inr (inr (inr (inl (is, inl (inr (inr (inl none)))))))) = none
+no_line p told (inr (inr (inr (inl (is, inl (inr (inr (inr none)))))))) = none
 no_line p told (inr (inr (inr (inl (is, inr none))))) = none
 no_line p told (inr (inr (inr (inr (inl (is, none)))))) = none
 no_line p told (inr (inr (inr (inr (inr (inl (is, none))))))) = none
@@ -62,7 +63,8 @@ no_control p shown (inr (inl (is, none))) = none
 no_control p shown (inr (inr (inl (is, none)))) = none
 no_control p shown (inr (inr (inr (inl (is, inl (inl none)))))) = none
 no_control p shown (inr (inr (inr (inl (is, inl (inr (inl none))))))) = none
-no_control p shown (inr (inr (inr (inl (is, inl (inr (inr none))))))) = none
+no_control p shown (inr (inr (inr (inl (is, inl (inr (inr (inl none)))))))) = none
+no_control p shown (inr (inr (inr (inl (is, inl (inr (inr (inr none)))))))) = none
 no_control p shown (inr (inr (inr (inl (is, inr none))))) = none
 no_control p shown (inr (inr (inr (inr (inl (is, none)))))) = none
 no_control p shown (inr (inr (inr (inr (inr (inl (is, none))))))) = none
@@ -86,7 +88,7 @@ refused_value a words m (NoCode code) is none has asks = has_no_value a words m 
 refused_value a words m (NoForm word) is none has asks = has_no_value a words m (NoForm word) is none has asks
 refused_value a words m (NoFindingForm word) is none has asks = has_no_value a words m (NoFindingForm word) is none has asks
 refused_value a words m (NoSeconds option text) is none has asks = has_no_value a words m (NoSeconds option text) is none has asks
-refused_value a words m (NoPart part) is none has asks = has_no_value a words m (NoPart part) is none has asks
+refused_value a words m (NoName option text) is none has asks = has_no_value a words m (NoName option text) is none has asks
 refused_value a words m (Misfits why) is none has asks = has_no_value a words m (Misfits why) is none has asks
 
 -- what is asked or refused, by the answer of a parse
@@ -114,5 +116,5 @@ asked_or_refused a words (Err error) (Err (NoCode code)) is kinds has order_is t
 asked_or_refused a words (Err error) (Err (NoForm word)) is kinds has order_is taken called = absurd called
 asked_or_refused a words (Err error) (Err (NoFindingForm word)) is kinds has order_is taken called = absurd called
 asked_or_refused a words (Err error) (Err (NoSeconds option text)) is kinds has order_is taken called = absurd called
-asked_or_refused a words (Err error) (Err (NoPart part)) is kinds has order_is taken called = absurd called
+asked_or_refused a words (Err error) (Err (NoName option text)) is kinds has order_is taken called = absurd called
 asked_or_refused a words (Err error) (Err (Misfits why)) is kinds has order_is taken called = absurd called

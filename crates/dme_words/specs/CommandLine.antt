@@ -66,12 +66,12 @@ serve_line = line_of (codes "serve") (needed_rule (codes "setup") ∷ text_rule 
     ∷ flag_rule (codes "endless") ∷ text_rule (codes "contacts") ∷ flag_rule (codes "progress") ∷ flag_rule (codes "trace") ∷ text_rule (codes "log")
     ∷ text_rule (codes "timeout") ∷ text_rule (codes "stop") ∷ flag_rule (codes "explain") ∷ [])
 
--- `run --setup FILE --host H --port N [--window W] [--features FILE] [--record FILE] [--part TEXT] [--contacts FILE] [--progress] [--trace]
--- [--log FILE] [--timeout SECONDS] [--wait SECONDS] [--stop FILE] [--confirm] [--pause] [--explain] [PROGRAM]`
+-- `run --setup FILE --host H --port N [--window W] [--features FILE] [--record FILE] [--part TEXT] [--operator TEXT] [--contacts FILE]
+-- [--progress] [--trace] [--log FILE] [--timeout SECONDS] [--wait SECONDS] [--stop FILE] [--confirm] [--pause] [--explain] [PROGRAM]`
 abbrev pub run_line : App
 run_line = line_of (codes "run") (needed_rule (codes "setup") ∷ needed_rule (codes "host") ∷ port_rule ∷ window_rule
-    ∷ text_rule (codes "features") ∷ text_rule (codes "record") ∷ text_rule (codes "part") ∷ text_rule (codes "contacts")
-    ∷ flag_rule (codes "progress") ∷ flag_rule (codes "trace") ∷ text_rule (codes "log") ∷ text_rule (codes "timeout")
+    ∷ text_rule (codes "features") ∷ text_rule (codes "record") ∷ text_rule (codes "part") ∷ text_rule (codes "operator")
+    ∷ text_rule (codes "contacts") ∷ flag_rule (codes "progress") ∷ flag_rule (codes "trace") ∷ text_rule (codes "log") ∷ text_rule (codes "timeout")
     ∷ text_rule (codes "wait") ∷ text_rule (codes "stop") ∷ flag_rule (codes "confirm") ∷ flag_rule (codes "pause")
     ∷ flag_rule (codes "explain") ∷ program_rule ∷ [])
 

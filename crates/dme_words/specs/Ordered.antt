@@ -39,7 +39,7 @@ use Rattle.dme_words.specs.declared.orders.Service.{Service}
 use Rattle.dme_words.specs.declared.orders.Simulation.{Simulation}
 use Rattle.dme_words.specs.declared.orders.Watch.{Watch}
 use Rattle.dme_words.specs.declared.words.WordsFault.{WordsFault}
-use Rattle.dme_words.specs.declared.words.WordsFault.TheVariants.{Control, Line, Memory, Misfits, NoCode, NoFindingForm, NoForm, NoPart, NoSeconds}
+use Rattle.dme_words.specs.declared.words.WordsFault.TheVariants.{Control, Line, Memory, Misfits, NoCode, NoFindingForm, NoForm, NoName, NoSeconds}
 use Rattle.dme_words.specs.declared.misfits.Misfit.{Misfit}
 use Rattle.dme_words.specs.declared.misfits.Misfit.TheVariants as misfit
 use Rattle.dme_words.specs.declared.misfits.Lacks.{Lacks}
@@ -152,17 +152,22 @@ is_lacking id rows = not (is_some (first_of id rows))
 abbrev pub NamesItsPart : List Row → Type 0
 NamesItsPart rows = is_lacking (codes "record") rows ≡ is_lacking (codes "part") rows
 
--- the part is the value of `--part`, if one is named, and may be one
-abbrev pub IsPartOf : List Row → Option Text → Type 0
-IsPartOf rows part = IsMaybeOf (codes "part") rows part × IsPartGiven part
+-- an operator is named only if a record is
+abbrev pub KeepsItsOperator : List Row → Type 0
+KeepsItsOperator rows = is_lacking (codes "record") rows ≡ true → is_lacking (codes "operator") rows ≡ true
+
+-- the value of the option with this id, if there is one, and it may be the name of a part
+abbrev pub IsGivenOf : Text → List Row → Option Text → Type 0
+IsGivenOf id rows text = IsMaybeOf id rows text × IsPartGiven text
 
 -- a run of the program against the server at the named host and port, with the named setup and window, and the named file of features,
--- record with its part, file for the reported contacts, log, time limits and stop file, if any
+-- record with its part and operator, file for the reported contacts, log, time limits and stop file, if any
 abbrev pub IsRunOf : List Row → Run → Type 0
 IsRunOf rows o =
     IsValueOf (codes "setup") rows (string_bytes o.setup) × IsValueOf (codes "host") rows (string_bytes o.host) × IsNumberOf (codes "port") 65535 rows o.port
     × IsWindowOf rows o.window × IsMaybeOf (codes "features") rows (option_map string_bytes o.features)
-    × IsMaybeOf (codes "record") rows (option_map string_bytes o.record) × IsPartOf rows (option_map string_bytes o.part)
+    × IsMaybeOf (codes "record") rows (option_map string_bytes o.record) × IsGivenOf (codes "part") rows (option_map string_bytes o.part)
+    × IsGivenOf (codes "operator") rows (option_map string_bytes o.operator)
     × IsMaybeOf (codes "contacts") rows (option_map string_bytes o.contacts)
     × IsFlagOf (codes "progress") rows o.progress × IsFlagOf (codes "trace") rows o.trace
     × IsMaybeOf (codes "log") rows (option_map string_bytes o.log)
@@ -264,7 +269,7 @@ IsNamedOrderOf p (order.Audit o) = (p.0 ≡ codes "audit") × IsAuditOf p.1 o
 IsNamedOrderOf p (order.AuditRecord o) = (p.0 ≡ codes "audit") × IsRecordAuditOf p.1 o
 IsNamedOrderOf p (order.Loop o) = (p.0 ≡ codes "loop") × IsLoopOf p.1 o
 IsNamedOrderOf p (order.Serve o) = (p.0 ≡ codes "serve") × IsServeOf p.1 o
-IsNamedOrderOf p (order.Run o) = (p.0 ≡ codes "run") × IsRunOf p.1 o × NamesItsPart p.1
+IsNamedOrderOf p (order.Run o) = (p.0 ≡ codes "run") × IsRunOf p.1 o × NamesItsPart p.1 × KeepsItsOperator p.1
 IsNamedOrderOf p (order.Explain topic) = (p.0 ≡ codes "explain") × IsExplainOf p.1 topic
 IsNamedOrderOf p (order.Export o) = (p.0 ≡ codes "export") × IsExportOf p.1 o
 IsNamedOrderOf p (order.ExportRecord o) = (p.0 ≡ codes "export") × IsRecordExportOf p.1 o
@@ -428,6 +433,7 @@ IsMisfitOf fits _ = ⊥
 abbrev pub RunMisfits : List Row → Misfit → Type 0
 RunMisfits rows misfit.RecordWithoutPart = HasValue (codes "record") rows × HasNone (codes "part") rows
 RunMisfits rows misfit.PartWithoutRecord = HasValue (codes "part") rows × HasNone (codes "record") rows
+RunMisfits rows misfit.OperatorWithoutRecord = HasValue (codes "operator") rows × HasNone (codes "record") rows
 RunMisfits rows _ = ⊥
 
 -- the value of the option with this id is no number of seconds; or memory ran out
@@ -437,16 +443,18 @@ HasNoSeconds id rows (NoSeconds option text) =
 HasNoSeconds id rows Memory = Unit {0}
 HasNoSeconds id rows _ = ⊥
 
--- the named text may not be a part; or memory ran out
-abbrev pub HasNoPart : List Row → WordsFault → Type 0
-HasNoPart rows (NoPart part) = IsValueOf (codes "part") rows (string_bytes part) × (IsPart (string_bytes part) → ⊥)
-HasNoPart rows Memory = Unit {0}
-HasNoPart rows _ = ⊥
+-- the value of the option with this id may not be the name of a part; or memory ran out
+abbrev pub HasNoName : Text → List Row → WordsFault → Type 0
+HasNoName id rows (NoName option text) =
+    (option.now ≡ id) × IsValueOf id rows (string_bytes text) × (IsPart (string_bytes text) → ⊥)
+HasNoName id rows Memory = Unit {0}
+HasNoName id rows _ = ⊥
 
 -- a value of a run is bad
 abbrev pub HasNoRunValue : List Row → WordsFault → Type 0
 HasNoRunValue rows fault =
-    HasNoSeconds (codes "timeout") rows fault ⊎ HasNoSeconds (codes "wait") rows fault ⊎ HasNoPart rows fault
+    HasNoSeconds (codes "timeout") rows fault ⊎ HasNoSeconds (codes "wait") rows fault ⊎ HasNoName (codes "part") rows fault
+    ⊎ HasNoName (codes "operator") rows fault
 
 -- likewise, or the options of a run do not go together
 abbrev pub HasNoRun : List Row → WordsFault → Type 0

@@ -3,6 +3,7 @@
 //! - `line`: the command line, as `clap` is given it
 //! - `orders`: what words ask for; `misfits`: options that do not go together
 //! - `examples`: rows of what they ask for
+//! - `version`: which program this is
 //! - `words`: which of these the words of a command line ask for, or why they ask for nothing
 #![tactic(auto)]
 
@@ -10,6 +11,7 @@ pub mod examples;
 mod line;
 pub mod misfits;
 pub mod orders;
+mod version;
 pub mod words;
 
 pub use misfits::{Lacks, Misfit};
@@ -17,4 +19,5 @@ pub use orders::{
     Audit, Check, Export, Judge, Ledger, Loop, Lower, Order, PartReport, RecordAudit, RecordExport,
     RecordForm, Review, Run, Service, Simulation, Watch,
 };
+pub use version::{COMMIT, TOOLCHAIN, VERSION};
 pub use words::{WordsFault, read_words};

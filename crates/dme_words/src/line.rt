@@ -97,6 +97,9 @@ const KEPT_HELP: &str = "The record of the run: begun, or continued from what it
 
 const PART_HELP: &str = "Which part is measured: 1 to 64 printable bytes, kept in the record";
 
+const OPERATOR_HELP: &str =
+    "Who operates the machine: 1 to 64 printable bytes. The record then also has the program, the setup, the server and the times";
+
 const REPORTED_HELP: &str = "The file that the contacts which the server reports are written to";
 
 const WINDOW_HELP: &str = "How many commands may be open at once, from 1 to 16";
@@ -265,6 +268,7 @@ const LINES: [Line; 6] = [
             Text("features", "FILE", FEATURES_HELP),
             Text("record", "FILE", KEPT_HELP),
             Text("part", "TEXT", PART_HELP),
+            Text("operator", "TEXT", OPERATOR_HELP),
             Text("contacts", "FILE", REPORTED_HELP),
             PROGRESS,
             TRACE,

@@ -26,6 +26,8 @@ pub enum Misfit {
     RecordWithoutPart,
     /// A run with `--part` and without `--record`.
     PartWithoutRecord,
+    /// A run with `--operator` and without `--record`.
+    OperatorWithoutRecord,
     /// `--as features` without `--record`.
     FeaturesWithoutRecord,
     /// `--as contacts` without `--record`.
@@ -80,6 +82,9 @@ impl fmt::Display for Misfit {
             }
             Misfit::PartWithoutRecord => {
                 "the argument '--part <TEXT>' requires '--record <FILE>'"
+            }
+            Misfit::OperatorWithoutRecord => {
+                "the argument '--operator <TEXT>' requires '--record <FILE>'"
             }
             Misfit::FeaturesWithoutRecord => {
                 "the argument '--as features' requires '--record <FILE>'"

@@ -157,6 +157,8 @@ pub struct Run {
     pub record: Option<String>,
     /// Which part is measured, as the record has it: 1 to 64 printable bytes.
     pub part: Option<String>,
+    /// Who operates the machine, as the record has it with what else is known of the run: 1 to 64 printable bytes.
+    pub operator: Option<String>,
     /// The file that the contacts which the server reports are written to; `-` is a file of that name.
     pub contacts: Option<String>,
     /// Whether it reports how far it is.

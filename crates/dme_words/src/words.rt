@@ -6,7 +6,7 @@ ghost use Rattle.clap.specs.Words.{first_of, found_of, rows_of, subcommand_rows_
 ghost use Rattle.client_core.specs.Clients.{is_window};
 ghost use Rattle.dme_words.specs.Ordered as spec;
 ghost use Rattle.dme_words.specs.CommandLine.{audit_line, check_line, explain_line, export_line, judge_line, ledger_line, loop_line, lower_line, report_line, run_line, serve_line, simulate_line, watch_line};
-ghost use Rattle.dme_words.specs.Ordered.{Asks, AsksForNothing, ExportMisfits, Has, HasFlag, HasNoAudit, HasNoExport, HasNoPart, HasNoReview, HasNoRun, HasNoRunValue, HasNoSeconds, HasNoTopic, HasNone, HasNumber, HasValue, IsAnyAuditOf, IsAnyExportOf, IsAskable, IsCalled, IsCheckOf, IsCodeOf, IsConnectionsOf, IsExplainOf, IsFindingFormOf, IsFlagOf, IsJudgeOf, IsLaterAskable, IsLedgerOf, IsLoopOf, IsLowerOf, IsMaybeOf, IsNoCode, IsNoForm, IsNoSeconds, IsNumber, IsNumberOf, IsOrderOf, IsPartOf, IsProgramOf, IsReady, IsRefusal, IsRefusedOf, IsReportOf, IsReviewOf, IsRunOf, IsSecondsOf, IsServeOf, IsSimulateOf, IsValueOf, IsWatchOf, IsWindowOf, NamesItsPart, form_word, is_lacking};
+ghost use Rattle.dme_words.specs.Ordered.{Asks, AsksForNothing, ExportMisfits, Has, HasFlag, HasNoAudit, HasNoExport, HasNoName, HasNoReview, HasNoRun, HasNoRunValue, HasNoSeconds, HasNoTopic, HasNone, HasNumber, HasValue, IsAnyAuditOf, IsAnyExportOf, IsAskable, IsCalled, IsCheckOf, IsCodeOf, IsConnectionsOf, IsExplainOf, IsFindingFormOf, IsFlagOf, IsGivenOf, IsJudgeOf, IsLaterAskable, IsLedgerOf, IsLoopOf, IsLowerOf, IsMaybeOf, IsNoCode, IsNoForm, IsNoSeconds, IsNumber, IsNumberOf, IsOrderOf, IsProgramOf, IsReady, IsRefusal, IsRefusedOf, IsReportOf, IsReviewOf, IsRunOf, IsSecondsOf, IsServeOf, IsSimulateOf, IsValueOf, IsWatchOf, IsWindowOf, KeepsItsOperator, NamesItsPart, form_word, is_lacking};
 
 use crate::line::whole_command;
 use crate::misfits::{Lacks, Misfit};
@@ -45,8 +45,8 @@ pub enum WordsFault {
     NoFindingForm(String),
     /// A text that is no number of seconds, and the option that it was given to.
     NoSeconds(&'static str, String),
-    /// A text that may not be a part.
-    NoPart(String),
+    /// A text that may not be the name of a part or of an operator, and the option that it was given to.
+    NoName(&'static str, String),
     /// Options that do not go together.
     Misfits(Misfit),
     /// Out of memory.
@@ -92,9 +92,10 @@ impl fmt::Display for WordsFault {
                 f,
                 "error: invalid value '{text}' for '--{option} <SECONDS>': a number from 1 to 86400\n\nFor more information, try '--help'.\n"
             ),
-            WordsFault::NoPart(part) => {
-                write_value(f, part, "--part <TEXT>", ": 1 to 64 printable bytes")
-            }
+            WordsFault::NoName(option, text) => write!(
+                f,
+                "error: invalid value '{text}' for '--{option} <TEXT>': 1 to 64 printable bytes\n\nFor more information, try '--help'.\n"
+            ),
             WordsFault::Misfits(why) => write!(f, "{why}"),
             WordsFault::Memory => f.write_str("dme: out of memory\n"),
         }
@@ -363,17 +364,21 @@ fn serve_order(alloc: Global, values: &ArgMatches) -> Result<Service, WordsFault
     })
 }
 
-fn part_of(alloc: Global, values: &ArgMatches) -> Result<Option<String>, WordsFault>
-    ensures named { IfOk result (λ part. IsPartOf (rows_of (found_of values.now))
-        (option_map string_bytes part)) }
-    ensures none { IfErr result (HasNoPart (rows_of (found_of values.now))) }
+fn given_of(
+    alloc: Global,
+    values: &ArgMatches,
+    id: &'static str,
+) -> Result<Option<String>, WordsFault>
+    ensures named { IfOk result (λ text. IsGivenOf id.now (rows_of (found_of values.now))
+        (option_map string_bytes text)) }
+    ensures none { IfErr result (HasNoName id.now (rows_of (found_of values.now))) }
 {
-    match copied_maybe(alloc, values, "part")? {
-        Some(part) => {
-            if is_part(part.as_bytes()) {
-                Ok(Some(part))
+    match copied_maybe(alloc, values, id)? {
+        Some(text) => {
+            if is_part(text.as_bytes()) {
+                Ok(Some(text))
             } else {
-                Err(WordsFault::NoPart(part))
+                Err(WordsFault::NoName(id, text))
             }
         }
         None => Ok(None),
@@ -397,7 +402,8 @@ fn run_values(alloc: Global, values: &ArgMatches) -> Result<Run, WordsFault>
         window: window_of(values),
         features: copied_maybe(alloc, values, "features")?,
         record: copied_maybe(alloc, values, "record")?,
-        part: part_of(alloc, values)?,
+        part: given_of(alloc, values, "part")?,
+        operator: given_of(alloc, values, "operator")?,
         contacts: copied_maybe(alloc, values, "contacts")?,
         progress: flag_of(values, "progress"),
         trace: flag_of(values, "trace"),
@@ -412,18 +418,22 @@ fn run_values(alloc: Global, values: &ArgMatches) -> Result<Run, WordsFault>
     })
 }
 
-/// The values of `run`. A record is of a part, so that its points are not taken for those of another, and a part is that of a record.
+/// The values of `run`. A record is of a part, so that its points are not taken for those of another; a part and an operator are those of a
+/// record.
 fn run_order(alloc: Global, values: &ArgMatches) -> Result<Run, WordsFault>
     requires { Has run_line (rows_of (found_of values.now)) }
     ensures named { IfOk result (IsRunOf (rows_of (found_of values.now))) }
     ensures part { OnOk result (NamesItsPart (rows_of (found_of values.now))) }
+    ensures operator { OnOk result (KeepsItsOperator (rows_of (found_of values.now))) }
     ensures ready { IfOk result (λ order. (1 ≤ order.port)
         × (is_window order.window ≡ true)) }
     ensures none { IfErr result (HasNoRun (rows_of (found_of values.now))) }
 {
+    let has_operator = !is_lacking(values, "operator");
     match (is_lacking(values, "record"), is_lacking(values, "part")) {
         (false, true) => Err(WordsFault::Misfits(Misfit::RecordWithoutPart)),
         (true, false) => Err(WordsFault::Misfits(Misfit::PartWithoutRecord)),
+        (true, true) if has_operator => { Err(WordsFault::Misfits(Misfit::OperatorWithoutRecord)) }
         (true, true) => run_values(alloc, values),
         (false, false) => run_values(alloc, values),
     }
