@@ -1,8 +1,9 @@
 -- Errors of a server, and their lines.
 use Rattle.run_session.proofs.Names.{[], ◌%◌, ◌&&◌, ◌++◌, ◌-◌, ◌/◌, ◌<◌, ◌==◌, ◌∙◌, ◌∷◌, ◌≡◌, ◌≤◌, agree_below_at, ap₂, arith, Bool, cond, false}
-use Rattle.run_session.proofs.Names.{false≢true, fitting, get_or, is_printed, IsRefusal, kept_error, length, length-append, List, list_all, nat_le}
+use Rattle.run_session.proofs.Names.{false≢true, fitting, get_or, HaveLines, is_printed, kept_error, length, length-append, List, list_all, nat_le}
 use Rattle.run_session.proofs.Names.{not, refl, suc, true, w8, ℕ}
 use Rattle.std.proofs.Common.{Fits}
+use Rattle.record_text.specs.Heads.{IsPrinted}
 use Rattle.std.proofs.lemmas.Bool.Decides.{nat_tests}
 use Rattle.std.proofs.lemmas.List.Folds.{list_all-append}
 use Rattle.session_telling.specs.Visible.{hex_digit, visible}
@@ -48,7 +49,7 @@ some_first false shown more h some = absurd (false≢true h)
 below_400 : (n : ℕ) → n ≤ 4 → n ≤ 400
 below_400 n h = omega (arith, h)
 
-pub has_refusal : (bytes : List ℕ) → ((k : ℕ) → Fits w8 (get_or bytes k 0)) → 1 ≤ length bytes → IsRefusal (kept_error bytes)
+pub has_refusal : (bytes : List ℕ) → ((k : ℕ) → Fits w8 (get_or bytes k 0)) → 1 ≤ length bytes → IsPrinted 400 (kept_error bytes)
 has_refusal [] fits some = absurd (omega (arith, some))
 has_refusal (b ∷ bytes) fits some = record {
   some = some_first (nat_le (length (visible b)) 400) (visible b) _
@@ -59,7 +60,7 @@ has_refusal (b ∷ bytes) fits some = record {
 
 -- an error that is not empty
 pub has_line : (bytes : List ℕ) (none : Bool) → ((k : ℕ) → Fits w8 (get_or bytes k 0)) → none ≡ (length bytes == 0) → not none ≡ true
-    → IsRefusal (kept_error bytes)
+    → HaveLines (bytes ∷ [])
 has_line [] true fits is some = absurd (false≢true some)
 has_line [] false fits is some = absurd (false≢true is)
-has_line (b ∷ bytes) none fits is some = has_refusal (b ∷ bytes) fits (omega arith)
+has_line (b ∷ bytes) none fits is some = (record { printed = has_refusal (b ∷ bytes) fits (omega arith); form = refl }, tt)

@@ -4,28 +4,28 @@ use Rattle.effects.specs.declared.vocabulary.Answer.TheVariants as answer
 use Rattle.run_session.proofs.Names.{HasFiled}
 use Rattle.run_session.specs.Records.{answered, Grown, is_done, is_record, Listed, marked, marked_at, Origin, Record, Report, Whole, with_marks, Write}
 use Rattle.run_session.proofs.Names.{[], ◌++◌, ◌∙◌, ◌∷◌, ◌≡◌, ◌≤◌, ◌⊎◌, Act, AddsErrors, ap, append-nil, append_assoc, arith, At, begins, Book, Bool}
-use Rattle.run_session.proofs.Names.{Bytes, calls, ClientEnd, cond, confirms, Done, drop, drop-append_seam, End, Err, error_lines, Failed, false}
+use Rattle.run_session.proofs.Names.{Bytes, calls, ClientEnd, cond, confirms, Done, drop, drop-append_seam, End, Err, error_note, Failed, false}
 use Rattle.run_session.proofs.Names.{false≢true, filed, filed_by, Found, GoesOn, Growth, HasReported, HaveLines, inl, inr, IsKept, IsQuiet, IsRun, IsRunOf, IsSafe, Keeps, lacking}
 use Rattle.run_session.proofs.Names.{length, List, Missing, new_lines, None, Nothing, of_file, Ok, OnErr, OnOk, Option, outcome, outcome_by, Outside}
 use Rattle.run_session.proofs.Names.{Pair, Ran, refl, Reply, Reports, Result, Short, Some, Stage, State, subst, suc, sym, take, take-append-drop, tells}
-use Rattle.run_session.proofs.Names.{the_reply, told_now, told_unless, Took, true, with_acts, with_errors, writes, zero, ℕ}
+use Rattle.run_session.proofs.Names.{the_reply, told_now, told_unless, Took, true, AreSaid, IsNoteText, map, note_lines, Says, with_acts, with_notes, writes, zero, ℕ}
 
 -- lines are added at the end
-grown_by : (lacks : Bool) (e : ClientEnd) (errors : List (List ℕ)) (g : Growth)
-    → (more : List ℕ) × ((with_errors errors (told_unless lacks e g)).text ≡ g.text ++ more)
-grown_by true e errors g = (error_lines g.telling.connection errors, refl)
-grown_by false e errors g =
+grown_by : (lacks : Bool) (e : ClientEnd) (notes : List Says) (g : Growth)
+    → (more : List ℕ) × ((with_notes notes (told_unless lacks e g)).text ≡ g.text ++ more)
+grown_by true e notes g = (note_lines g.telling.connection notes, refl)
+grown_by false e notes g =
     let acts : List ℕ = new_lines e.client.program.features g e.client.table.tally.counted in
-    let lines : List ℕ = error_lines g.telling.connection errors in
+    let lines : List ℕ = note_lines g.telling.connection notes in
     (acts ++ lines, append_assoc g.text acts lines)
 
 pub grows : {b : Bool} (first : Pair) (ps : List ℕ) (p : Pair) → Ran b first ps p → (more : List ℕ) × (p.recording.text ≡ first.recording.text ++ more)
 grows first _ _ (begins ps) = ([], sym (append-nil first.recording.text))
 grows first _ _ (calls ps p call r run free) = grows first ps p r
 grows first _ _ (confirms n ps p r counted) = grows first (n ∷ ps) p r
-grows first _ _ (tells ps p lacks errors r lines) =
+grows first _ _ (tells ps p lacks notes r said) =
     let before = grows first ps p r in
-    let added = grown_by lacks p.end errors p.recording in
+    let added = grown_by lacks p.end notes p.recording in
     (before.0 ++ added.0, added.1 ∙ (ap (λ (t : List ℕ). t ++ added.0) before.1 ∙ append_assoc first.recording.text before.0 added.0))
 
 -- the client and the record are later ones, and nothing is written
@@ -243,7 +243,7 @@ lost_goes s t reply is same reports book = λ first before o n k.
 
 -- ---- acts and errors
 
-same_text : (g : Growth) → with_errors [] g ≡ g
+same_text : (g : Growth) → with_notes [] g ≡ g
 same_text g = ap (λ (t : List ℕ). record g { text = t }) (append-nil g.text)
 
 -- from one record to another, with these pauses that are to come
@@ -255,10 +255,10 @@ acts_keep ps e g h is = λ b first ran.
     subst (λ (x : Growth). Ran b first ps (record { end = e; recording = x })) (same_text (told_now e g) ∙ sym is)
     (tells ps (record { end = e; recording = g }) false [] ran tt)
 
-errors_keep : (ps : List ℕ) (e : ClientEnd) (g h : Growth) (errors : List (List ℕ)) → HaveLines errors → h ≡ with_errors errors g → Tells ps e g h
-errors_keep ps e g h errors lines is = λ b first ran.
+notes_keep : (ps : List ℕ) (e : ClientEnd) (g h : Growth) (notes : List Says) → AreSaid notes → h ≡ with_notes notes g → Tells ps e g h
+notes_keep ps e g h notes said is = λ b first ran.
     subst (λ (x : Growth). Ran b first ps (record { end = e; recording = x })) (sym is)
-    (tells ps (record { end = e; recording = g }) true errors ran lines)
+    (tells ps (record { end = e; recording = g }) true notes ran said)
 
 pub first_lines : (n : ℕ) (errors : List (List ℕ)) → HaveLines errors → HaveLines (take n errors)
 first_lines zero [] h = tt
@@ -302,10 +302,17 @@ told_acts_keep (Err why) ps e g h done same =
 
 -- likewise errors, of which the first get theirs
 pub told_errors_keep : {A E : Type 0} (r : Result A E) (ps : List ℕ) (e : ClientEnd) (g h : Growth) (errors : List (List ℕ)) → HaveLines errors
-    → OnOk r (h ≡ with_errors errors g) → OnErr r ((n : ℕ) × AddsErrors errors g h n) → Tells ps e g h
-told_errors_keep (Ok a) ps e g h errors lines done some = errors_keep ps e g h errors lines done
+    → OnOk r (h ≡ with_notes (map error_note errors) g) → OnErr r ((n : ℕ) × AddsErrors errors g h n) → Tells ps e g h
+told_errors_keep (Ok a) ps e g h errors lines done some = notes_keep ps e g h (map error_note errors) lines done
 told_errors_keep (Err why) ps e g h errors lines done some =
-    errors_keep ps e g h (take some.0 errors) (first_lines some.0 errors lines) some.1.added
+    notes_keep ps e g h (map error_note (take some.0 errors)) (first_lines some.0 errors lines) some.1.added
+
+-- and a note
+pub told_note_keeps : {A E : Type 0} (r : Result A E) (ps : List ℕ) (e : ClientEnd) (g h : Growth) (said : Says) → IsNoteText said.0 said.1
+    → OnOk r (h ≡ with_notes (said ∷ []) g) → OnErr r (h ≡ g) → Tells ps e g h
+told_note_keeps (Ok a) ps e g h said can done same = notes_keep ps e g h (said ∷ []) (can, tt) done
+told_note_keeps (Err why) ps e g h said can done same =
+    λ b first ran. subst (λ (x : Growth). Ran b first ps (record { end = e; recording = x })) (sym same) ran
 
 pub filed_goes : (s t : State) → is_record (writes s.stage) ≡ true → s.book.lost ≡ false → t.pair ≡ s.pair → t.reports ≡ s.reports
     → t.book ≡ filed s → GoesOn s Done t

@@ -1,9 +1,9 @@
 -- A run is a list of moments, whose record's file is what a killed run leaves.
 use Rattle.run_session.proofs.Names.{HasFollowed, HasReported, HasTold, IsAt, pace, Pace, Filed}
-use Rattle.run_session.proofs.Names.{[], ◌++◌, ◌+◌, ◌∙◌, ◌∷◌, ◌≡◌, ◌≤◌, Abort, Act, ap, append-nil, append_assoc, AreAsked, AreErrors, AreFit}
+use Rattle.run_session.proofs.Names.{[], ◌++◌, ◌+◌, ◌∙◌, ◌∷◌, ◌≡◌, ◌≤◌, Abort, Act, ap, append-nil, append_assoc, AreAsked, AreNotes, AreFit}
 use Rattle.run_session.proofs.Names.{AreWritten, arith, begins, behind_call, behind_calls, behind_moments, Bool, Call, Calls, calls, calls_in}
 use Rattle.run_session.proofs.Names.{ClientEnd, cond, confirms, Connected, done_by, drop, drop-length, end_connected, entry_line, false, false≢true}
-use Rattle.run_session.proofs.Names.{Feed, Fits, Growth, HaveLines, inl, inr, IsKept, IsPartGiven, IsRunCall, Leave, length, length-append, List, map}
+use Rattle.run_session.proofs.Names.{Feed, Fits, AreSaid, Growth, inl, Says, inr, IsKept, IsPartGiven, IsRunCall, Leave, length, length-append, List, map}
 use Rattle.run_session.proofs.Names.{Moment, new_client_end, numbered, Option, Outside, Pair, possible, Ran, ReadOne, recorded_by, refl, Restart}
 use Rattle.run_session.proofs.Names.{Resume, Send, Sent, State, subst, sym, take, take-append_seam, Tell, tells, told_behind, told_by, told_now, true}
 use Rattle.run_session.proofs.Names.{ℕ}
@@ -49,15 +49,15 @@ run_fits first Abort e h = tt
 run_fits first Leave e h = tt
 run_fits first (Sent k) e h = tt
 
-are_errors : (errors : List (List ℕ)) (last : ℕ) → HaveLines errors → 1 ≤ last → AreErrors errors last
-are_errors [] last h some = tt
-are_errors (e ∷ errors) last h some = (h.0, some, are_errors errors last h.1 some)
+are_notes : (notes : List Says) (last : ℕ) → AreSaid notes → 1 ≤ last → AreNotes notes last
+are_notes [] last h some = tt
+are_notes ((note, text) ∷ notes) last h some = (h.0, some, are_notes notes last h.1 some)
 
 -- a run keeps the number of its connection
 ran_last : {b : Bool} (first : Pair) (ps : List ℕ) (p : Pair) → Ran b first ps p → p.end.client.last ≡ first.end.client.last
 ran_last first _ _ (begins ps) = refl
 ran_last first _ _ (calls ps p call r is free) = Stays.last (call_keeps call p.end is) ∙ ran_last first ps p r
-ran_last first _ _ (tells ps p lacks errors r lines) = ran_last first ps p r
+ran_last first _ _ (tells ps p lacks notes r said) = ran_last first ps p r
 ran_last first _ _ (confirms n ps p r counted) = ran_last first (n ∷ ps) p r
 
 -- the moments from one pair to another
@@ -77,10 +77,10 @@ before n first _ _ q some (calls ps p call r is free) s = before n first ps p q 
   fit = (run_fits n call p.end is, s.fit);
   reports = call_reports call (calls_in s.moments) p.end is s.reports;
 })
-before n first _ _ q some (tells ps p lacks errors r lines) s = before n first ps p q some r (record {
-  moments = Tell lacks errors ∷ s.moments;
+before n first _ _ q some (tells ps p lacks notes r said) s = before n first ps p q some r (record {
+  moments = Tell lacks notes ∷ s.moments;
   leads = s.leads;
-  fit = (are_errors errors p.end.client.last lines (subst (λ (k : ℕ). 1 ≤ k) (sym (ran_last first ps p r)) some), s.fit);
+  fit = (are_notes notes p.end.client.last said (subst (λ (k : ℕ). 1 ≤ k) (sym (ran_last first ps p r)) some), s.fit);
   reports = s.reports;
 })
 

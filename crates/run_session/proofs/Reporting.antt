@@ -19,7 +19,7 @@ more_counted first _ _ (calls ps p call r is free) =
       before.0 ++ now.more,
       now.acts ∙ (ap (λ (l : List Act). l ++ now.more) before.1 ∙ append_assoc first.end.client.table.tally.counted before.0 now.more),
     )
-more_counted first _ _ (tells ps p lacks errors r lines) = more_counted first ps p r
+more_counted first _ _ (tells ps p lacks notes r said) = more_counted first ps p r
 more_counted first _ _ (confirms n ps p r counted) = more_counted first (n ∷ ps) p r
 
 within : (k : ℕ) (xs ys zs : List Act) → zs ≡ xs ++ ys → k ≤ length xs → k ≤ length zs

@@ -1,3 +1,4 @@
 pub mod Errors
 pub mod Killed
+pub mod Evidence
 pub mod Records

@@ -1,5 +1,5 @@
 -- What a run's client and its record are after any answers, and what the record's file has (this profile).
-use Rattle.std.specs.Prelude.{◌≡◌, ◌≤◌, ◌&&◌, ◌||◌, ◌⊎◌, ⊤, ℕ, Bool, true, false, not, Result, Ok, Err, if◌then◌else◌, Option, None, Some, List, [], ◌∷◌, ◌++◌, ◌<◌, length, take, drop}
+use Rattle.std.specs.Prelude.{◌≡◌, ◌≤◌, ◌&&◌, ◌||◌, ◌⊎◌, ⊤, ℕ, Bool, true, false, not, Result, Ok, Err, if◌then◌else◌, Option, None, Some, List, [], ◌∷◌, ◌++◌, ◌<◌, length, map, take, drop}
 use Rattle.std.specs.List.{AllByRecursion}
 use Rattle.std.specs.Str.{bytes_eq}
 use Rattle.client_core.specs.Calls.{Call, Abort, Send as Sends, behind_call, done_by, Leave as Leaves}
@@ -9,8 +9,9 @@ use Rattle.link_world.specs.Reports.{report_text}
 use Rattle.link_world.specs.Showing.{IsRunCall}
 use Rattle.protocol_model.specs.Ends.{ClientEnd}
 use Rattle.protocol_model.specs.declared.states.State.TheVariants as state
-use Rattle.record_text.specs.Entries.{IsRefusal, kept_error}
-use Rattle.record_text.specs.Growths.{Growth, with_errors}
+use Rattle.record_text.specs.Entries.{error_note}
+use Rattle.record_text.specs.Notes.{AreSaid, Says}
+use Rattle.record_text.specs.Growths.{Growth, with_notes}
 use Rattle.record_laws.specs.Recordings.{Pair, told_unless}
 use Rattle.record_laws.specs.Told.{numbered}
 use Rattle.effects.specs.declared.vocabulary.Growth as file
@@ -26,7 +27,7 @@ use Rattle.run_session.specs.declared.stages.Stage.TheVariants as stage
 
 -- each of these errors of a server has a line in a record
 abbrev pub HaveLines : List (List ℕ) → Type 0
-HaveLines errors = AllByRecursion (λ error. IsRefusal (kept_error error)) errors
+HaveLines errors = AreSaid (map error_note errors)
 
 -- how many of its plan's last commands a run holds back until its operator has confirmed the next of these pauses; none after the last
 abbrev pub held : List ℕ → ℕ
@@ -41,13 +42,13 @@ IsFree aborts count e call = ⊤
 
 -- a client on its connection and its record, with the pauses that are to come, from what both were at first: the client makes calls of its own,
 -- and sends nothing that is held back; the record gets the lines of what the client has counted, unless memory runs out for them, and those of
--- errors of its server; and a pause ends only once all that stands above it is counted
+-- notes; and a pause ends only once all that stands above it is counted
 pub data Ran (aborts : Bool) (first : Pair) : List ℕ → Pair → Type 0 where
   begins : (pauses : List ℕ) → Ran aborts first pauses first
   calls : (pauses : List ℕ) (p : Pair) (call : Call) → Ran aborts first pauses p → IsRunCall call → IsFree aborts (held pauses) p.end call
       → Ran aborts first pauses (record { end = behind_call call p.end; recording = p.recording })
-  tells : (pauses : List ℕ) (p : Pair) (lacks : Bool) (errors : List (List ℕ)) → Ran aborts first pauses p → HaveLines errors
-      → Ran aborts first pauses (record { end = p.end; recording = with_errors errors (told_unless lacks p.end p.recording) })
+  tells : (pauses : List ℕ) (p : Pair) (lacks : Bool) (notes : List Says) → Ran aborts first pauses p → AreSaid notes
+      → Ran aborts first pauses (record { end = p.end; recording = with_notes notes (told_unless lacks p.end p.recording) })
   confirms : (count : ℕ) (pauses : List ℕ) (p : Pair) → Ran aborts first (count ∷ pauses) p → length p.end.client.table.tally.todo ≤ count
       → Ran aborts first pauses p
 
@@ -320,6 +321,7 @@ is_while stage.Awaiting = true
 is_while stage.Returning = true
 is_while stage.Tracing = true
 is_while stage.Stamping = true
+is_while stage.Noting = true
 is_while stage.Logging = true
 is_while stage.Recording = true
 is_while stage.Settling = true
@@ -411,6 +413,7 @@ AsksAt stage.Awaiting s ask = ask ≡ Byte
 AsksAt stage.Returning s ask = ask ≡ Byte
 AsksAt stage.Tracing s ask = IsSay ask
 AsksAt stage.Stamping s ask = ask ≡ Stamp
+AsksAt stage.Noting s ask = ask ≡ Stamp
 AsksAt stage.Logging s ask = IsAdd ask
 AsksAt stage.Recording s ask = ask ≡ Append growth.Record (lacking s)
 AsksAt stage.Settling s ask = ask ≡ Keep growth.Record (lacking s)
@@ -509,6 +512,7 @@ abbrev pub pace : Stage → Pace
 pace stage.Tracing = Told
 pace stage.Stamping = Told
 pace stage.Logging = Told
+pace stage.Noting = Told
 pace stage.Recording = Told
 pace stage.Settling = Told
 pace stage.Telling = Unknown

@@ -50,7 +50,7 @@ impl Session {
     {
         self.is_on = true;
         self.has_begun = true;
-        self.show_features()
+        self.record()
     }
 
     /// A file cannot be written: the run ends before it has sent anything.

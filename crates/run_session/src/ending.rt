@@ -21,6 +21,10 @@ impl Session {
         ensures due { OnOk result (spec.IsDue self.new) }
         ensures followed { OnOk result (spec.Follows self.old self.new) }
     {
+        if self.has_to_note() {
+            self.stage = Stage::Noting;
+            return Ok(());
+        }
         self.is_on = false;
         self.judge()?;
         if self.run.features.is_none() {

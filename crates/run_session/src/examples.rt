@@ -1,6 +1,8 @@
 // Examples: what is asked and what comes of it. Each function has laws for its contract and does nothing.
 
-ghost use Rattle.std.specs.Prelude.{◌≡◌, ℕ, [], ◌∷◌, List, true, false, length, Some};
+ghost use Rattle.std.specs.Prelude.{◌≡◌, ℕ, [], ◌∷◌, List, ◌++◌, true, false, length, None, Some};
+ghost use Rattle.record_text.specs.declared.notes.Note.TheVariants.{Operator, Opened, Dated, Left};
+ghost use Rattle.run_session.specs.Evidence.{due, has_due, noted_open};
 ghost use Rattle.client_core.specs.Calls.{Abort};
 ghost use Rattle.contact_ledger.specs.declared.acts.Act.{Act};
 ghost use Rattle.protocol_model.specs.Ends.{ClientEnd, end_aborted};
@@ -139,4 +141,24 @@ pub fn stop_rows()
         → IsLater (stopped true s) t }
     ensures unstopped { (s t : State) → s.stage ≡ Sending → t.book.spent ≡ false
         → Stops s Done t → IsLater s t }
+{}
+
+/// What is given is noted with the connection, once; features when they are complete since; the end once it is reached; and nothing if nothing
+/// is given.
+pub fn note_rows()
+    ensures opened { (time server : List ℕ) → due (record {
+      given = Some ((Operator, 65 ∷ []) ∷ []);
+      opened = false;
+      left = false;
+      dated = 2;
+    }) time server 2 None ≡ (Operator, 65 ∷ []) ∷ (Opened, time ++ 32 ∷ server) ∷ [] }
+    ensures complete { (time server : List ℕ) → due noted_open time server 3 None ≡ (Dated, time) ∷ [] }
+    ensures over { (time server how : List ℕ) → due noted_open time server 2 (Some how)
+        ≡ (Left, time ++ 32 ∷ how) ∷ [] }
+    ensures once { (time server how : List ℕ)
+        → due (record noted_open { left = true }) time server 2 (Some how) ≡ [] }
+    ensures waits { has_due noted_open 2 false ≡ false }
+    ensures ends { has_due noted_open 2 true ≡ true }
+    ensures grows { has_due noted_open 3 false ≡ true }
+    ensures nothing { has_due (record noted_open { given = None }) 3 true ≡ false }
 {}

@@ -1,8 +1,7 @@
 // What the client has counted goes to the files, and the features that are complete are shown.
 
-ghost use Rattle.std.specs.Prelude.{◌≡◌, ◌<◌, ◌≤◌, map, length, true, IsNone, IfSome, OnOk, Some};
+ghost use Rattle.std.specs.Prelude.{◌≡◌, ◌∷◌, [], ◌<◌, ◌≤◌, map, length, true, IsNone, IfSome, OnOk, Some};
 ghost use Rattle.effects.specs.Effects.{the_reply};
-ghost use Rattle.record_text.specs.Entries.{IsRefusal, kept_error};
 ghost use Rattle.run_session.specs.Records as spec;
 
 use crate::runs::Kept;
@@ -12,7 +11,7 @@ use session_telling::{cause_of, stamped, why_unwritten};
 use std::alloc::AllocError;
 
 fn has_line(error: &[u8]) -> bool
-    ensures { result ≡ true → IsRefusal (kept_error error.now) }
+    ensures { result ≡ true → spec.HaveLines (error.now ∷ []) }
 {
     !error.is_empty()
 }
@@ -125,6 +124,7 @@ impl Session {
                 self.shown.clear();
                 self.log()
             }
+            (Stage::Noting, _) => self.noted(answer),
             (Stage::Stamping, Answer::Bytes(time)) => {
                 self.text = stamped(self.alloc, time, self.logged.as_str())?;
                 self.stage = Stage::Logging;
@@ -144,12 +144,16 @@ impl Session {
 
     /// The record gets what it lacks; forced, if that completes a feature.
     #[tactic(auto, using(crate::proofs::Paces::enough_filed))]
-    fn record(&mut self) -> Result<(), AllocError>
+    pub(crate) fn record(&mut self) -> Result<(), AllocError>
         ensures ran { spec.Keeps self.old self.new }
         ensures book { self.new.book ≡ self.old.book }
         ensures due { OnOk result (spec.IsDue self.new) }
         ensures followed { OnOk result (spec.FollowsTold self.old self.new) }
     {
+        if self.has_to_note() {
+            self.stage = Stage::Noting;
+            return Ok(());
+        }
         if self.is_lost {
             return self.report();
         }

@@ -5,6 +5,7 @@
 //! - `calling`: its server is called; `beginning`: its files begin to grow, and its client comes to the connection
 //! - `turns`: commands are sent, and lines are heard; `errors`: what is shown of the server's errors
 //! - `following`: what the client has counted goes to the files; `reported`, `listed`: those of contacts and of features
+//! - `evidence`: what the record notes of the run
 //! - `pausing`: texts for the operator, at which the run waits if it is asked to
 //! - `ending`: the files get their whole texts, and the report is printed; `leaving`: the server is left; `verdicts`: what is said last
 //! - `running`: the session with hands that carry its effects out
@@ -15,6 +16,7 @@ mod beginning;
 mod calling;
 mod ending;
 mod errors;
+mod evidence;
 pub mod examples;
 mod following;
 mod laws;
@@ -30,6 +32,7 @@ mod turns;
 mod verdicts;
 
 pub use errors::Errors;
+pub use evidence::Noted;
 pub use laws::runs_keep_their_records;
 pub use running::run;
 pub use runs::{Output, Run};

@@ -3,6 +3,8 @@
 ghost use Rattle.std.specs.Prelude.{◌≡◌, false};
 ghost use Rattle.std.specs.Option.{option_map_or};
 
+use crate::evidence::Noted;
+
 /// A file that is replaced: its name, and whether it grows during the run.
 #[derive(Drop)]
 pub struct Output {
@@ -35,6 +37,8 @@ pub struct Run {
     pub contacts: Option<Output>,
     /// The record, which grows already.
     pub record: Option<Output>,
+    /// What the record notes of the run, if it notes when and how it was run.
+    pub notes: Option<Vec<Noted>>,
 }
 
 /// The name of a file, or nothing.

@@ -11,6 +11,7 @@ ghost use Rattle.run_session.specs.Records as spec;
 
 use crate::calling::NOT_DONE;
 use crate::errors::Errors;
+use crate::evidence::Noting;
 use crate::listed::Listed;
 use crate::reported::Reported;
 use crate::runs::Kept;
@@ -141,6 +142,8 @@ pub struct Session {
     pub(crate) reported: Reported,
     pub(crate) listed: Listed,
     pub(crate) errors: Errors,
+    /// What was noted of the run.
+    pub(crate) noting: Noting,
     pub(crate) stage: Stage,
     /// The number of its connection.
     pub(crate) number: u64,
@@ -256,7 +259,7 @@ impl Session {
     {
         let Begun {
             alloc,
-            run,
+            mut run,
             number,
             growth,
             reported,
@@ -272,6 +275,12 @@ impl Session {
         let settled = growth.features();
         let left = u64::from(run.wait.unwrap_or(0)) * 1000;
         let is_logged = run.log.is_some();
+        let given = if run.record.is_some() {
+            run.notes.take()
+        } else {
+            None
+        };
+        let noting = Noting::new(given, settled);
         let mut session = Session {
             alloc,
             run,
@@ -282,6 +291,7 @@ impl Session {
             reported,
             listed,
             errors,
+            noting,
             stage: Stage::Logged,
             number,
             kept,
@@ -387,7 +397,7 @@ impl Session {
             Stage::Receiving | Stage::Draining => Effect::Receive(Peer::Server),
             Stage::Sending => Effect::Send(Peer::Server, self.client.out()),
             Stage::Awaiting | Stage::Returning => Effect::Byte,
-            Stage::Stamping => Effect::Stamp,
+            Stage::Stamping | Stage::Noting => Effect::Stamp,
             Stage::Logging => Effect::Add(self.text.as_slice()),
             Stage::Recording => Effect::Append(File::Record, self.lacking()),
             Stage::Settling => Effect::Keep(File::Record, self.lacking()),
@@ -458,6 +468,7 @@ impl Session {
             Stage::Receiving | Stage::Draining | Stage::Sending => self.asks_while(),
             Stage::Awaiting | Stage::Returning => self.asks_while(),
             Stage::Tracing | Stage::Stamping | Stage::Logging => self.asks_while(),
+            Stage::Noting => self.asks_while(),
             Stage::Recording | Stage::Settling | Stage::Reporting => self.asks_while(),
             Stage::Warning | Stage::Listing | Stage::Showing => self.asks_while(),
             Stage::ReplacingFeatures | Stage::Printing | Stage::Parting => self.asks_at_end(),
@@ -512,7 +523,9 @@ impl Session {
             Stage::Sending => self.sent(answer),
             Stage::Awaiting => self.typed(true, answer),
             Stage::Returning => self.typed(false, answer),
-            Stage::Tracing | Stage::Stamping | Stage::Logging => self.show_on(answer),
+            Stage::Tracing | Stage::Stamping | Stage::Logging | Stage::Noting => {
+                self.show_on(answer)
+            }
             Stage::Recording | Stage::Settling => self.recorded(answer),
             Stage::Reporting => self.has_reported(answer),
             Stage::Listing => self.has_listed(answer),

@@ -41,6 +41,8 @@ pub enum Stage {
     Stamping,
     /// They are added to the log.
     Logging,
+    /// The time of what is noted in the record.
+    Noting,
     /// What the client has counted is added to the record; forced, if a feature is complete.
     Recording,
     Settling,

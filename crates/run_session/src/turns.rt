@@ -33,7 +33,7 @@ fn add_shown(shown: &mut Vec<u8>, line: &[u8]) -> Result<(), AllocError> {
 
 impl Session {
     /// Whether the run is over: its plan is counted, or nothing is open after a failure or an abort; or its connection was broken off.
-    fn is_over(&self) -> bool {
+    pub(crate) fn is_over(&self) -> bool {
         self.broken.is_some() || matches!(self.client.state(), State::Done | State::Halted)
     }
 

@@ -43,7 +43,7 @@ returns-in-Returning-clause-goes c = runs_go c.typed-in-Returning.result _ _ c.a
 
 pub returns-in-Tracing-clause-goes : goal.returns-in-Tracing-clause-goes
 returns-in-Tracing-clause-goes c = arm _ c.args.self.now c.show_on.new.self (the_reply c.args.answer) c.self.view_is
-    (or_quiet c.self.inside.stage Stage.Tracing refl (or_quiet c.self.inside.stage Stage.Stamping refl (is_quiet c.self.inside.stage Stage.Logging refl)) c.in-Tracing.is) c.show_on.ensures.ran c.show_on.ensures.book
+    (or_quiet c.self.inside.stage Stage.Tracing refl (or_quiet c.self.inside.stage Stage.Stamping refl (or_quiet c.self.inside.stage Stage.Logging refl (is_quiet c.self.inside.stage Stage.Noting refl))) c.in-Tracing.is) c.show_on.ensures.ran c.show_on.ensures.book
 
 pub returns-in-Listing-clause-goes : goal.returns-in-Listing-clause-goes
 returns-in-Listing-clause-goes c = noted_goes _ c.args.self.now c.has_listed.new.self (the_reply c.args.answer) c.self.view_is
@@ -109,7 +109,7 @@ returns-in-Returning-clause-followed c = on_filed c.typed-in-Returning.result _ 
 
 pub returns-in-Tracing-clause-followed : goal.returns-in-Tracing-clause-followed
 returns-in-Tracing-clause-followed c = on_told c.show_on.result _ c.args.self.now c.show_on.new.self c.self.view_is
-    (or_paced Told c.self.inside.stage Stage.Tracing refl (or_paced Told c.self.inside.stage Stage.Stamping refl (is_paced Told c.self.inside.stage Stage.Logging refl)) c.in-Tracing.is) (ap (λ (b : Book). b.short) c.show_on.ensures.book) c.show_on.ensures.followed
+    (or_paced Told c.self.inside.stage Stage.Tracing refl (or_paced Told c.self.inside.stage Stage.Stamping refl (or_paced Told c.self.inside.stage Stage.Logging refl (is_paced Told c.self.inside.stage Stage.Noting refl))) c.in-Tracing.is) (ap (λ (b : Book). b.short) c.show_on.ensures.book) c.show_on.ensures.followed
 
 pub returns-in-Reporting-clause-followed : goal.returns-in-Reporting-clause-followed
 returns-in-Reporting-clause-followed c = on_filed c.has_reported.result _ c.args.self.now c.has_reported.new.self c.self.view_is
@@ -169,7 +169,7 @@ returns-in-Sending-clause-stops c = still c.sent.result _ c.args.self.now c.sent
 
 pub returns-in-Tracing-clause-stops : goal.returns-in-Tracing-clause-stops
 returns-in-Tracing-clause-stops c = still c.show_on.result _ c.args.self.now c.show_on.new.self (the_reply c.args.answer) c.self.view_is
-    (or_still (the_reply c.args.answer) c.self.inside.stage Stage.Tracing refl (or_still (the_reply c.args.answer) c.self.inside.stage Stage.Stamping refl (is_still (the_reply c.args.answer) c.self.inside.stage Stage.Logging refl)) c.in-Tracing.is)
+    (or_still (the_reply c.args.answer) c.self.inside.stage Stage.Tracing refl (or_still (the_reply c.args.answer) c.self.inside.stage Stage.Stamping refl (or_still (the_reply c.args.answer) c.self.inside.stage Stage.Logging refl (is_still (the_reply c.args.answer) c.self.inside.stage Stage.Noting refl))) c.in-Tracing.is)
     (later c.args.self.now c.show_on.new.self c.show_on.ensures.ran)
 
 pub returns-in-Recording-clause-stops : goal.returns-in-Recording-clause-stops
