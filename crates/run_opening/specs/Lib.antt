@@ -3,3 +3,4 @@ pub mod Begun
 pub mod Names
 pub mod Naming
 pub mod Openings
+pub mod Noting

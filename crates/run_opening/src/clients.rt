@@ -230,6 +230,7 @@ impl Opening {
         let features = output(alloc, self.order.features.take(), self.has_features)?;
         let contacts = output(alloc, self.order.contacts.take(), self.has_contacts)?;
         let record = output(alloc, self.order.record.take(), true)?;
+        let notes = self.notes()?;
         Ok(Run {
             host: std::mem::replace(&mut self.order.host, String::new(alloc)),
             port: self.order.port,
@@ -242,6 +243,7 @@ impl Opening {
             features,
             contacts,
             record,
+            notes,
         })
     }
 }

@@ -3,6 +3,7 @@
 //! - `stages`: where it is; `openings`: what it asks, and what it does with an answer
 //! - `naming`: the files that it names, which may not meet; `holding`: those that it locks before it reads any
 //! - `reading`: what it reads, and understands; `records`: the record that it continues
+//! - `noting`: what its record notes of it
 //! - `clients`: its client, and what it says before its server is called; `confirming`: the answer to it
 //! - `sayings`: what it says; `refusing`: how it ends, if nothing is begun
 //! - `laws`: the run that is begun; `examples`: of what is known at its stages
@@ -15,6 +16,7 @@ pub mod examples;
 mod holding;
 mod laws;
 mod naming;
+mod noting;
 mod openings;
 mod reading;
 mod records;

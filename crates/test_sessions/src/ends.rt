@@ -81,6 +81,7 @@ fn order(alloc: Global) -> Result<Run, AllocError>
         features: Some(text(alloc, "part.features")?),
         record: Some(text(alloc, "part.record")?),
         part: Some(text(alloc, "0042/7")?),
+        operator: None,
         contacts: Some(text(alloc, "part.contacts")?),
         progress: true,
         trace: false,
