@@ -14,5 +14,6 @@ pub mod Exporting
 pub mod Recorded
 pub mod OfRecords
 pub mod RunErrors
+pub mod RunNotes
 pub mod Reporting
 pub mod Digests

@@ -17,6 +17,7 @@ use Rattle.dme_orders.specs.Orders.{Went, Carries}
 use Rattle.dme_orders.specs.Reading.{Came}
 use Rattle.dme_orders.specs.Recorded.{IsOfProgram, features_in, told_in}
 use Rattle.dme_orders.specs.RunErrors.{errors_in, error_line}
+use Rattle.dme_orders.specs.RunNotes.{notes_in, note_line}
 use Rattle.dme_orders.specs.declared.missing.Missing.{Missing}
 use Rattle.order_parts.specs.declared.faults.FilesFault.{FilesFault}
 
@@ -29,31 +30,33 @@ part_in (Some held) = unwrap_or held.part (codes "(not named)")
 abbrev pub shown_name : List ℕ → List ℕ
 shown_name name = if bytes_eq name (codes "-") then codes "standard input" else name
 
--- what a page says besides its points, of a part, the name of its program, the lines of the server's errors, and the status and the line of
--- the audit
-abbrev pub facts_of : (part name errors : List ℕ) → ℕ → List ℕ → PageFacts
-facts_of part name errors status verdict = record {
+-- what a page says besides its points, of a part, the name of its program, the lines of the server's errors and of other notes, and the
+-- status and the line of the audit
+abbrev pub facts_of : (part name errors notes : List ℕ) → ℕ → List ℕ → PageFacts
+facts_of part name errors notes status verdict = record {
   part = part;
   program = name;
   sound = status == 0;
   verdict = verdict;
   errors = errors;
+  notes = notes;
 }
 
 -- the page of features, with the rows that are theirs and the audit of them by acts
-pub record IsPageOf (part name errors : List ℕ) (limits : Option (List Limit)) (program : Meaning) (features : List Feature)
+pub record IsPageOf (part name errors notes : List ℕ) (limits : Option (List Limit)) (program : Meaning) (features : List Feature)
     (told : List (ℕ × Act)) (text : List ℕ) : Type 0 where
   pub rows : List Row
   pub are : AllZip IsRow (places_of program.features features) rows
   pub status : ℕ
   pub verdict : List ℕ
   pub judged : LeavesVerdict program features told status verdict
-  pub is : IsPage (facts_of part name errors status verdict) program features limits rows text
+  pub is : IsPage (facts_of part name errors notes status verdict) program features limits rows text
 
 -- the record is of the program, this is the page of its part, and these features are missing
 pub record LeavesPage (name : List ℕ) (read : Limited RecordInput) (missing : Missing) (text : List ℕ) : Type 0 where
   pub same : IsOfProgram read.input.held read.input.program
-  pub is : IsPageOf (part_in read.input.held) (shown_name name) (flat_map error_line (errors_in read.input.held)) read.limits read.input.program
+  pub is : IsPageOf (part_in read.input.held) (shown_name name) (flat_map error_line (errors_in read.input.held))
+      (flat_map note_line (notes_in read.input.held)) read.limits read.input.program
       (features_in read.input.held) (told_in read.input.held) text
   pub lacks : IsMissing read.input.program.features (features_in read.input.held) missing
 

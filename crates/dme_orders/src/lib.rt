@@ -35,6 +35,7 @@ mod reading;
 mod reporting;
 mod reviewing;
 mod run_errors;
+mod run_notes;
 mod simulating;
 mod verdicts;
 

@@ -10,11 +10,13 @@ ghost use Rattle.dme_orders.specs.Orders.{went};
 ghost use Rattle.dme_orders.specs.Reading.{came};
 ghost use Rattle.dme_orders.specs.Reporting.{facts_of, part_in, shown_name, IsPageOf, ReportsRecord};
 ghost use Rattle.dme_orders.specs.RunErrors.{errors_in, error_line};
+ghost use Rattle.dme_orders.specs.RunNotes.{notes_in, note_line};
 
 use crate::auditing::verdict_line;
 use crate::missing::{Missing, missing_of};
 use crate::of_records::{RecordFiles, limited_input, of_program, parts_of};
 use crate::run_errors::errors_of;
+use crate::run_notes::notes_of;
 use crate::simulating::write_text;
 use byte_ports::{Sink, Source};
 use contact_ledger::{Feature, ServerLedger};
@@ -44,21 +46,29 @@ fn shown_name(name: &str) -> &str
     if name == "-" { "standard input" } else { name }
 }
 
-/// What a page has of a record besides its points: its part, and the lines of the errors that its server reported.
+/// What a page has of a record besides its points: its part, and the lines of the errors that its server reported and of other notes.
 #[derive(Drop)]
 struct Texts {
     part: Vec<u8>,
     errors: String,
+    notes: String,
 }
 
 fn texts_of(alloc: Global, held: &Option<Record>) -> Result<Texts, AllocError>
     ensures part { IfOk result (λ texts. texts.part.items ≡ part_in held.now) }
     ensures errors { IfOk result (λ texts. string_bytes texts.errors
         ≡ flat_map error_line (errors_in held.now)) }
+    ensures notes { IfOk result (λ texts. string_bytes texts.notes
+        ≡ flat_map note_line (notes_in held.now)) }
 {
     let part = Vec::from_slice(alloc, part_of(held))?;
     let errors = errors_of(alloc, held)?;
-    Ok(Texts { part, errors })
+    let notes = notes_of(alloc, held)?;
+    Ok(Texts {
+        part,
+        errors,
+        notes,
+    })
 }
 
 /// The page of rows, with the status and the line of their audit.
@@ -74,7 +84,8 @@ fn page_text(
     verdict: &[u8],
 ) -> Result<Vec<u8>, AllocError>
     ensures page { IfOk result (λ text. IsPage (facts_of texts.now.part.items name.now
-        (string_bytes texts.now.errors) status verdict.now) program.now features.now limits.now
+        (string_bytes texts.now.errors) (string_bytes texts.now.notes) status verdict.now)
+        program.now features.now limits.now
         rows.now text.items) }
     ensures some { IfOk result (λ text. 0 < length text.items) }
 {
@@ -84,6 +95,7 @@ fn page_text(
         sound: status == 0,
         verdict,
         errors: texts.errors.as_bytes(),
+        notes: texts.notes.as_bytes(),
     };
     report_text(alloc, &facts, program, features, limits, rows)
 }
@@ -99,8 +111,8 @@ fn page_of(
     ledger: &ServerLedger,
 ) -> Result<(Missing, Vec<u8>), FilesFault>
     ensures page { IfOk result (λ end. IsPageOf texts.now.part.items name.now
-        (string_bytes texts.now.errors) limits.now program.now features.now ledger.now
-        end.1.items) }
+        (string_bytes texts.now.errors) (string_bytes texts.now.notes) limits.now program.now
+        features.now ledger.now end.1.items) }
     ensures lacks { IfOk result (λ end. IsMissing program.now.features features.now end.0) }
     ensures some { IfOk result (λ end. 0 < length end.1.items) }
     ensures refused { IfErr result (RefusesFeatures program.now features.now) }

@@ -15,13 +15,14 @@ use Rattle.drawings.specs.Texts.{markup}
 use Rattle.drawings.specs.Sections.{sections_text}
 
 -- what a page has besides its points: the part, the program, whether each feature has its run of contacts, the line of that
--- verdict, and the lines of the server's errors
+-- verdict, the lines of the server's errors, and those of what else the record notes
 pub record PageFacts : Type 0 where
   pub part : List ℕ
   pub program : List ℕ
   pub sound : Bool
   pub verdict : List ℕ
   pub errors : List ℕ
+  pub notes : List ℕ
 
 -- how a browser shows a page, from its title to its body: light or dark as its reader has it, and also on A4
 unfoldable pub style : List ℕ
@@ -96,10 +97,20 @@ verdict_text facts measured = between (audit_start measured facts.sound) facts.v
 unfoldable pub audit_text : PageFacts → ℕ → List ℕ
 audit_text facts measured = verdict_text facts measured ++ errors_text facts.errors
 
+-- who measured, with what, and when, if the record notes it
+abbrev pub notes_text : List ℕ → List ℕ
+notes_text [] = []
+notes_text (b ∷ notes) = between (codes "<pre>") (b ∷ notes) (codes "</pre>\n")
+
+abbrev pub program_line : PageFacts → List ℕ
+program_line facts = between (codes "<p>Program: ") facts.program (codes "</p>\n")
+
+unfoldable pub program_text : PageFacts → List ℕ
+program_text facts = program_line facts ++ notes_text facts.notes
+
 -- what the page says first
 abbrev pub names_text : PageFacts → List ℕ
-names_text facts = between (codes "<h1>Part ") facts.part (codes "</h1>\n")
-    ++ between (codes "<p>Program: ") facts.program (codes "</p>\n")
+names_text facts = between (codes "<h1>Part ") facts.part (codes "</h1>\n") ++ program_text facts
 
 unfoldable pub summary_text : PageFacts → ℕ → List Wanted → Option (List Limit) → List Row → List ℕ
 summary_text facts measured wanted limits rows = names_text facts ++ (complete_text measured wanted

@@ -1,7 +1,7 @@
 // Examples: texts, bars, verdicts and rows that are written out.
 
 ghost use Rattle.std.specs.Prelude.{◌≡◌, ◌++◌, ◌∷◌, [], codes, decimal, pos, negsuc, Some, None, true, false};
-ghost use Rattle.drawings.specs.Names.{point_words, written, bar_cell, bar_length, greatest, turn, limits, on_x, open_row, range, row, wanted, worst, between, cell, cells, escaped, markup, audit_start, complete_start, complete_text, errors_text, limits_text, within_start, within_text, heading_end, limit_text, row_text, section_text, sections_text};
+ghost use Rattle.drawings.specs.Names.{point_words, written, bar_cell, bar_length, greatest, turn, limits, on_x, open_row, range, row, wanted, worst, between, cell, cells, escaped, markup, audit_start, complete_start, complete_text, errors_text, notes_text, limits_text, within_start, within_text, heading_end, limit_text, row_text, section_text, sections_text};
 
 /// Texts in markup.
 pub fn texts_are_escaped()
@@ -61,7 +61,7 @@ pub fn good_news_of_limits_is_rare()
         ≡ codes "<p class=\"open\"><b>Not compared with limits:</b> none were named.</p>\n" }
 {}
 
-/// What an audit found, and the errors of the server.
+/// What an audit found, the errors of the server, and what the record notes.
 pub fn audits_are_said()
     ensures passed { audit_start 1 true
         ≡ codes "<p class=\"yes\"><b>Audit passed:</b> each measured feature has its run of "
@@ -72,6 +72,8 @@ pub fn audits_are_said()
     ensures nothing { audit_start 0 true
         ≡ codes "<p class=\"open\"><b>Nothing to audit:</b> no feature was measured. <code>" }
     ensures none { errors_text [] ≡ [] }
+    ensures unnoted { notes_text [] ≡ [] }
+    ensures noted { notes_text (codes "&\n") ≡ codes "<pre>&amp;\n</pre>\n" }
     ensures errors { errors_text (codes "<\n")
         ≡ codes "<p class=\"open\"><b>The server reported errors:</b></p>\n<pre>&lt;\n</pre>\n" }
 {}

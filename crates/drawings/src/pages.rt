@@ -1,7 +1,7 @@
 // The whole page.
 
 ghost use Rattle.std.specs.Prelude.{◌≡◌, ◌<◌, ◌++◌, drop, length, IfOk, OnOk};
-ghost use Rattle.drawings.specs.Names.{flat_map, Adds, style, page_head, complete_start, missing_label, complete_text, within_start, within_line, within_text, limits_text, audit_start, verdict_text, errors_text, audit_text, names_text, summary_text, page_end, IsPage};
+ghost use Rattle.drawings.specs.Names.{flat_map, Adds, style, page_head, complete_start, missing_label, complete_text, within_start, within_line, within_text, limits_text, audit_start, verdict_text, errors_text, audit_text, names_text, notes_text, program_line, program_text, summary_text, page_end, IsPage};
 
 use crate::bar_cells::greatest;
 use crate::drawing::write_drawing;
@@ -27,6 +27,8 @@ pub struct Facts<'a> {
     pub verdict: &'a [u8],
     /// A line for each error that the server reported during the run of a feature.
     pub errors: &'a [u8],
+    /// A line for each thing that the record notes of its runs.
+    pub notes: &'a [u8],
 }
 
 impl<'a> Model for Facts<'a> {
@@ -40,6 +42,7 @@ impl<'a> Model for Facts<'a> {
       sound = f.sound;
       verdict = f.verdict.now;
       errors = f.errors.now;
+      notes = f.notes.now;
     } };
 }
 
@@ -72,6 +75,12 @@ impl<'a> Facts<'a> {
         ensures { result.now ≡ self.now.errors }
     {
         self.errors
+    }
+
+    fn notes(&self) -> &[u8]
+        ensures { result.now ≡ self.now.notes }
+    {
+        self.notes
     }
 }
 
@@ -266,11 +275,34 @@ fn put_audit(out: &mut Vec<u8>, facts: &Facts<'_>, measured: usize) -> Result<()
     put_errors(out, facts.errors())
 }
 
+fn put_notes(out: &mut Vec<u8>, notes: &[u8]) -> Result<(), AllocError>
+    ensures { OnOk result (out.new.items ≡ out.old.items ++ notes_text notes.now) }
+{
+    match notes {
+        [] => Ok(()),
+        [_, ..] => put_between(out, b"<pre>", notes, b"</pre>\n"),
+    }
+}
+
+fn put_program_line(out: &mut Vec<u8>, facts: &Facts<'_>) -> Result<(), AllocError>
+    ensures { OnOk result (out.new.items ≡ out.old.items ++ program_line facts.now) }
+{
+    put_between(out, b"<p>Program: ", facts.program(), b"</p>\n")
+}
+
+#[tactic(auto, unfolding(crate::specs::Pages::program_text))]
+fn put_program(out: &mut Vec<u8>, facts: &Facts<'_>) -> Result<(), AllocError>
+    ensures { OnOk result (out.new.items ≡ out.old.items ++ program_text facts.now) }
+{
+    put_program_line(out, facts)?;
+    put_notes(out, facts.notes())
+}
+
 fn put_names(out: &mut Vec<u8>, facts: &Facts<'_>) -> Result<(), AllocError>
     ensures { OnOk result (out.new.items ≡ out.old.items ++ names_text facts.now) }
 {
     put_between(out, b"<h1>Part ", facts.part(), b"</h1>\n")?;
-    put_between(out, b"<p>Program: ", facts.program(), b"</p>\n")
+    put_program(out, facts)
 }
 
 #[tactic(auto, unfolding(crate::specs::Pages::summary_text))]

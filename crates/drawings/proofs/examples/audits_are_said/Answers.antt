@@ -22,3 +22,7 @@ returns-clause-none c = refl
 pub returns-clause-errors : goal.returns-clause-errors
 unfolding between markup
 returns-clause-errors c = refl
+
+pub returns-clause-noted : goal.returns-clause-noted
+unfolding between markup
+returns-clause-noted c = refl
