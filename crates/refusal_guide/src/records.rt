@@ -130,6 +130,27 @@ fn label_reason(
     label.reason(alloc, "", &other)
 }
 
+/// What follows the word of a note.
+fn note_form(word: &[u8]) -> Option<&'static str> {
+    match str::from_utf8(word) {
+        Ok("REFUSED") => {
+            Some(" is followed by a space and an error of 1 to 400 bytes, all of them printable.")
+        }
+        Ok("BY" | "OPERATOR") => Some(" is followed by a space and 1 to 400 printable bytes."),
+        Ok("PROGRAM" | "SETUP") => {
+            Some(" is followed by the name of a file and the 64 digits of its SHA-256.")
+        }
+        Ok("OPENED") => {
+            Some(" is followed by a time, such as 2026-11-30T02:28:49.123Z, and the server.")
+        }
+        Ok("LEFT") => {
+            Some(" is followed by a time, such as 2026-11-30T02:28:49.123Z, and what ended it.")
+        }
+        Ok("DATED") => Some(" is followed by a time alone, such as 2026-11-30T02:28:49.123Z."),
+        _ => None,
+    }
+}
+
 /// Why a line is not an entry that may follow these lines, which are this record.
 fn entry_reason(alloc: Global, record: &Record, above: &[u8], line: &[u8]) -> Explained {
     let (field, rest) = first_field(line);
@@ -157,11 +178,11 @@ fn entry_reason(alloc: Global, record: &Record, above: &[u8], line: &[u8]) -> Ex
         let form = " is followed by the label of a feature, in capitals, and by nothing else.";
         return word.reason(alloc, "", form);
     }
-    if act == b"REFUSED".as_slice() {
-        let form = " is followed by a space and an error of 1 to 400 bytes, all of them printable.";
+    if let Some(form) = note_form(act) {
         return word.reason(alloc, "", form);
     }
-    let words = " is not HOMEDIS, HOMED, MOVED, CHANGED, FRAMED, CONTACT, REFUSED or COMPLETED.";
+    let words =
+        " is not HOMEDIS, HOMED, MOVED, CHANGED, FRAMED, CONTACT, COMPLETED, REFUSED, BY, OPERATOR, PROGRAM, SETUP, OPENED, DATED or LEFT.";
     word_reason(alloc, word, false, words)
 }
 
