@@ -7,7 +7,9 @@ lines of the record are read here, by a second implementation of docs/FILES.md; 
 - no feature whose COMPLETED line was whole is lost or measured twice;
 - the features of the record are those of the program, each with the points of its last contacts;
 - the audit of the record's features over the record's contacts answers RUNS, and over the server's contacts too;
-- what the server reported is a prefix of what it did on that connection, for each connection.
+- what the server reported is a prefix of what it did on that connection, for each connection;
+- each connection begins with what the record notes of it: the program that ran, the operator, the digests of both files, the server and the
+  time; each feature has a time that is not before the one above it, and the end of the last run is noted as done.
 
 Likewise with a features file in place of the record, which grows by each completed feature: no feature whose END was whole is lost, and the
 audit of the file over the server's contacts answers RUNS.
@@ -17,7 +19,9 @@ And the server is killed: its contacts file has each act that it reported, and t
 `run` calls this with a few moments; by itself: tests/killed.py [MOMENTS], which spreads that many over each window.
 """
 
+import hashlib
 import pathlib
+import re
 import socket
 import subprocess
 import sys
@@ -52,7 +56,10 @@ def dme(folder, *words):
     return subprocess.Popen([str(PROGRAM), *words], cwd=folder, stdout=subprocess.PIPE, stderr=subprocess.PIPE, text=True)
 
 
-RECORD = ("--record", "part.record", "--part", "0042/7")
+RECORD = ("--record", "part.record", "--part", "0042/7", "--operator", "A. B.")
+BEGIN = ("BY", "OPERATOR", "PROGRAM", "SETUP", "OPENED")
+NOTES = (*BEGIN, "DATED", "LEFT")
+TIME = re.compile(r"\d{4}-\d\d-\d\dT\d\d:\d\d:\d\d\.\d{3}Z")
 LEDGER = ("--features", "part.features")
 
 
@@ -65,7 +72,7 @@ class Record:
 
     def __init__(self, text):
         lines = text.split("\n")[:-1]
-        self.asked, self.told, self.features, self.refused = [], [], [], []
+        self.asked, self.told, self.features, self.refused, self.notes = [], [], [], [], []
         if "END" not in lines:
             return
         end = lines.index("END")
@@ -89,6 +96,8 @@ class Record:
             self.features.append((label, number, run, touches))
         elif word == "REFUSED":
             self.refused.append((number, rest))
+        elif word in NOTES:
+            self.notes.append((int(number), word, rest, len(self.features)))
         else:
             self.told.append((number, word, rest))
 
@@ -165,6 +174,31 @@ def must_be_recorded(folder):
     must_be_prefix(folder)
 
 
+def digest(folder, name):
+    return hashlib.sha256((folder / name).read_bytes()).hexdigest()
+
+
+def must_be_noted(folder, port):
+    """Each connection's notes are those of its run, in their order, and the features of each have their time."""
+    record = read(folder)
+    given = {"OPERATOR": "A. B.", "PROGRAM": f"part.dmis {digest(folder, 'part.dmis')}", "SETUP": f"machine.setup {digest(folder, 'machine.setup')}"}
+    last, dated = "", 0
+    for connection in sorted({it[0] for it in record.notes}):
+        notes = [it for it in record.notes if it[0] == connection]
+        words = [it[1] for it in notes]
+        must(tuple(words[:5]) == BEGIN[:len(words)] and set(words[5:]) <= {"DATED", "LEFT"}, "notes of", connection, words[:8])
+        for _, word, text, features in notes:
+            must(given.get(word, text) == text, "note", word, text)
+            if word in ("OPENED", "DATED", "LEFT"):
+                time, _, rest = text.partition(" ")
+                must(TIME.fullmatch(time) and time >= last, "time", word, text, "after", last)
+                must(word != "OPENED" or rest == f"127.0.0.1 {port}", "server", text)
+                must(word != "DATED" or features > dated, "features dated", features, dated)
+                last, dated = time, features if word == "DATED" else dated
+    _, word, text, _ = record.notes[-1]
+    must(word == "LEFT" and text.endswith(" done"), "end", word, text)
+
+
 def must_be_audited(folder, contacts, count=FEATURES):
     """The audit of that many features over a file of contacts answers RUNS."""
     words = ["audit", "--setup", "machine.setup", "--features", "part.features", "--contacts", contacts, "part.dmis"]
@@ -191,6 +225,7 @@ def kill_twice(folder, window, moments, kept):
     ended_server(server, port)
     if kept == RECORD:
         must_be_recorded(folder)
+        must_be_noted(folder, port)
     must_be_audited(folder, "server.contacts")
     return held
 
