@@ -19,7 +19,7 @@ _dme()
         --host | --listen)
             mapfile -t COMPREPLY < <(compgen -A hostname -- "$word")
             return ;;
-        --port | --window | --connections | --connection | --part | --timeout | --wait)
+        --port | --window | --connections | --connection | --part | --operator | --timeout | --wait)
             return ;;
     esac
     case ${COMP_WORDS[1]} in
@@ -28,7 +28,7 @@ _dme()
         audit) options="--setup --features --contacts --record --explain" ;;
         loop) options="--setup --window --progress --trace --explain" ;;
         serve) options="--setup --listen --port --connections --endless --contacts --progress --trace --log --timeout --stop --explain" ;;
-        run) options="--setup --host --port --window --features --record --part --contacts --progress --trace --log --timeout --wait --stop --confirm --pause --explain" ;;
+        run) options="--setup --host --port --window --features --record --part --operator --contacts --progress --trace --log --timeout --wait --stop --confirm --pause --explain" ;;
         export) options="--as --setup --features --record --limits --explain" ;;
         report) options="--record --setup --limits --explain" ;;
         review) options="--as --setup" ;;

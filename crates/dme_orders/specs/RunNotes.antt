@@ -24,6 +24,6 @@ about Dated = codes "complete at"
 about Left = codes "left at"
 
 -- the line of a note: its connection, how many features were complete above it, and what it says
-abbrev pub note_line : Remark → List ℕ
+unfoldable pub note_line : Remark → List ℕ
 note_line r = codes "connection " ++ (decimal r.connection ++ (codes ", " ++ (decimal r.features ++ (codes " features: "
     ++ (about r.note ++ (codes " " ++ (flat_map visible r.text ++ codes "\n")))))))

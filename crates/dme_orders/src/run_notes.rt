@@ -23,6 +23,7 @@ fn about(note: Note) -> &'static str
     }
 }
 
+#[tactic(auto, unfolding(crate::specs::RunNotes::note_line))]
 fn note_text(alloc: Global, remark: &Remark) -> Result<String, AllocError>
     ensures { IfOk result (λ text. string_bytes text ≡ note_line remark.now) }
 {
