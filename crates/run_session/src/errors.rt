@@ -1,22 +1,22 @@
 // What is shown of the errors of a server: the command that each is about, with its line in the program, its feature and its touch, and
 // the error's text.
 
-use dme_line::{Kind, Tag};
+use dme_line::{Kind, Tag, cut_response};
 use dmis_program::Wanted;
-use session_telling::{Dialogue, Report, Sent, line_of, place_of, visible};
+use session_telling::{Dialogue, Report, Sent, is_task, line_of, place_of, visible};
 use std::alloc::{AllocError, Global};
 
 /// What is known of a connection when an error comes: the commands that were sent, and the features that were still to be measured, with
 /// their labels, how many touches each has, and the line of each command that carries out a statement of the program.
 ///
-/// The commands are looked at only if an error comes: until then their bytes are kept as they were sent.
+/// Of a command its tag and kind are kept, and how many touches and statements came with it: none of its bytes.
 #[derive(Drop)]
 pub struct Errors {
     alloc: Global,
-    /// What was sent before `unread`, and what was received of a line that may be an error.
+    /// The commands that were written.
+    sent: Vec<Sent>,
+    /// What was received of a line that may be an error.
     dialogue: Dialogue,
-    /// What was sent since an error came last.
-    unread: Vec<u8>,
     /// Whether the dialogue has heard the beginning of a line only.
     is_within_line: bool,
     labels: Vec<String>,
@@ -24,6 +24,17 @@ pub struct Errors {
     lines: Vec<Option<u64>>,
     /// The errors that were shown since they were taken last, each from its tag on.
     errors: Vec<Vec<u8>>,
+}
+
+/// The tag of a command's line, read as that of the response that it was received.
+fn tag_of(line: &[u8]) -> Option<Tag> {
+    let [a, b, c, d, e, ..] = line else {
+        return None;
+    };
+    match cut_response(&[*a, *b, *c, *d, *e, b' ', b'&']) {
+        Ok(response) => Some(response.tag),
+        Err(_) => None,
+    }
 }
 
 /// The text of an error from its tag on.
@@ -54,7 +65,7 @@ impl Errors {
         Ok(Errors {
             alloc,
             dialogue: Dialogue::new(alloc),
-            unread: Vec::new(alloc),
+            sent: Vec::new(alloc),
             is_within_line: false,
             labels,
             touches,
@@ -63,9 +74,29 @@ impl Errors {
         })
     }
 
-    /// Bytes were sent. Fails only if out of memory.
-    pub fn send(&mut self, bytes: &[u8]) -> Result<(), AllocError> {
-        self.unread.extend_from_slice(bytes)
+    /// A command of this kind is to be written. Fails only if out of memory.
+    pub fn expect(&mut self, kind: Kind) -> Result<(), AllocError> {
+        let touches = self.sent.last().map_or(0, |sent| sent.touches);
+        let tasks = self.sent.last().map_or(0, |sent| sent.tasks);
+        let is_touch = kind == Kind::PtMeas;
+        self.sent.push(Sent {
+            tag: Tag::Event(0),
+            kind,
+            touches: touches.saturating_add(u64::from(is_touch)),
+            tasks: tasks.saturating_add(u64::from(is_task(kind))),
+        })?;
+        Ok(())
+    }
+
+    /// It was written on this line, or not: then there is none.
+    pub fn note(&mut self, line: &[u8]) {
+        let Some(tag) = tag_of(line) else {
+            let _unsent = self.sent.pop();
+            return;
+        };
+        if let Some(sent) = self.sent.last_mut() {
+            sent.tag = tag;
+        }
     }
 
     /// Whether bytes that were received are whole lines with no error among them: an error has a `!`.
@@ -75,10 +106,13 @@ impl Errors {
 
     /// The errors of bytes that were received.
     fn reports(&mut self, bytes: &[u8]) -> Result<Vec<Report>, AllocError> {
-        self.dialogue.send(self.alloc, self.unread.as_slice())?;
-        self.unread.clear();
         self.is_within_line = bytes.last() != Some(&b'\n');
         self.dialogue.hear(self.alloc, bytes)
+    }
+
+    /// The last command that was written under a tag.
+    fn about(&self, tag: Tag) -> Option<Sent> {
+        self.sent.iter().rev().copied().find(|sent| sent.tag == tag)
     }
 
     /// The feature and the touch that a command is, if it is a touch of one that was still to be measured.
@@ -119,7 +153,7 @@ impl Errors {
         let reports = self.reports(bytes)?;
         for report in reports.iter() {
             let text = visible(self.alloc, report.text())?;
-            let command = self.command(report.about())?;
+            let command = self.command(self.about(report.tag()))?;
             let line = format!(in self.alloc; "dme: {command}{text}\n")?;
             shown.push_str(line.as_str())?;
             self.errors.push(from_tag(self.alloc, report)?)?;

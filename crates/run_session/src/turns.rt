@@ -7,6 +7,7 @@ ghost use Rattle.run_session.specs.Records as spec;
 
 use crate::{Session, Stage};
 use client_core::{ClientFault, State};
+use dme_line::Kind;
 use effects::Answer;
 use link_world::PumpFault;
 use session_telling::{Lapse, Side, Wait};
@@ -40,7 +41,22 @@ impl Session {
         ensures told { spec.StaysTold self.old self.new }
         ensures lacks { spec.lacking self.new ≡ spec.lacking self.old }
     {
-        self.client.send()
+        self.expect_due()?;
+        let written = self.client.out().len();
+        let result = self.client.send();
+        self.errors
+            .note(self.client.out().get(written..).unwrap_or(&[]));
+        result
+    }
+
+    /// What the command is whose errors are to be shown, once it is written.
+    fn expect_due(&mut self) -> Result<(), AllocError>
+        ensures { self.new ≡ self.old }
+    {
+        match self.client.due() {
+            Some(command) => self.errors.expect(command.kind()),
+            None => Ok(()),
+        }
     }
 
     /// The client aborts. Fails only if out of memory.
@@ -51,7 +67,12 @@ impl Session {
         ensures told { spec.StaysTold self.old self.new }
         ensures lacks { spec.lacking self.new ≡ spec.lacking self.old }
     {
-        match self.client.abort() {
+        self.errors.expect(Kind::AbortE)?;
+        let written = self.client.out().len();
+        let result = self.client.abort();
+        self.errors
+            .note(self.client.out().get(written..).unwrap_or(&[]));
+        match result {
             Ok(()) => Ok(()),
             Err(ClientFault::NotNow) => Ok(()),
             Err(ClientFault::Memory) => Err(AllocError),
@@ -361,7 +382,6 @@ impl Session {
         ensures followed { OnOk result (spec.FollowsTold self.old self.new) }
     {
         let sent = Vec::from_slice(self.alloc, self.client.out())?;
-        self.errors.send(sent.as_slice())?;
         self.go_by(Side::Client, sent.as_slice())?;
         self.clear();
         self.show()

@@ -1,4 +1,4 @@
-use Rattle.run_session.proofs.Names.{ap, arith, le-leb, length, List, refl, Sent, ℕ}
+use Rattle.run_session.proofs.Names.{ap, arith, le-leb, length, List, Sent, ℕ}
 use Rattle.run_session.proofs.ClientCalls.{call_keeps}
 use Rattle.run_session.proofs.Reporting.{keeps_by}
 use Rattle.run_session.proofs.sessions.Session.clear.Goals as goal

@@ -1,4 +1,4 @@
-use Rattle.run_session.proofs.Names.{Feed, refl}
+use Rattle.run_session.proofs.Names.{Feed}
 use Rattle.run_session.proofs.ClientCalls.{leads_keeps}
 use Rattle.run_session.proofs.Reporting.{keeps_by}
 use Rattle.run_session.proofs.sessions.Session.feed.Goals as goal

@@ -1,5 +1,5 @@
 use Rattle.run_session.proofs.Names.{ap, Book, Filed, of_file, refl, Stage, State, the_reply, Told}
-use Rattle.run_session.proofs.Filing.{arm, arm_on, is_other, is_quiet, noted_goes, or_other, or_quiet, quiet_goes, quiet_keeps}
+use Rattle.run_session.proofs.Filing.{arm, is_other, is_quiet, noted_goes, or_other, or_quiet, quiet_goes, quiet_keeps}
 use Rattle.run_session.proofs.Stops.{answered_later, is_still, later, may_stop, or_still, runs_go, still}
 use Rattle.run_session.specs.Records.{answered, is_stop}
 use Rattle.run_session.proofs.Paces.{also_filed, is_paced, on_filed, on_told, or_paced}

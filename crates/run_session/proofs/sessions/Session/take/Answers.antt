@@ -1,6 +1,6 @@
 use Rattle.effects.specs.Effects.{the_reply}
 use Rattle.run_session.proofs.Filing.{goes_further}
-use Rattle.std.proofs.Common.{◌≡◌, false, rules, true}
+use Rattle.std.proofs.Common.{◌≡◌, false, rules}
 use Rattle.std.specs.Prelude.{is_err}
 use Rattle.run_session.proofs.Stops.{keeps_left, left_stops, ok_stops}
 use Rattle.run_session.proofs.sessions.Session.take.Goals as goal

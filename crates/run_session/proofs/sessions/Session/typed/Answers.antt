@@ -1,4 +1,3 @@
-use Rattle.effects.specs.Effects.{the_reply}
 use Rattle.run_session.proofs.Names.{◌∙◌, Bool, Keeps, OnErr, OnOk, subst, sym}
 use Rattle.run_session.specs.Records.{IsShort, stopped}
 use Rattle.run_session.proofs.sessions.Session.typed.Goals as goal
