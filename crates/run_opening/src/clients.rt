@@ -218,10 +218,8 @@ impl Opening {
 
     /// What is known of the commands, to show the server's errors by.
     fn errors(&self, client: &Client) -> Result<Errors, AllocError> {
-        let all = client.program().features();
-        let (_, wanted) = all.split_at(client.features().len().min(all.len()));
         let lines = command_lines(self.alloc, self.tasks.as_slice(), kept_touches(client))?;
-        Errors::new(self.alloc, wanted, lines)
+        Ok(Errors::new(self.alloc, client.features().len(), lines))
     }
 
     /// The values of the run on its connection.

@@ -9,3 +9,6 @@ pub mod Reporting
 pub mod Moments
 pub mod Pauses
 pub mod Stops
+pub mod Noting
+pub mod Hearing
+pub mod Touches

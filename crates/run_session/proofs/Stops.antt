@@ -104,6 +104,14 @@ runs_go r b v s t reply is quiet ran short same = go r ran short
 
 -- ---- the client aborts
 
+pub on_ok : {A E : Type 0} (r : Result A E) {P : Type 0} → P → OnOk r P
+on_ok (Ok a) h = h
+on_ok (Err e) h = tt
+
+pub on_err : {A E : Type 0} (r : Result A E) {P : Type 0} → P → OnErr r P
+on_err (Ok a) h = tt
+on_err (Err e) h = h
+
 -- what its call leaves of it
 abbrev pub Aborted : {A : Type 0} → Result A ClientFault → ClientEnd → ClientEnd → Type 0
 Aborted (Ok a) e f = f ≡ behind_call Abort e

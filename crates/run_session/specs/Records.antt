@@ -20,6 +20,7 @@ use Rattle.effects.specs.Effects.{Ask, Byte, Exists, Make, Discard, Begin, Appen
 use Rattle.effects.specs.Effects.{Reply, Done, Bytes, Found, Short}
 use Rattle.order_parts.specs.Ends.{end_shown}
 use Rattle.order_parts.specs.Kept.{IsFeaturesText}
+use Rattle.run_session.specs.Errors.{Talk}
 use Rattle.run_session.specs.declared.stages.Stage.{Stage}
 use Rattle.run_session.specs.declared.stages.Stage.TheVariants as stage
 
@@ -82,6 +83,7 @@ pub record State : Type 0 where
   pub pair : Pair
   pub book : Book
   pub reports : Reports
+  pub talk : Talk
   pub text : List ℕ  -- what is printed at the end
   pub list : List ℕ  -- what the features file is to have
   pub held : ℕ  -- how many features it has then
@@ -138,6 +140,7 @@ pub record Start : Type 0 where
   pub pauses : List ℕ
   pub keeps : Bool
   pub reports : Reports
+  pub talk : Talk
 
 -- what the record's file has: with what may not be on the device, and what no crash takes away; and what was answered of the others
 pub record Outside : Type 0 where

@@ -1,33 +1,67 @@
 // What is shown of the errors of a server: the command that each is about, with its line in the program, its feature and its touch, and
 // the error's text.
 
-use dme_line::{Kind, Tag, cut_response};
+ghost use Rattle.std.specs.Prelude.{◌≡◌, ◌∷◌, ◌++◌, ◌-◌, ◌==◌, ℕ, List, [], Some, true, false, map, length, drop, slice_get, IfOk, OnOk, MatchOption, string_bytes};
+ghost use Rattle.std.specs.List.{AllByRecursion, list_any};
+ghost use Rattle.dme_line.specs.Kinds.{kind_name};
+ghost use Rattle.dme_line.specs.Tags.{written_tag, IsTag};
+ghost use Rattle.dme_line.specs.declared.tags.Tag.{Tag};
+ghost use Rattle.session_telling.specs.Sessions.{last_under, with_command};
+ghost use Rattle.run_session.specs.Errors as spec;
+
+use dme_line::{Kind, Tag, cut_response, write_received_reserved};
 use dmis_program::Wanted;
 use session_telling::{Dialogue, Report, Sent, is_task, line_of, place_of, visible};
 use std::alloc::{AllocError, Global};
+use std::marker::Model;
 
-/// What is known of a connection when an error comes: the commands that were sent, and the features that were still to be measured, with
-/// their labels, how many touches each has, and the line of each command that carries out a statement of the program.
+/// What is known of a connection when an error comes: the commands that were written, how many features of the program were complete
+/// before, and the line of each command that carries out a statement of the program. Contracts see this as a `Talk`.
 ///
 /// Of a command its tag and kind are kept, and how many touches and statements came with it: none of its bytes.
 #[derive(Drop)]
 pub struct Errors {
     alloc: Global,
+    kept: usize,
+    lines: Vec<Option<u64>>,
     /// The commands that were written.
     sent: Vec<Sent>,
     /// What was received of a line that may be an error.
     dialogue: Dialogue,
-    /// Whether the dialogue has heard the beginning of a line only.
+    /// Whether the dialogue may have heard the beginning of a line only.
     is_within_line: bool,
-    labels: Vec<String>,
-    touches: Vec<usize>,
-    lines: Vec<Option<u64>>,
     /// The errors that were shown since they were taken last, each from its tag on.
     errors: Vec<Vec<u8>>,
 }
 
-/// The tag of a command's line, read as that of the response that it was received.
-fn tag_of(line: &[u8]) -> Option<Tag> {
+impl Model for Errors {
+    ghost use Rattle.std.specs.Prelude.{◌≡◌, [], map, false};
+    ghost use Rattle.run_session.specs.Errors.{Talk};
+
+    ghost Value = { Talk };
+
+    ghost view = { λ e. record {
+      kept = e.kept;
+      lines = e.lines.items;
+      sent = e.sent.items;
+      hearing = e.dialogue.hearing;
+      errors = map (λ x. x.items) e.errors.items;
+    } };
+
+    ghost invariant = { λ e. e.is_within_line ≡ false → e.dialogue.hearing ≡ [] };
+}
+
+fn ends_line(bytes: &[u8]) -> bool
+    ensures { result ≡ true → slice_get bytes.now (length bytes.now - 1) ≡ Some 10 }
+{
+    bytes.last() == Some(&b'\n')
+}
+
+/// The tag with which the line of a command begins, read as that of the response that it was received.
+fn tag_of(line: &[u8]) -> Option<Tag>
+    ensures { (tag : Tag) (text : List ℕ) → IsTag tag → line.now ≡ written_tag tag ++ (32 ∷ text)
+        → MatchOption result ⊥ (λ read. read ≡ tag) }
+{
     let [a, b, c, d, e, ..] = line else {
         return None;
     };
@@ -38,131 +72,217 @@ fn tag_of(line: &[u8]) -> Option<Tag> {
 }
 
 /// The text of an error from its tag on.
-fn from_tag(alloc: Global, report: &Report) -> Result<Vec<u8>, AllocError> {
-    let tag = match report.tag() {
-        Tag::Std(number) => format!(in alloc; "{number:05} ")?,
-        Tag::Event(number) => format!(in alloc; "E{number:04} ")?,
-    };
-    let mut text = Vec::from_slice(alloc, tag.as_bytes())?;
+fn from_tag(alloc: Global, report: &Report) -> Result<Vec<u8>, AllocError>
+    requires { IsTag report.now.tag }
+    ensures { IfOk result (λ text. text.items ≡ spec.error_kept report.now) }
+{
+    let mut text = Vec::new(alloc);
+    text.reserve(7)?;
+    write_received_reserved(&mut text, report.tag());
+    text.pop();
     text.extend_from_slice(report.text())?;
     Ok(text)
 }
 
+/// How many touches each of these features has.
+fn touch_counts(alloc: Global, features: &[Wanted]) -> Result<Vec<usize>, AllocError>
+    ensures { IfOk result (λ counts. counts.items ≡ map (λ f. length f.touches) features.now) }
+{
+    let mut counts = Vec::new(alloc);
+    for feature in features {
+        counts.push(feature.touches.as_slice().len())?;
+    }
+    Ok(counts)
+}
+
+/// Which touch of which of these features a command is, if it is one.
+fn touch(alloc: Global, features: &[Wanted], sent: Sent) -> Result<String, AllocError>
+    ensures { IfOk result (λ text. string_bytes text
+        ≡ spec.touch_of features.now sent.kind sent.touches) }
+{
+    let Kind::PtMeas = sent.kind else {
+        return Ok(String::new(alloc));
+    };
+    let counts = touch_counts(alloc, features)?;
+    let Some((at, touch)) = place_of(counts.as_slice(), sent.touches as usize) else {
+        return Ok(String::new(alloc));
+    };
+    let label = &features[at].label;
+    format!(in alloc; ", {label}, touch {touch}")
+}
+
+fn kind_text(kind: Kind) -> &'static str
+    ensures { result.now ≡ kind_name kind }
+{
+    match kind {
+        Kind::StartSession => "StartSession",
+        Kind::EndSession => "EndSession",
+        Kind::ClearAllErrors => "ClearAllErrors",
+        Kind::IsHomed => "IsHomed",
+        Kind::Home => "Home",
+        Kind::OnPtMeasReport => "OnPtMeasReport",
+        Kind::GoTo => "GoTo",
+        Kind::PtMeas => "PtMeas",
+        Kind::ChangeTool => "ChangeTool",
+        Kind::SetCsyTransformation => "SetCsyTransformation",
+        Kind::SetCoordSystem => "SetCoordSystem",
+        Kind::AbortE => "AbortE",
+    }
+}
+
 impl Errors {
-    /// For a connection on which these features are to be measured, by commands of these lines of the program. Fails only if out of memory.
-    pub fn new(
-        alloc: Global,
-        wanted: &[Wanted],
-        lines: Vec<Option<u64>>,
-    ) -> Result<Errors, AllocError> {
-        let mut labels = Vec::new(alloc);
-        let mut touches = Vec::new(alloc);
-        for feature in wanted {
-            let label = &feature.label;
-            labels.push(format!(in alloc; "{label}")?)?;
-            touches.push(feature.touches.as_slice().len())?;
-        }
-        Ok(Errors {
+    /// For a connection before which that many features of the program were complete, by commands of these lines of the program. Does not
+    /// allocate.
+    pub fn new(alloc: Global, kept: usize, lines: Vec<Option<u64>>) -> Errors
+        ensures { result ≡ spec.new_talk kept lines.items }
+    {
+        Errors {
             alloc,
-            dialogue: Dialogue::new(alloc),
-            sent: Vec::new(alloc),
-            is_within_line: false,
-            labels,
-            touches,
+            kept,
             lines,
+            sent: Vec::new(alloc),
+            dialogue: Dialogue::new(alloc),
+            is_within_line: false,
             errors: Vec::new(alloc),
-        })
+        }
     }
 
-    /// A command of this kind is to be written. Fails only if out of memory.
-    pub fn expect(&mut self, kind: Kind) -> Result<(), AllocError> {
-        let touches = self.sent.last().map_or(0, |sent| sent.touches);
-        let tasks = self.sent.last().map_or(0, |sent| sent.tasks);
-        let is_touch = kind == Kind::PtMeas;
+    /// A command of this kind was written on this line. Fails only if out of memory.
+    pub fn note(&mut self, kind: Kind, line: &[u8]) -> Result<(), AllocError>
+        ensures noted { (tag : Tag) (text : List ℕ) → IsTag tag
+            → line.now ≡ written_tag tag ++ (32 ∷ text) → OnOk result
+            (self.new ≡ record (self.old) { sent = with_command self.old.sent tag kind }) }
+    {
+        let Some(tag) = tag_of(line) else {
+            return Ok(());
+        };
+        self.push(tag, kind)
+    }
+
+    fn push(&mut self, tag: Tag, kind: Kind) -> Result<(), AllocError>
+        ensures { OnOk result
+            (self.new ≡ record (self.old) { sent = with_command self.old.sent tag kind }) }
+    {
+        let mut touches = self.sent.last().map_or(0, |sent| sent.touches);
+        let mut tasks = self.sent.last().map_or(0, |sent| sent.tasks);
+        if let Kind::PtMeas = kind {
+            touches = touches.saturating_add(1);
+        }
+        if is_task(kind) {
+            tasks = tasks.saturating_add(1);
+        }
         self.sent.push(Sent {
-            tag: Tag::Event(0),
+            tag,
             kind,
-            touches: touches.saturating_add(u64::from(is_touch)),
-            tasks: tasks.saturating_add(u64::from(is_task(kind))),
+            touches,
+            tasks,
         })?;
         Ok(())
     }
 
-    /// It was written on this line, or not: then there is none.
-    pub fn note(&mut self, line: &[u8]) {
-        let Some(tag) = tag_of(line) else {
-            let _unsent = self.sent.pop();
-            return;
-        };
-        if let Some(sent) = self.sent.last_mut() {
-            sent.tag = tag;
-        }
-    }
-
     /// Whether bytes that were received are whole lines with no error among them: an error has a `!`.
-    fn are_no_errors(&self, bytes: &[u8]) -> bool {
-        !self.is_within_line && bytes.last() == Some(&b'\n') && !bytes.contains(&b'!')
-    }
-
-    /// The errors of bytes that were received.
-    fn reports(&mut self, bytes: &[u8]) -> Result<Vec<Report>, AllocError> {
-        self.is_within_line = bytes.last() != Some(&b'\n');
-        self.dialogue.hear(self.alloc, bytes)
+    fn are_no_errors(&self, bytes: &[u8]) -> bool
+        ensures { result ≡ true → (self.now.hearing ≡ [])
+            × (slice_get bytes.now (length bytes.now - 1) ≡ Some 10)
+            × (list_any (λ b. b == 33) bytes.now ≡ false) }
+    {
+        !self.is_within_line && ends_line(bytes) && !bytes.contains(&b'!')
     }
 
     /// The last command that was written under a tag.
-    fn about(&self, tag: Tag) -> Option<Sent> {
+    fn about(&self, tag: Tag) -> Option<Sent>
+        ensures { result ≡ last_under tag self.now.sent }
+    {
         self.sent.iter().rev().copied().find(|sent| sent.tag == tag)
     }
 
-    /// The feature and the touch that a command is, if it is a touch of one that was still to be measured.
-    fn touch(&self, sent: Sent) -> Result<String, AllocError> {
-        let number = match usize::try_from(sent.touches) {
-            Ok(number) if sent.kind == Kind::PtMeas => number,
-            _ => return Ok(String::new(self.alloc)),
-        };
-        let Some((at, touch)) = place_of(self.touches.as_slice(), number) else {
-            return Ok(String::new(self.alloc));
-        };
-        match self.labels.get(at) {
-            Some(label) => format!(in self.alloc; ", {label}, touch {touch}"),
-            None => Ok(String::new(self.alloc)),
+    /// The features of a program that were to be measured.
+    #[tactic(auto, using(crate::proofs::Touches::none_left))]
+    fn asked<'a>(&self, program: &'a [Wanted]) -> &'a [Wanted]
+        ensures { result.now ≡ drop self.now.kept program.now }
+    {
+        match program.split_at_checked(self.kept) {
+            Some((_, asked)) => asked,
+            None => &[],
         }
     }
 
     /// Which command an error is about.
-    fn command(&self, about: Option<Sent>) -> Result<String, AllocError> {
+    fn command(&self, program: &[Wanted], about: Option<Sent>) -> Result<String, AllocError>
+        ensures { IfOk result (λ text. string_bytes text ≡ spec.command_text
+            (drop self.now.kept program.now) self.now.lines about) }
+    {
         let Some(sent) = about else {
             return String::from_str(self.alloc, "the server reports: ");
         };
-        let kind = sent.kind;
-        match line_of(self.lines.as_slice(), sent) {
-            Some(line) => {
-                let touch = self.touch(sent)?;
-                format!(in self.alloc; "line {line}{touch}: {kind:?} refused: ")
-            }
-            None => format!(in self.alloc; "{kind:?} refused: "),
-        }
+        let kind = kind_text(sent.kind);
+        let Some(line) = line_of(self.lines.as_slice(), sent) else {
+            return format!(in self.alloc; "{kind} refused: ");
+        };
+        let touch = touch(self.alloc, self.asked(program), sent)?;
+        format!(in self.alloc; "line {line}{touch}: {kind} refused: ")
     }
 
-    /// Adds what is shown of the errors of bytes that were received. Fails only if out of memory.
-    pub fn hear(&mut self, bytes: &[u8], shown: &mut String) -> Result<(), AllocError> {
-        if bytes.is_empty() || self.are_no_errors(bytes) {
-            return Ok(());
-        }
-        let reports = self.reports(bytes)?;
-        for report in reports.iter() {
-            let text = visible(self.alloc, report.text())?;
-            let command = self.command(self.about(report.tag()))?;
-            let line = format!(in self.alloc; "dme: {command}{text}\n")?;
-            shown.push_str(line.as_str())?;
-            self.errors.push(from_tag(self.alloc, report)?)?;
+    /// An error is shown and kept.
+    fn add(
+        &mut self,
+        program: &[Wanted],
+        report: &Report,
+        shown: &mut String,
+    ) -> Result<(), AllocError>
+        requires { IsTag report.now.tag }
+        ensures { OnOk result (spec.Adds program.now report.now self.old self.new
+            (string_bytes shown.old) (string_bytes shown.new)) }
+    {
+        let command = self.command(program, self.about(report.tag()))?;
+        let text = visible(self.alloc, report.text())?;
+        let line = format!(in self.alloc; "dme: {command}{text}\n")?;
+        shown.push_str(line.as_str())?;
+        self.errors.push(from_tag(self.alloc, report)?)?;
+        Ok(())
+    }
+
+    /// Errors are shown and kept, one after another.
+    fn add_all(
+        &mut self,
+        program: &[Wanted],
+        reports: &[Report],
+        shown: &mut String,
+    ) -> Result<(), AllocError>
+        requires { AllByRecursion (λ r. IsTag r.tag) reports.now }
+        ensures { OnOk result (spec.AddsAll program.now reports.now self.old self.new
+            (string_bytes shown.old) (string_bytes shown.new)) }
+    {
+        for report in reports {
+            self.add(program, report, shown)?;
         }
         Ok(())
     }
 
+    /// Adds what is shown of the errors of bytes that were received, for this program. Fails only if out of memory.
+    pub fn hear(
+        &mut self,
+        program: &[Wanted],
+        bytes: &[u8],
+        shown: &mut String,
+    ) -> Result<(), AllocError>
+        ensures { OnOk result (spec.Hears program.now bytes.now self.old self.new
+            (string_bytes shown.old) (string_bytes shown.new)) }
+    {
+        if self.are_no_errors(bytes) {
+            return Ok(());
+        }
+        self.is_within_line = true;
+        let reports = self.dialogue.hear(self.alloc, bytes)?;
+        self.is_within_line = !ends_line(bytes);
+        self.add_all(program, reports.as_slice(), shown)
+    }
+
     /// The errors that were shown since this was called last, each from its tag on.
-    pub fn take(&mut self) -> Vec<Vec<u8>> {
+    pub fn take(&mut self) -> Vec<Vec<u8>>
+        ensures errors { map (λ e. e.items) result.items ≡ self.old.errors }
+        ensures rest { self.new ≡ record (self.old) { errors = [] } }
+    {
         std::mem::replace(&mut self.errors, Vec::new(self.alloc))
     }
 }

@@ -71,6 +71,7 @@ impl Model for Begun {
           failed = false;
         };
       };
+      talk = b.errors;
     } };
 }
 
@@ -97,6 +98,7 @@ impl Begun {
         ensures reports { IfOk result (λ b. b.reports
             ≡ spec.first_reports (is_some run.contacts)
             (option_map_or (λ file. file.grows) run.features false) number told.now) }
+        ensures talk { IfOk result (λ b. b.talk ≡ errors) }
     {
         let pauses = pauses(alloc, places.as_slice())?;
         let reported = Reported::new(alloc, told)?;
@@ -225,6 +227,7 @@ impl Model for Session {
           failed = s.is_unwritten;
         };
       };
+      talk = s.errors;
       text = s.text.items;
       list = s.listed.text.items;
       held = s.listed.held;
@@ -247,6 +250,7 @@ impl Session {
           spent = false;
         } }
         ensures reports { result.reports ≡ begun.reports }
+        ensures talk { result.talk ≡ begun.talk }
         ensures due { spec.IsDue result }
         ensures followed { spec.HasTold result → spec.HasFollowed result }
     {

@@ -1,9 +1,14 @@
 // On the connection: commands are sent, and lines are heard.
 
-ghost use Rattle.std.specs.Prelude.{◌≡◌, ◌<◌, true, length, OnOk, OnErr, None};
+ghost use Rattle.std.specs.Prelude.{◌≡◌, ◌<◌, ◌∷◌, ◌++◌, ℕ, List, true, length, drop, OnOk, OnErr, None};
+ghost use Rattle.client_core.specs.Calls.{Abort, Send};
+ghost use Rattle.dme_line.specs.Tags.{written_tag, IsTag};
+ghost use Rattle.dme_line.specs.declared.tags.Tag.{Tag};
 ghost use Rattle.effects.specs.Effects.{the_reply};
 ghost use Rattle.protocol_model.specs.Client.{may_abort};
+ghost use Rattle.run_session.specs.Errors.{talk_by};
 ghost use Rattle.run_session.specs.Records as spec;
+ghost use Rattle.session_telling.specs.Sessions.{with_command};
 
 use crate::{Session, Stage};
 use client_core::{ClientFault, State};
@@ -40,21 +45,30 @@ impl Session {
         ensures book { self.new.book ≡ self.old.book }
         ensures told { spec.StaysTold self.old self.new }
         ensures lacks { spec.lacking self.new ≡ spec.lacking self.old }
+        ensures noted { OnOk result (self.new.talk
+            ≡ talk_by Send self.old.pair.end self.old.talk) }
     {
-        self.expect_due()?;
-        let written = self.client.out().len();
-        let result = self.client.send();
-        self.errors
-            .note(self.client.out().get(written..).unwrap_or(&[]));
-        result
+        let Some(command) = self.client.due() else {
+            return Err(ClientFault::NotNow);
+        };
+        let kind = command.kind();
+        let before = self.client.out().len();
+        self.client.send()?;
+        self.note(kind, before)?;
+        Ok(())
     }
 
-    /// What the command is whose errors are to be shown, once it is written.
-    fn expect_due(&mut self) -> Result<(), AllocError>
-        ensures { self.new ≡ self.old }
+    /// A command of this kind was written after that many bytes.
+    fn note(&mut self, kind: Kind, before: usize) -> Result<(), AllocError>
+        ensures noted { (tag : Tag) (text : List ℕ) → IsTag tag
+            → drop before self.old.pair.end.out ≡ written_tag tag ++ (32 ∷ text)
+            → OnOk result (self.new.talk ≡ record (self.old.talk) {
+              sent = with_command self.old.talk.sent tag kind;
+            }) }
+        ensures rest { self.new ≡ record (self.old) { talk = self.new.talk } }
     {
-        match self.client.due() {
-            Some(command) => self.errors.expect(command.kind()),
+        match self.client.out().split_at_checked(before) {
+            Some((_, line)) => self.errors.note(kind, line),
             None => Ok(()),
         }
     }
@@ -66,14 +80,12 @@ impl Session {
         ensures book { self.new.book ≡ self.old.book }
         ensures told { spec.StaysTold self.old self.new }
         ensures lacks { spec.lacking self.new ≡ spec.lacking self.old }
+        ensures noted { OnOk result (self.new.talk
+            ≡ talk_by Abort self.old.pair.end self.old.talk) }
     {
-        self.errors.expect(Kind::AbortE)?;
-        let written = self.client.out().len();
-        let result = self.client.abort();
-        self.errors
-            .note(self.client.out().get(written..).unwrap_or(&[]));
-        match result {
-            Ok(()) => Ok(()),
+        let before = self.client.out().len();
+        match self.client.abort() {
+            Ok(()) => self.note(Kind::AbortE, before),
             Err(ClientFault::NotNow) => Ok(()),
             Err(ClientFault::Memory) => Err(AllocError),
             Err(ClientFault::Faulted(cause)) => {
@@ -324,13 +336,22 @@ impl Session {
         Ok(())
     }
 
+    /// Errors of bytes of the server are to be shown, and to go into the record.
+    fn listen(&mut self, bytes: &[u8]) -> Result<(), AllocError>
+        ensures ran { spec.Keeps self.old self.new }
+        ensures rest { self.new ≡ record (self.old) { talk = self.new.talk } }
+    {
+        let program = self.client.program().features();
+        self.errors.hear(program, bytes, &mut self.shown)
+    }
+
     /// Bytes of one line of the server, perhaps its last: its error is to be shown, and the client reads it.
     fn hear(&mut self, line: &[u8]) -> Result<(), AllocError>
         ensures ran { spec.Keeps self.old self.new }
         ensures book { self.new.book ≡ self.old.book }
     {
         self.remember(line)?;
-        self.errors.hear(line, &mut self.shown)?;
+        self.listen(line)?;
         self.go_by(Side::Server, line)?;
         if let Err(fault) = self.feed(line) {
             return self.refuse_core(fault);
