@@ -1,0 +1,6 @@
+pub mod Numbers
+pub mod Parts
+pub mod Cuts
+pub mod Values
+pub mod Variables
+pub mod Examples

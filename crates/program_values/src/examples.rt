@@ -1,0 +1,75 @@
+// Examples: expressions and their values.
+
+ghost use Rattle.std.specs.Prelude.{◌≡◌, ℕ, codes, pos, negsuc};
+ghost use Rattle.std.specs.Int.{IsGcd};
+ghost use Rattle.program_values.specs.Numbers.{gcd};
+ghost use Rattle.program_values.specs.Examples.{Gives, Fails};
+ghost use Rattle.program_values.specs.declared.faults.ValueFault.TheVariants as fault;
+
+/// Numbers are in lowest terms: numerator and denominator are divided by their greatest common divisor.
+pub fn the_divisor_is_the_greatest()
+    ensures { (a b : ℕ) → IsGcd a b (gcd a b) }
+{}
+
+/// Numerals are exact.
+#[tactic(auto, unfolding(crate::specs::Values::value_within, crate::specs::Values::numeral_value, crate::specs::Parts::parts_of, crate::specs::Numbers::reduced, crate::specs::Numbers::gcd_within, crate::specs::Numbers::multiplied))]
+pub fn numerals_are_exact()
+    ensures decimals { Gives (codes "2.50") (pos 5) 2 }
+    ensures lowered { Gives (codes "1.5E-3") (pos 3) 2000 }
+    ensures raised { Gives (codes ".5E+1") (pos 5) 1 }
+    ensures blanks { Gives (codes " 12. ") (pos 12) 1 }
+    ensures two { Fails (codes "1 2") fault.NotExpression }
+    ensures point { Fails (codes ".") fault.NotExpression }
+    ensures mark { Fails (codes "1E") fault.NotExpression }
+{}
+
+/// Products before sums, powers before products, and each from left to right.
+#[tactic(auto, unfolding(crate::specs::Values::value_within, crate::specs::Values::numeral_value, crate::specs::Parts::parts_of, crate::specs::Numbers::reduced, crate::specs::Numbers::gcd_within, crate::specs::Numbers::multiplied))]
+pub fn operators_have_ranks()
+    ensures products { Gives (codes "1+2*3") (pos 7) 1 }
+    ensures sums { Gives (codes "10-3-2") (pos 5) 1 }
+    ensures quotients { Gives (codes "2/4/5") (pos 1) 10 }
+    ensures powers { Gives (codes "2**3**2") (pos 64) 1 }
+    ensures before { Gives (codes "2*3**2") (pos 18) 1 }
+    ensures lowered { Gives (codes "2**-1") (pos 1) 2 }
+    ensures parentheses { Gives (codes "(1+2)*3") (pos 9) 1 }
+    ensures thirds { Gives (codes "1/3+1/6") (pos 1) 2 }
+{}
+
+/// A sign stands before an operand, also after an operator, and applies after powers.
+#[tactic(auto, unfolding(crate::specs::Values::value_within, crate::specs::Values::numeral_value, crate::specs::Parts::parts_of, crate::specs::Numbers::reduced, crate::specs::Numbers::gcd_within, crate::specs::Numbers::multiplied))]
+pub fn signs_are_before_operands()
+    ensures after_operator { Gives (codes "2*-3") (negsuc 5) 1 }
+    ensures twice { Gives (codes "2--3") (pos 5) 1 }
+    ensures power { Gives (codes "-2**2") (negsuc 3) 1 }
+    ensures plus { Gives (codes "+A") (pos 7) 1 }
+    ensures numeral { Gives (codes "1E1-3") (pos 7) 1 }
+{}
+
+/// Names and functions.
+#[tactic(auto, unfolding(crate::specs::Values::value_within, crate::specs::Values::numeral_value, crate::specs::Parts::parts_of, crate::specs::Numbers::reduced, crate::specs::Numbers::gcd_within, crate::specs::Numbers::multiplied))]
+pub fn names_and_functions_have_values()
+    ensures name { Gives (codes "A+1") (pos 8) 1 }
+    ensures unknown { Fails (codes "C+1") fault.UnknownName }
+    ensures unassigned { Fails (codes "B") fault.NotAssigned }
+    ensures magnitude { Gives (codes "ABS(2-A)") (pos 5) 1 }
+    ensures towards_zero { Gives (codes "INT(2.7)") (pos 2) 1 }
+    ensures from_below { Gives (codes "INT(-2.7)") (negsuc 1) 1 }
+    ensures no_function { Fails (codes "SIN(A)") fault.UnknownFunction }
+{}
+
+/// What has no value, and why.
+#[tactic(auto, unfolding(crate::specs::Values::value_within, crate::specs::Values::numeral_value, crate::specs::Parts::parts_of, crate::specs::Numbers::reduced, crate::specs::Numbers::gcd_within, crate::specs::Numbers::multiplied))]
+pub fn faults_are_named()
+    ensures empty { Fails (codes "") fault.NotExpression }
+    ensures operand { Fails (codes "2*") fault.NotExpression }
+    ensures open { Fails (codes "(1+2") fault.NotExpression }
+    ensures twice { Fails (codes "(1)(2)") fault.NotExpression }
+    ensures zero { Fails (codes "1/(A-7)") fault.DivisionByZero }
+    ensures first { Fails (codes "1/0+C") fault.DivisionByZero }
+    ensures past { Fails (codes "10**16") fault.PastBound }
+    ensures within { Gives (codes "10**15") (pos 1000000000000000) 1 }
+    ensures small { Fails (codes "1E-16") fault.PastBound }
+    ensures exponent { Fails (codes "4**.5") fault.BadExponent }
+    ensures great { Fails (codes "1**65") fault.BadExponent }
+{}

@@ -1,0 +1,21 @@
+//! The values of variables in a DMIS program (ISO 22093): exact numbers, expressions, assignments and names in texts.
+//!
+//! - `faults`: why an expression or a statement has no value
+//! - `numbers`: `Number`, a fraction in lowest terms, and its arithmetic
+//! - `places`: where the operators of an expression are; `parts`: what it is made of; `numerals`; `values`: `value_of`
+//! - `variables`: `Variables`, the table of what was assigned
+#![tactic(auto)]
+
+pub mod examples;
+mod faults;
+mod numbers;
+mod numerals;
+mod parts;
+mod places;
+mod values;
+mod variables;
+
+pub use faults::ValueFault;
+pub use numbers::Number;
+pub use values::value_of;
+pub use variables::Variables;

@@ -1,0 +1,127 @@
+// The value of an expression.
+
+ghost use Rattle.std.specs.Prelude.{◌≡◌};
+ghost use Rattle.std.specs.Prelude.{bytes_eq};
+ghost use Rattle.program_values.specs.Cuts.{seen};
+ghost use Rattle.program_values.specs.Values as spec;
+ghost use Rattle.program_values.specs.Variables.{entry_value};
+
+use crate::faults::ValueFault;
+use crate::numbers::Number;
+use crate::numerals::numeral_value;
+use crate::parts::{Cut, parts_of};
+use crate::places::{Operator, begins_numeral};
+use crate::variables::Variables;
+
+/// How many operations may be within one another.
+const LEVELS: u64 = 100;
+
+pub(crate) fn is_text(text: &[u8], other: &str) -> bool
+    ensures { result ≡ bytes_eq text.now other.now }
+{
+    text == other.as_bytes()
+}
+
+fn is_name_byte(byte: u8) -> bool
+    ensures { result ≡ spec.is_name_byte byte }
+{
+    byte.is_ascii_alphanumeric() || byte == b'_'
+}
+
+fn all_name_bytes(text: &[u8]) -> bool
+    ensures { result ≡ spec.all_name_bytes text.now }
+{
+    text.iter().all(|byte| is_name_byte(*byte))
+}
+
+fn is_variable(text: &[u8]) -> bool
+    ensures { result ≡ spec.is_variable text.now }
+{
+    match text {
+        [first, ..] if first.is_ascii_alphabetic() => all_name_bytes(text),
+        _ => false,
+    }
+}
+
+fn is_numeral(text: &[u8]) -> bool
+    ensures { result ≡ spec.is_numeral text.now }
+{
+    match text {
+        [first, ..] => begins_numeral(*first),
+        [] => false,
+    }
+}
+
+fn leaf_value(text: &[u8], variables: &Variables) -> Result<Number, ValueFault>
+    ensures { result ≡ spec.leaf_value (entry_value variables.now) text.now }
+{
+    if is_numeral(text) {
+        numeral_value(text)
+    } else if is_variable(text) {
+        variables.value(text)
+    } else {
+        Err(ValueFault::NotExpression)
+    }
+}
+
+fn applied(operator: Operator, left: Number, right: Number) -> Result<Number, ValueFault>
+    ensures { result ≡ spec.applied operator left right }
+{
+    match operator {
+        Operator::Plus => left.sum(right),
+        Operator::Minus => left.sum(right.opposite()),
+        Operator::Times => left.product(right),
+        Operator::Over => left.quotient(right),
+        Operator::Power => left.power(right),
+    }
+}
+
+fn function_of(name: &[u8], number: Number) -> Result<Number, ValueFault>
+    ensures { result ≡ spec.function_of name.now number }
+{
+    if is_text(name, "") {
+        Ok(number)
+    } else if is_text(name, "ABS") {
+        Ok(number.magnitude())
+    } else if is_text(name, "INT") {
+        Ok(number.whole_part())
+    } else {
+        Err(ValueFault::UnknownFunction)
+    }
+}
+
+#[cycle(value)]
+fn parts_value(cut: &Cut, variables: &Variables, below: u64) -> Result<Number, ValueFault>
+    ensures { result ≡ spec.parts_value (entry_value variables.now)
+        (spec.value_within (entry_value variables.now) below) (seen cut.now) }
+{
+    match cut {
+        Cut::Both(left, operator, right) => {
+            let left = value_within(left, variables, below)?;
+            let right = value_within(right, variables, below)?;
+            applied(*operator, left, right)
+        }
+        Cut::Opposite(rest) => Ok(value_within(rest, variables, below)?.opposite()),
+        Cut::Same(rest) => value_within(rest, variables, below),
+        Cut::Called(name, inner) => function_of(name, value_within(inner, variables, below)?),
+        Cut::Leaf(text) => leaf_value(text, variables),
+    }
+}
+
+#[cycle(value)]
+fn value_within(text: &[u8], variables: &Variables, levels: u64) -> Result<Number, ValueFault>
+    ensures { result ≡ spec.value_within (entry_value variables.now) levels text.now }
+{
+    if levels == 0 {
+        return Err(ValueFault::TooDeep);
+    }
+    parts_value(&parts_of(text), variables, levels - 1)
+}
+
+/// The value of an expression of numerals, names of variables, `+ - * / **`, signs, parentheses, `ABS` and `INT`. Operators of one
+/// rank, `**` too, apply from left to right. The left operand's fault comes first.
+pub fn value_of(text: &[u8], variables: &Variables) -> Result<Number, ValueFault>
+    ensures { result ≡ spec.value_of (entry_value variables.now) text.now }
+{
+    value_within(text, variables, LEVELS)
+}
