@@ -1,2 +1,4 @@
 pub mod Divisors
 pub mod Steps
+pub mod Tables
+pub mod Carrying

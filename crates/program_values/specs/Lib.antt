@@ -4,3 +4,5 @@ pub mod Cuts
 pub mod Values
 pub mod Variables
 pub mod Examples
+pub mod LookBack
+pub mod Carried

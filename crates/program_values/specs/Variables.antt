@@ -1,5 +1,5 @@
 -- The variables that a program has declared, with what was assigned to them.
-use Rattle.std.specs.Prelude.{ℕ, zero, suc, ◌+◌, Bool, true, false, List, [], ◌∷◌, Option, Some, None, Result, Ok, Err, bytes_eq, if◌then◌else◌}
+use Rattle.std.specs.Prelude.{ℕ, zero, suc, ◌+◌, Bool, true, false, List, [], ◌∷◌, ◌++◌, slice_set, Option, Some, None, Result, Ok, Err, bytes_eq, if◌then◌else◌}
 use Rattle.std.specs.Option.{option_map}
 use Rattle.program_values.specs.Numbers.{Fraction}
 use Rattle.program_values.specs.declared.faults.ValueFault.{ValueFault}
@@ -31,7 +31,19 @@ entry_value entries name = found_value (find entries name)
 abbrev pub entry_kind : List Entry → List ℕ → Option Bool
 entry_kind entries name = option_map (λ (e : Entry). e.whole) (find entries name)
 
+-- where the variable of a name is
+abbrev pub next_place : Option ℕ → Option ℕ
+next_place None = None
+next_place (Some i) = Some (suc i)
+
+abbrev pub place_of : List Entry → List ℕ → Option ℕ
+place_of [] name = None
+place_of (e ∷ es) name = if bytes_eq e.name name then Some 0 else next_place (place_of es name)
+
 -- in place of the variable of the same name, or after the others
+abbrev pub put_at : Entry → List Entry → Option ℕ → List Entry
+put_at entry entries None = entries ++ entry ∷ []
+put_at entry entries (Some i) = slice_set entries i entry
+
 abbrev pub put : Entry → List Entry → List Entry
-put entry [] = entry ∷ []
-put entry (e ∷ es) = if bytes_eq e.name entry.name then entry ∷ es else e ∷ put entry es
+put entry entries = put_at entry entries (place_of entries entry.name)

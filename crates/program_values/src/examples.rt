@@ -1,9 +1,11 @@
 // Examples: expressions and their values.
 
-ghost use Rattle.std.specs.Prelude.{◌≡◌, ℕ, codes, pos, negsuc};
+ghost use Rattle.std.specs.Prelude.{◌≡◌, ◌∷◌, ℕ, Err, None, Ok, Some, codes, pos, negsuc};
 ghost use Rattle.std.specs.Int.{IsGcd};
 ghost use Rattle.program_values.specs.Numbers.{gcd};
-ghost use Rattle.program_values.specs.Examples.{Gives, Fails};
+ghost use Rattle.program_values.specs.Examples.{Gives, Fails, assigning, declaring, refusal, start};
+ghost use Rattle.program_values.specs.LookBack.{value_said};
+ghost use Rattle.program_values.specs.Numbers.{whole_number};
 ghost use Rattle.program_values.specs.declared.faults.ValueFault.TheVariants as fault;
 
 /// Numbers are in lowest terms: numerator and denominator are divided by their greatest common divisor.
@@ -72,4 +74,30 @@ pub fn faults_are_named()
     ensures small { Fails (codes "1E-16") fault.PastBound }
     ensures exponent { Fails (codes "4**.5") fault.BadExponent }
     ensures great { Fails (codes "1**65") fault.BadExponent }
+{}
+
+/// Variables have the value of the last assignment before; one of whole numbers drops the decimals.
+#[tactic(auto, unfolding(crate::specs::Values::value_within, crate::specs::Values::numeral_value, crate::specs::Parts::parts_of, crate::specs::Numbers::reduced, crate::specs::Numbers::gcd_within, crate::specs::Numbers::multiplied))]
+pub fn assignments_are_looked_back_for()
+    ensures cut { value_said (assigning (codes "N") (codes "2.7") ∷ start) (codes "N")
+        ≡ Ok (whole_number (pos 2)) }
+    ensures from_below { value_said (assigning (codes "N") (codes "-2.7") ∷ start) (codes "N")
+        ≡ Ok (whole_number (negsuc 1)) }
+    ensures kept { value_said (assigning (codes "X") (codes "2.5") ∷ start) (codes "X")
+        ≡ Ok (record { over = pos 5; under = 2 }) }
+    ensures others { value_said (assigning (codes "X") (codes "1") ∷ start) (codes "N")
+        ≡ Err fault.NotAssigned }
+    ensures before { value_said (assigning (codes "N") (codes "N*2")
+        ∷ (assigning (codes "N") (codes "4") ∷ start)) (codes "N") ≡ Ok (whole_number (pos 8)) }
+    ensures anew { value_said (declaring (codes "INTGR") (codes "N")
+        ∷ (assigning (codes "N") (codes "4") ∷ start)) (codes "N") ≡ Err fault.NotAssigned }
+    ensures unknown { value_said start (codes "Y") ≡ Err fault.UnknownName }
+    ensures texts { value_said (declaring (codes "CHAR") (codes "Y") ∷ start) (codes "Y")
+        ≡ Err fault.UnknownName }
+    ensures undeclared { refusal start (assigning (codes "Y") (codes "1")) ≡ Some fault.UnknownName }
+    ensures unassigned { refusal start (assigning (codes "N") (codes "X"))
+        ≡ Some fault.NotAssigned }
+    ensures zero { refusal start (assigning (codes "N") (codes "1/0"))
+        ≡ Some fault.DivisionByZero }
+    ensures fine { refusal start (assigning (codes "N") (codes "1")) ≡ None }
 {}

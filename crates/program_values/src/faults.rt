@@ -1,5 +1,7 @@
 // Why there is no value.
 
+use std::alloc::AllocError;
+
 /// Why an expression, a statement or a text with names has no value.
 #[derive(Clone, Copy, Debug, PartialEq, Eq)]
 pub enum ValueFault {
@@ -19,4 +21,17 @@ pub enum ValueFault {
     PastBound,
     /// More operations are within one another than the limit.
     TooDeep,
+    /// Out of memory.
+    Memory,
+}
+
+impl From<AllocError> for ValueFault {
+    ghost use Rattle.std.specs.Prelude.{◌≡◌};
+    ghost use Rattle.program_values.specs.declared.faults.ValueFault.TheVariants.{Memory};
+
+    ghost from_gives = { λ _ e. e ≡ Memory };
+
+    fn from(_: AllocError) -> ValueFault {
+        ValueFault::Memory
+    }
 }
