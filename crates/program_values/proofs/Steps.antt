@@ -1,8 +1,10 @@
 -- Definitions by a number that counts down, one step at a time.
 use Rattle.std.proofs.Common.{◌≡◌, ℕ, zero, suc, ◌<◌, ◌-◌, arith, refl, sym, ap, ◌∙◌}
-use Rattle.std.specs.Prelude.{Result, Ok, Err, List}
+use Rattle.std.specs.Prelude.{Result, Ok, Err, List, Option, ◌==◌}
 use Rattle.program_values.specs.Numbers.{Fraction, multiplied, and_then, product}
 use Rattle.program_values.specs.Parts.{Parts, parts_of}
+use Rattle.std.specs.List.{position}
+use Rattle.program_values.specs.Texts.{expanded_at, expanded_within}
 use Rattle.program_values.specs.Values.{parts_value, value_within}
 use Rattle.program_values.specs.declared.faults.ValueFault.{ValueFault}
 use Rattle.program_values.specs.declared.faults.ValueFault.TheVariants.{TooDeep}
@@ -36,3 +38,18 @@ pub value_within-by : (said : List ℕ → Result Fraction ValueFault) (n : ℕ)
     → parts_value said (value_within said (n - 1)) parts ≡ value_within said n text
 value_within-by said n text parts some e = ap (λ p. parts_value said (value_within said (n - 1)) p) e
     ∙ value_within-step said (n - 1) n text (omega (arith, some))
+
+pub expanded-done : (values : List ℕ → Result Fraction ValueFault) (n : ℕ) (text : List ℕ) → n ≡ 0 → expanded_within values n text ≡ Err TooDeep
+unfolding expanded_within
+expanded-done values zero text e = refl
+expanded-done values (suc n) text e = absurd (omega (arith, e))
+
+expanded-step : (values : List ℕ → Result Fraction ValueFault) (m n : ℕ) (text : List ℕ) → suc m ≡ n
+    → expanded_at values (expanded_within values m) text (position (λ b. b == 64) text) ≡ expanded_within values n text
+unfolding expanded_within
+expanded-step values m n text e = rw (sym e) refl
+
+pub expanded-by : (values : List ℕ → Result Fraction ValueFault) (n : ℕ) (text : List ℕ) (place : Option ℕ) → 0 < n
+    → place ≡ position (λ b. b == 64) text → expanded_at values (expanded_within values (n - 1)) text place ≡ expanded_within values n text
+expanded-by values n text place some e = ap (λ p. expanded_at values (expanded_within values (n - 1)) text p) e
+    ∙ expanded-step values (n - 1) n text (omega (arith, some))

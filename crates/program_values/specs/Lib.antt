@@ -6,3 +6,4 @@ pub mod Variables
 pub mod Examples
 pub mod LookBack
 pub mod Carried
+pub mod Texts

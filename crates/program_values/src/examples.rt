@@ -1,10 +1,11 @@
 // Examples: expressions and their values.
 
-ghost use Rattle.std.specs.Prelude.{◌≡◌, ◌∷◌, ℕ, Err, None, Ok, Some, codes, pos, negsuc};
+ghost use Rattle.std.specs.Prelude.{◌≡◌, ◌∷◌, ◌++◌, ℕ, Err, None, Ok, Some, codes, decimal, pos, negsuc};
 ghost use Rattle.std.specs.Int.{IsGcd};
 ghost use Rattle.program_values.specs.Numbers.{gcd};
-ghost use Rattle.program_values.specs.Examples.{Gives, Fails, assigning, declaring, refusal, start};
+ghost use Rattle.program_values.specs.Examples.{Gives, Fails, a_is_seven, assigning, declaring, refusal, start};
 ghost use Rattle.program_values.specs.LookBack.{value_said};
+ghost use Rattle.program_values.specs.Texts.{expanded};
 ghost use Rattle.program_values.specs.Numbers.{whole_number};
 ghost use Rattle.program_values.specs.declared.faults.ValueFault.TheVariants as fault;
 
@@ -100,4 +101,21 @@ pub fn assignments_are_looked_back_for()
     ensures zero { refusal start (assigning (codes "N") (codes "1/0"))
         ≡ Some fault.DivisionByZero }
     ensures fine { refusal start (assigning (codes "N") (codes "1")) ≡ None }
+{}
+
+/// A name after an `@` stands for its value.
+#[tactic(auto, unfolding(crate::specs::Texts::expanded_within, crate::specs::Values::value_within, crate::specs::Values::numeral_value, crate::specs::Parts::parts_of, crate::specs::Numbers::reduced, crate::specs::Numbers::gcd_within, crate::specs::Numbers::multiplied))]
+pub fn names_in_texts_have_values()
+    ensures name { expanded a_is_seven (codes "F(P@A)")
+        ≡ Ok (codes "F(P" ++ (decimal 7 ++ codes ")")) }
+    ensures twice { expanded a_is_seven (codes "@A,@A.5")
+        ≡ Ok (decimal 7 ++ (codes "," ++ (decimal 7 ++ codes ".5"))) }
+    ensures none { expanded a_is_seven (codes "F(A)") ≡ Ok (codes "F(A)") }
+    ensures unknown { expanded a_is_seven (codes "P@AB") ≡ Err fault.UnknownName }
+    ensures unassigned { expanded a_is_seven (codes "P@B") ≡ Err fault.NotAssigned }
+    ensures empty { expanded a_is_seven (codes "P@") ≡ Err fault.UnknownName }
+    ensures fraction { expanded (λ name. Ok (record { over = pos 5; under = 2 })) (codes "@A")
+        ≡ Err fault.NotWhole }
+    ensures negative { expanded (λ name. Ok (whole_number (negsuc 4))) (codes "@A")
+        ≡ Ok (codes "-" ++ decimal 5) }
 {}

@@ -19,8 +19,10 @@ pub enum ValueFault {
     BadExponent,
     /// A numerator or a denominator is past the bound.
     PastBound,
-    /// More operations are within one another than the limit.
+    /// More operations are within one another, or names in one text, than the limit.
     TooDeep,
+    /// A value in a text is not whole.
+    NotWhole,
     /// Out of memory.
     Memory,
 }

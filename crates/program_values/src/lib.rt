@@ -3,7 +3,7 @@
 //! - `faults`: why an expression or a statement has no value
 //! - `numbers`: `Number`, a fraction in lowest terms, and its arithmetic
 //! - `places`: where the operators of an expression are; `parts`: what it is made of; `numerals`; `values`: `value_of`
-//! - `variables`: `Variables`, the table of what was assigned
+//! - `variables`: `Variables`, the table of what was assigned; `texts`: `expanded`, names in texts
 #![tactic(auto)]
 
 pub mod examples;
@@ -12,10 +12,12 @@ mod numbers;
 mod numerals;
 mod parts;
 mod places;
+mod texts;
 mod values;
 mod variables;
 
 pub use faults::ValueFault;
 pub use numbers::Number;
+pub use texts::expanded;
 pub use values::value_of;
 pub use variables::Variables;

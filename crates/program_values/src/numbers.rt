@@ -3,6 +3,7 @@
 ghost use Rattle.std.specs.Prelude.{◌≡◌, ◌<◌, ◌≤◌, ◌*◌, ◌*ℤ◌, ◌+ℤ◌, Ok, pos, unsigned_abs};
 ghost use Rattle.program_values.specs.Numbers as spec;
 ghost use Rattle.program_values.specs.Numbers.{bound};
+ghost use Rattle.program_values.specs.Texts.{whole_of};
 
 use crate::faults::ValueFault;
 use std::marker::Model;
@@ -153,6 +154,17 @@ impl Number {
         Number {
             over: self.over.unsigned_abs() as i64,
             under: self.under,
+        }
+    }
+
+    /// The number, if it is whole, or `NotWhole`.
+    pub fn get_whole(self) -> Result<i64, ValueFault>
+        ensures { result ≡ whole_of self }
+    {
+        if self.under == 1 {
+            Ok(self.over)
+        } else {
+            Err(ValueFault::NotWhole)
         }
     }
 

@@ -22,7 +22,7 @@ pub(crate) fn is_text(text: &[u8], other: &str) -> bool
     text == other.as_bytes()
 }
 
-fn is_name_byte(byte: u8) -> bool
+pub(crate) fn is_name_byte(byte: u8) -> bool
     ensures { result ≡ spec.is_name_byte byte }
 {
     byte.is_ascii_alphanumeric() || byte == b'_'
