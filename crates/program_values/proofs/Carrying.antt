@@ -1,16 +1,16 @@
 -- A table that says the same as what was carried out says the same after one statement more.
 use Rattle.std.proofs.Common.{◌≡◌, ℕ, Bool, true, false, List, [], ◌∷◌, refl, rules, sym, ap, ◌∙◌, subst}
-use Rattle.std.specs.Prelude.{Option, Some, None, Result, Ok, Err, OnOk, IfErr, bytes_eq, is_none, codes, ◌&&◌, ◌||◌, if◌then◌else◌}
+use Rattle.std.specs.Prelude.{Option, Some, None, Result, Ok, Err, bytes_eq, is_none, codes, ◌&&◌, ◌||◌, if◌then◌else◌}
 use Rattle.std.specs.Option.{option_map}
 use Rattle.std.proofs.lemmas.Slice.Eq.{bytes_eq-Decides}
 use Rattle.dmis_text.specs.declared.elements.Statement.{Statement}
 use Rattle.program_values.proofs.Tables.{find-put}
 use Rattle.program_values.specs.Carried.{CarriesOut, Makes, put_all, put_kind, put_result, put_value, table_after, table_declared, table_with}
 use Rattle.program_values.specs.LookBack.{Holds, assigned_value, declared_by, declares, expression_value, fault_in, fault_of, fault_for, is_among, is_target, kind_after, kind_of_word, kind_said, kind_unless_declared, new_value, stored, target, unless_declared, value_after, value_said}
-use Rattle.program_values.specs.Numbers.{Fraction, and_then}
+use Rattle.program_values.specs.Numbers.{Fraction}
 use Rattle.program_values.specs.Variables.{Entry, assigned, entry_kind, entry_value, find, found_value, put}
 use Rattle.program_values.specs.declared.faults.ValueFault.{ValueFault}
-use Rattle.program_values.specs.declared.faults.ValueFault.TheVariants.{NotAssigned, UnknownName}
+use Rattle.program_values.specs.declared.faults.ValueFault.TheVariants.{NotAssigned}
 
 found-if : (b : Bool) (e : Entry) (r : Option Entry) → found_value (if b then Some e else r) ≡ (if b then assigned e.value else found_value r)
 found-if true e r = refl

@@ -1,10 +1,8 @@
 -- The table of variables is carried forward, and says the same as looking back.
-use Rattle.std.proofs.Common.{◌≡◌, ℕ, zero, suc, Bool, true, false, List, [], ◌∷◌, ◌++◌, arith, refl, sym, ap, ◌∙◌}
-use Rattle.std.specs.Prelude.{Option, Some, None, Result, Ok, Err, bytes_eq, slice_set, if◌then◌else◌}
+use Rattle.std.proofs.Common.{◌≡◌, ℕ, Bool, true, false, List, [], ◌∷◌, refl, sym, ap, ◌∙◌}
+use Rattle.std.specs.Prelude.{Option, Some, None, bytes_eq, if◌then◌else◌}
 use Rattle.std.proofs.lemmas.Slice.Eq.{bytes_eq-Decides}
-use Rattle.program_values.specs.Numbers.{Fraction}
-use Rattle.program_values.specs.Variables.{Entry, find, assigned, entry_kind, entry_value, next_place, place_of, put, put_at}
-use Rattle.program_values.specs.declared.faults.ValueFault.{ValueFault}
+use Rattle.program_values.specs.Variables.{Entry, find, next_place, place_of, put, put_at}
 
 -- a name that is first in two places is the same
 merged : {A : Type 0} (a b : Bool) (x e r : A) → (a ≡ true → b ≡ true → ⊥)

@@ -7,7 +7,7 @@ use Rattle.program_values.specs.Numbers.{Fraction, and_then, whole_part}
 use Rattle.program_values.specs.Values.{value_of}
 use Rattle.program_values.specs.Variables.{Entry, entry_value, entry_kind}
 use Rattle.program_values.specs.declared.faults.ValueFault.{ValueFault}
-use Rattle.program_values.specs.declared.faults.ValueFault.TheVariants.{UnknownName, NotAssigned, NotExpression, Memory}
+use Rattle.program_values.specs.declared.faults.ValueFault.TheVariants.{UnknownName, NotAssigned, NotExpression}
 
 -- whether a variable of this kind takes whole numbers alone; nothing, if it takes no numbers
 abbrev pub kind_of_word : List ℕ → Option Bool

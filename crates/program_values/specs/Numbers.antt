@@ -1,5 +1,5 @@
 -- Exact numbers: fractions in lowest terms within a bound (this profile), and their arithmetic.
-use Rattle.std.specs.Prelude.{◌≡◌, ℕ, zero, suc, ◌+◌, ◌*◌, ◌/◌, ◌%◌, ◌<◌, ◌≤◌, Bool, ◌&&◌, nat_le, ◌==◌, ℤ, pos, neg_ℤ, ◌*ℤ◌, ◌+ℤ◌}
+use Rattle.std.specs.Prelude.{ℕ, zero, suc, ◌*◌, ◌/◌, ◌%◌, ◌<◌, ◌≤◌, Bool, ◌&&◌, nat_le, ◌==◌, ℤ, pos, neg_ℤ, ◌*ℤ◌, ◌+ℤ◌}
 use Rattle.std.specs.Prelude.{unsigned_abs, int_lt, Result, Ok, Err, if◌then◌else◌}
 use Rattle.program_values.specs.declared.faults.ValueFault.{ValueFault}
 use Rattle.program_values.specs.declared.faults.ValueFault.TheVariants.{PastBound, DivisionByZero, BadExponent}

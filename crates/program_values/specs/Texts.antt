@@ -1,5 +1,5 @@
 -- Names in a label or a parameter: `@NAME` stands for the value of NAME (ISO 22093; this profile: a whole number). An `@` is 64.
-use Rattle.std.specs.Prelude.{ℕ, zero, suc, ◌+◌, Bool, List, ◌++◌, drop, take, Option, Some, None, Result, Ok, Err, OnOk, IfErr, ◌≡◌, ℤ, ◌==◌, if◌then◌else◌}
+use Rattle.std.specs.Prelude.{ℕ, zero, suc, ◌+◌, List, ◌++◌, drop, take, Option, Some, None, Result, Ok, Err, OnOk, IfErr, ◌≡◌, ℤ, ◌==◌, if◌then◌else◌}
 use Rattle.std.specs.Fmt.{signed_decimal}
 use Rattle.std.specs.List.{position, prefix_len}
 use Rattle.program_values.specs.Numbers.{Fraction, and_then}

@@ -1,6 +1,6 @@
 -- The value of an expression (ISO 22093; the limits are this profile's), where a function gives the values of names.
-use Rattle.std.specs.Prelude.{ℕ, zero, suc, ◌+◌, ◌*◌, ◌-◌, ◌^◌, ◌<◌, Bool, true, false, ◌&&◌, ◌||◌, not, ◌==◌, nat_le, nat_lt, List, [], ◌∷◌, length}
-use Rattle.std.specs.Prelude.{bytes_eq, take, drop, Option, Some, None, Result, Ok, Err, pos, codes, slice_index, if◌then◌else◌}
+use Rattle.std.specs.Prelude.{ℕ, zero, suc, ◌+◌, ◌*◌, ◌-◌, ◌^◌, Bool, true, false, ◌&&◌, ◌||◌, ◌==◌, nat_le, nat_lt, List, [], ◌∷◌, length}
+use Rattle.std.specs.Prelude.{bytes_eq, take, drop, Option, Some, None, Result, Ok, Err, pos, codes, if◌then◌else◌}
 use Rattle.std.specs.Char.{is_ascii_digit, is_ascii_alphanumeric, is_ascii_alphabetic}
 use Rattle.std.specs.List.{position, list_all}
 use Rattle.program_values.specs.Numbers.{Fraction, and_then, reduced, sum, product, quotient, opposite, power, magnitude, whole_part}
@@ -25,40 +25,36 @@ number_after value [] = Ok value
 number_after value (c ∷ cs) = and_then (with_digit value c) (λ next. number_after next cs)
 
 -- digits times some tens, divided by the tens of the places and of the exponent
-abbrev pub scaled_by : ℕ → ℕ → ℕ → ℕ → Result Fraction ValueFault
-scaled_by value places raised lowered = if nat_le places 18 then reduced (pos (value * 10 ^ raised)) (10 ^ (places + lowered)) else Err PastBound
-
--- the same by an exponent, which lowers or raises
-abbrev pub scaled : ℕ → ℕ → Bool × ℕ → Result Fraction ValueFault
-scaled value places exponent = if exponent.0 then scaled_by value places 0 exponent.1 else scaled_by value places exponent.1 0
+abbrev pub scaled : ℕ → ℕ → ℕ → ℕ → Result Fraction ValueFault
+scaled value places raised lowered = if nat_le places 18 then reduced (pos (value * 10 ^ raised)) (10 ^ (places + lowered)) else Err PastBound
 
 -- digits before and after a point
-abbrev pub pointed_value : List ℕ → List ℕ → Bool × ℕ → Result Fraction ValueFault
+abbrev pub pointed_value : List ℕ → List ℕ → ℕ × ℕ → Result Fraction ValueFault
 pointed_value whole fraction exponent = and_then (number_after 0 whole) (λ front. and_then (number_after front fraction)
-    (λ value. scaled value (length fraction) exponent))
+    (λ value. scaled value (length fraction) exponent.0 exponent.1))
 
 -- cut at the point, or without one; a point alone is no numeral
-abbrev pub mantissa_at : List ℕ → Option ℕ → Bool × ℕ → Result Fraction ValueFault
+abbrev pub mantissa_at : List ℕ → Option ℕ → ℕ × ℕ → Result Fraction ValueFault
 mantissa_at text None exponent = pointed_value text [] exponent
 mantissa_at text (Some i) exponent = if nat_le (length text) 1 then Err NotExpression else pointed_value (take i text) (drop (i + 1) text) exponent
 
-abbrev pub mantissa_value : List ℕ → Bool × ℕ → Result Fraction ValueFault
+abbrev pub mantissa_value : List ℕ → ℕ × ℕ → Result Fraction ValueFault
 mantissa_value text exponent = if length text == 0 then Err NotExpression else mantissa_at text (position (λ b. b == 46) text) exponent
 
--- an exponent of digits up to 18
-abbrev pub exponent_digits : Bool → List ℕ → Result (Bool × ℕ) ValueFault
+-- the tens, up and down, of an exponent of digits up to 18
+abbrev pub exponent_digits : Bool → List ℕ → Result (ℕ × ℕ) ValueFault
 exponent_digits negative digits = if length digits == 0 then Err NotExpression else
-    and_then (number_after 0 digits) (λ n. if nat_le n 18 then Ok (negative, n) else Err PastBound)
+    and_then (number_after 0 digits) (λ n. if nat_le n 18 then (if negative then Ok (0, n) else Ok (n, 0)) else Err PastBound)
 
 -- with a sign, or without one
-abbrev pub exponent_of : List ℕ → Result (Bool × ℕ) ValueFault
+abbrev pub exponent_of : List ℕ → Result (ℕ × ℕ) ValueFault
 exponent_of [] = exponent_digits false []
 exponent_of (c ∷ cs) = if c == 45 then exponent_digits true cs else
     (if c == 43 then exponent_digits false cs else exponent_digits false (c ∷ cs))
 
 -- a numeral without exponent, or with one after an E
 abbrev pub numeral_at : List ℕ → Option ℕ → Result Fraction ValueFault
-numeral_at text None = mantissa_value text (false, 0)
+numeral_at text None = mantissa_value text (0, 0)
 numeral_at text (Some i) = and_then (exponent_of (drop (i + 1) text)) (λ exponent. mantissa_value (take i text) exponent)
 
 unfoldable pub numeral_value : List ℕ → Result Fraction ValueFault

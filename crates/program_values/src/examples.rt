@@ -1,17 +1,28 @@
 // Examples: expressions and their values.
 
-ghost use Rattle.std.specs.Prelude.{◌≡◌, ◌∷◌, ◌++◌, ℕ, Err, None, Ok, Some, codes, decimal, pos, negsuc};
+ghost use Rattle.std.specs.Prelude.{◌≡◌, ◌∷◌, ◌++◌, ℕ, Err, List, None, Ok, Some, codes, decimal, pos, negsuc};
 ghost use Rattle.std.specs.Int.{IsGcd};
 ghost use Rattle.program_values.specs.Numbers.{gcd};
 ghost use Rattle.program_values.specs.Examples.{Gives, Fails, a_is_seven, assigning, declaring, refusal, start};
-ghost use Rattle.program_values.specs.LookBack.{value_said};
+ghost use Rattle.program_values.specs.LookBack.{Holds, value_said};
 ghost use Rattle.program_values.specs.Texts.{expanded};
+ghost use Rattle.program_values.specs.Values.{value_of};
+ghost use Rattle.program_values.specs.Variables.{Entry, entry_value};
+ghost use Rattle.dmis_text.specs.declared.elements.Statement.{Statement};
 ghost use Rattle.program_values.specs.Numbers.{whole_number};
 ghost use Rattle.program_values.specs.declared.faults.ValueFault.TheVariants as fault;
 
 /// Numbers are in lowest terms: numerator and denominator are divided by their greatest common divisor.
 pub fn the_divisor_is_the_greatest()
     ensures { (a b : ℕ) → IsGcd a b (gcd a b) }
+{}
+
+/// A table that agrees with looking back gives the values of expressions and texts that looking back gives.
+pub fn tables_stand_for_looking_back()
+    ensures values { (above : List Statement) (entries : List Entry) (text : List ℕ)
+        → Holds above entries → value_of (entry_value entries) text ≡ value_of (value_said above) text }
+    ensures texts { (above : List Statement) (entries : List Entry) (text : List ℕ)
+        → Holds above entries → expanded (entry_value entries) text ≡ expanded (value_said above) text }
 {}
 
 /// Numerals are exact.
@@ -26,32 +37,22 @@ pub fn numerals_are_exact()
     ensures mark { Fails (codes "1E") fault.NotExpression }
 {}
 
-/// Products before sums, powers before products, and each from left to right.
+/// Products before sums, a sign before both, powers first, and each from left to right; names and functions.
 #[tactic(auto, unfolding(crate::specs::Values::value_within, crate::specs::Values::numeral_value, crate::specs::Parts::parts_of, crate::specs::Numbers::reduced, crate::specs::Numbers::gcd_within, crate::specs::Numbers::multiplied))]
-pub fn operators_have_ranks()
+pub fn expressions_have_values()
     ensures products { Gives (codes "1+2*3") (pos 7) 1 }
     ensures sums { Gives (codes "10-3-2") (pos 5) 1 }
     ensures quotients { Gives (codes "2/4/5") (pos 1) 10 }
     ensures powers { Gives (codes "2**3**2") (pos 64) 1 }
     ensures before { Gives (codes "2*3**2") (pos 18) 1 }
-    ensures lowered { Gives (codes "2**-1") (pos 1) 2 }
+    ensures inverse { Gives (codes "2**-1") (pos 1) 2 }
     ensures parentheses { Gives (codes "(1+2)*3") (pos 9) 1 }
     ensures thirds { Gives (codes "1/3+1/6") (pos 1) 2 }
-{}
-
-/// A sign stands before an operand, also after an operator, and applies after powers.
-#[tactic(auto, unfolding(crate::specs::Values::value_within, crate::specs::Values::numeral_value, crate::specs::Parts::parts_of, crate::specs::Numbers::reduced, crate::specs::Numbers::gcd_within, crate::specs::Numbers::multiplied))]
-pub fn signs_are_before_operands()
     ensures after_operator { Gives (codes "2*-3") (negsuc 5) 1 }
     ensures twice { Gives (codes "2--3") (pos 5) 1 }
-    ensures power { Gives (codes "-2**2") (negsuc 3) 1 }
+    ensures opposite { Gives (codes "-2**2") (negsuc 3) 1 }
     ensures plus { Gives (codes "+A") (pos 7) 1 }
     ensures numeral { Gives (codes "1E1-3") (pos 7) 1 }
-{}
-
-/// Names and functions.
-#[tactic(auto, unfolding(crate::specs::Values::value_within, crate::specs::Values::numeral_value, crate::specs::Parts::parts_of, crate::specs::Numbers::reduced, crate::specs::Numbers::gcd_within, crate::specs::Numbers::multiplied))]
-pub fn names_and_functions_have_values()
     ensures name { Gives (codes "A+1") (pos 8) 1 }
     ensures unknown { Fails (codes "C+1") fault.UnknownName }
     ensures unassigned { Fails (codes "B") fault.NotAssigned }

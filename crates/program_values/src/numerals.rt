@@ -55,92 +55,70 @@ fn reduced_natural(over: u128, under: u128) -> Result<Number, ValueFault>
     reduced(over as i128, under)
 }
 
-fn in_tens(value: u64, raised: u32, lowered: u32) -> Result<Number, ValueFault>
-    requires value { value < 10 ^ 18 }
-    requires raised { raised ≤ 18 }
-    requires lowered { lowered ≤ 36 }
-    ensures { result ≡ reduced (pos (value * 10 ^ raised)) (10 ^ lowered) }
-{
-    reduced_natural(
-        u128::from(value) * power_of_ten(raised),
-        power_of_ten(lowered),
-    )
-}
-
-fn scaled_by(value: u64, places: usize, raised: u32, lowered: u32) -> Result<Number, ValueFault>
+fn scaled(value: u64, places: usize, raised: u32, lowered: u32) -> Result<Number, ValueFault>
     requires value { value < 10 ^ 18 }
     requires raised { raised ≤ 18 }
     requires lowered { lowered ≤ 18 }
-    ensures { result ≡ spec.scaled_by value places raised lowered }
+    ensures { result ≡ spec.scaled value places raised lowered }
 {
     if places > 18 {
         return Err(ValueFault::PastBound);
     }
-    in_tens(value, raised, places as u32 + lowered)
-}
-
-fn scaled(value: u64, places: usize, lowers: bool, tens: u32) -> Result<Number, ValueFault>
-    requires value { value < 10 ^ 18 }
-    requires tens { tens ≤ 18 }
-    ensures { result ≡ spec.scaled value places (lowers, tens) }
-{
-    if lowers {
-        scaled_by(value, places, 0, tens)
-    } else {
-        scaled_by(value, places, tens, 0)
-    }
+    reduced_natural(
+        u128::from(value) * power_of_ten(raised),
+        power_of_ten(places as u32 + lowered),
+    )
 }
 
 fn pointed_value(
     whole: &[u8],
     fraction: &[u8],
-    lowers: bool,
-    tens: u32,
+    raised: u32,
+    lowered: u32,
 ) -> Result<Number, ValueFault>
-    requires { tens ≤ 18 }
-    ensures { result ≡ spec.pointed_value whole.now fraction.now (lowers, tens) }
+    requires { (raised ≤ 18) × (lowered ≤ 18) }
+    ensures { result ≡ spec.pointed_value whole.now fraction.now (raised, lowered) }
 {
     let front = number_after(0, whole)?;
     let value = number_after(front, fraction)?;
-    scaled(value, fraction.len(), lowers, tens)
+    scaled(value, fraction.len(), raised, lowered)
 }
 
-fn mantissa_value(text: &[u8], lowers: bool, tens: u32) -> Result<Number, ValueFault>
-    requires { tens ≤ 18 }
-    ensures { result ≡ spec.mantissa_value text.now (lowers, tens) }
+fn mantissa_value(text: &[u8], raised: u32, lowered: u32) -> Result<Number, ValueFault>
+    requires { (raised ≤ 18) × (lowered ≤ 18) }
+    ensures { result ≡ spec.mantissa_value text.now (raised, lowered) }
 {
     if text.is_empty() {
         return Err(ValueFault::NotExpression);
     }
     let Some(point) = first_place(b'.', text) else {
-        return pointed_value(text, &[], lowers, tens);
+        return pointed_value(text, &[], raised, lowered);
     };
     if text.len() <= 1 {
         return Err(ValueFault::NotExpression);
     }
     let (whole, _) = text.split_at(point);
     let (_, fraction) = text.split_at(point + 1);
-    pointed_value(whole, fraction, lowers, tens)
+    pointed_value(whole, fraction, raised, lowered)
 }
 
-fn exponent_digits(lowers: bool, digits: &[u8]) -> Result<(bool, u32), ValueFault>
+fn exponent_digits(lowers: bool, digits: &[u8]) -> Result<(u32, u32), ValueFault>
     ensures value { result ≡ spec.exponent_digits lowers digits.now }
-    ensures within { IfOk result (λ e. e.1 ≤ 18) }
+    ensures within { IfOk result (λ e. (e.0 ≤ 18) × (e.1 ≤ 18)) }
 {
     if digits.is_empty() {
         return Err(ValueFault::NotExpression);
     }
-    let tens = number_after(0, digits)?;
-    if tens <= 18 {
-        Ok((lowers, tens as u32))
-    } else {
-        Err(ValueFault::PastBound)
+    match number_after(0, digits)? {
+        tens if tens > 18 => Err(ValueFault::PastBound),
+        tens if lowers => Ok((0, tens as u32)),
+        tens => Ok((tens as u32, 0)),
     }
 }
 
-fn exponent_of(text: &[u8]) -> Result<(bool, u32), ValueFault>
+fn exponent_of(text: &[u8]) -> Result<(u32, u32), ValueFault>
     ensures value { result ≡ spec.exponent_of text.now }
-    ensures within { IfOk result (λ e. e.1 ≤ 18) }
+    ensures within { IfOk result (λ e. (e.0 ≤ 18) × (e.1 ≤ 18)) }
 {
     match text {
         [b'-', digits @ ..] => exponent_digits(true, digits),
@@ -155,10 +133,10 @@ pub fn numeral_value(text: &[u8]) -> Result<Number, ValueFault>
     ensures { result ≡ spec.numeral_value text.now }
 {
     let Some(mark) = first_place(b'E', text) else {
-        return mantissa_value(text, false, 0);
+        return mantissa_value(text, 0, 0);
     };
     let (mantissa, _) = text.split_at(mark);
     let (_, exponent) = text.split_at(mark + 1);
-    let (lowers, tens) = exponent_of(exponent)?;
-    mantissa_value(mantissa, lowers, tens)
+    let (raised, lowered) = exponent_of(exponent)?;
+    mantissa_value(mantissa, raised, lowered)
 }

@@ -62,15 +62,6 @@ fn both_around(rank: Rank, text: &[u8], index: usize) -> Cut<'_>
     Cut::Both(left, operator_of(rank, text[index]), right)
 }
 
-fn called<'a>(text: &'a [u8], name: &'a [u8], behind: &'a [u8]) -> Cut<'a>
-    ensures { (i : ℕ) → name.now ≡ take i text.now → seen result ≡ spec.called text.now i behind.now }
-{
-    match behind {
-        [_, inner @ .., b')'] => Cut::Called(trimmed(name), inner),
-        _ => Cut::Leaf(text),
-    }
-}
-
 /// Where a byte is first.
 pub(crate) fn first_place(mark: u8, text: &[u8]) -> Option<usize>
     ensures value { result ≡ position (λ b. b == mark) text.now }
@@ -86,15 +77,9 @@ fn called_at(text: &[u8]) -> Cut<'_>
         return Cut::Leaf(text);
     };
     let (name, behind) = text.split_at(index);
-    called(text, name, behind)
-}
-
-fn unsigned_parts(text: &[u8]) -> Cut<'_>
-    ensures { seen result ≡ spec.unsigned_parts text.now }
-{
-    match last_operator(Rank::Powers, text) {
-        Some(index) => both_around(Rank::Powers, text, index),
-        None => called_at(text),
+    match behind {
+        [_, inner @ .., b')'] => Cut::Called(trimmed(name), inner),
+        _ => Cut::Leaf(text),
     }
 }
 
@@ -105,19 +90,10 @@ fn signed_parts(text: &[u8]) -> Cut<'_>
         [b'-', rest @ ..] => Cut::Opposite(rest),
         [b'+', rest @ ..] => Cut::Same(rest),
         [] => Cut::Leaf(text),
-        _ => unsigned_parts(text),
-    }
-}
-
-fn parts_of_trimmed(text: &[u8]) -> Cut<'_>
-    ensures { seen result ≡ spec.parts_of_trimmed text.now }
-{
-    if let Some(index) = last_operator(Rank::Sums, text) {
-        return both_around(Rank::Sums, text, index);
-    }
-    match last_operator(Rank::Products, text) {
-        Some(index) => both_around(Rank::Products, text, index),
-        None => signed_parts(text),
+        _ => match last_operator(Rank::Powers, text) {
+            Some(index) => both_around(Rank::Powers, text, index),
+            None => called_at(text),
+        },
     }
 }
 
@@ -126,5 +102,12 @@ fn parts_of_trimmed(text: &[u8]) -> Cut<'_>
 pub fn parts_of(text: &[u8]) -> Cut<'_>
     ensures { seen result ≡ spec.parts_of text.now }
 {
-    parts_of_trimmed(trimmed(text))
+    let text = trimmed(text);
+    if let Some(index) = last_operator(Rank::Sums, text) {
+        return both_around(Rank::Sums, text, index);
+    }
+    match last_operator(Rank::Products, text) {
+        Some(index) => both_around(Rank::Products, text, index),
+        None => signed_parts(text),
+    }
 }

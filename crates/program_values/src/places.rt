@@ -43,12 +43,6 @@ fn is_sign(byte: u8) -> bool
     byte == b'+' || byte == b'-'
 }
 
-fn asks_operand(byte: u8) -> bool
-    ensures { result ≡ spec.asks_operand byte }
-{
-    is_sign(byte) || byte == b'*' || byte == b'/' || byte == b'('
-}
-
 pub(crate) fn begins_numeral(byte: u8) -> bool
     ensures { result ≡ spec.begins_numeral byte }
 {
@@ -78,13 +72,10 @@ fn in_operand(place: Place, byte: u8) -> Place
 fn place_after(place: Place, byte: u8) -> Place
     ensures { result ≡ spec.place_after place byte }
 {
-    if is_blank(byte) {
-        return place;
-    }
-    if asks_operand(byte) && !is_in_numeral(place, byte) {
-        Place::Wanted
-    } else {
-        in_operand(place, byte)
+    match byte {
+        b' ' | b'\t' => place,
+        b'+' | b'-' | b'*' | b'/' | b'(' if !is_in_numeral(place, byte) => Place::Wanted,
+        _ => in_operand(place, byte),
     }
 }
 
@@ -97,15 +88,6 @@ fn depth_after(depth: usize, byte: u8) -> usize
         b'(' => depth + 1,
         b')' => depth.saturating_sub(1),
         _ => depth,
-    }
-}
-
-fn follows_operand(place: Place) -> bool
-    ensures { result ≡ spec.follows_operand place }
-{
-    match place {
-        Place::Wanted => false,
-        Place::InNumeral | Place::AfterMark | Place::Ended => true,
     }
 }
 
@@ -131,10 +113,10 @@ fn has_rank(rank: Rank, byte: u8, next: &[u8]) -> bool
 fn is_operator(rank: Rank, depth: usize, place: Place, byte: u8, next: &[u8]) -> bool
     ensures { result ≡ spec.is_operator rank depth place byte next.now }
 {
-    depth == 0
-        && follows_operand(place)
-        && !is_in_numeral(place, byte)
-        && has_rank(rank, byte, next)
+    match place {
+        Place::Wanted => false,
+        _ => depth == 0 && !is_in_numeral(place, byte) && has_rank(rank, byte, next),
+    }
 }
 
 /// Where the last operator of a rank is, outside parentheses.

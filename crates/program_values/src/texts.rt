@@ -19,13 +19,6 @@ use std::alloc::AllocError;
 /// How many names may be in one text.
 const MOST_NAMES: u64 = 100;
 
-fn push_number(out: &mut Vec<u8>, number: i64) -> Result<(), AllocError>
-    ensures { OnOk result (out.new.items ≡ out.old.items ++ signed_decimal number) }
-{
-    let mut buffer = Buffer::new();
-    out.extend_from_slice(buffer.format(number).as_bytes())
-}
-
 fn name_length(text: &[u8]) -> usize
     ensures count { result ≡ prefix_len is_name_byte text.now }
     ensures within { result ≤ length text.now }
@@ -53,7 +46,7 @@ fn push_front(out: &mut Vec<u8>, front: &[u8], number: i64) -> Result<(), AllocE
     ensures { OnOk result (out.new.items ≡ out.old.items ++ (front.now ++ signed_decimal number)) }
 {
     out.extend_from_slice(front)?;
-    push_number(out, number)
+    out.extend_from_slice(Buffer::new().format(number).as_bytes())
 }
 
 #[cycle(expanded)]

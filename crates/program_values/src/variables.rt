@@ -3,7 +3,7 @@
 ghost use Rattle.std.specs.Prelude.{◌≡◌, ◌<◌, IfSome, OnOk, OnErr, IfErr, List, [], length, bytes_eq};
 ghost use Rattle.std.specs.Option.{option_map};
 ghost use Rattle.program_values.specs.Carried.{CarriesOut, Makes, put_all, put_value, table_after, table_assigned, table_declared};
-ghost use Rattle.program_values.specs.LookBack.{Holds, expression_value, kind_of_word};
+ghost use Rattle.program_values.specs.LookBack.{Holds, kind_of_word};
 ghost use Rattle.program_values.specs.Variables as spec;
 ghost use Rattle.program_values.specs.declared.faults.ValueFault.TheVariants.{Memory};
 ghost use Rattle.dmis_text.specs.declared.elements.Statement.{Statement};
@@ -53,15 +53,6 @@ impl Variable {
     {
         self.name.as_slice() == name
     }
-
-    fn assigned(&self) -> Result<Number, ValueFault>
-        ensures { result ≡ spec.assigned self.now.value }
-    {
-        match self.value {
-            Some(number) => Ok(number),
-            None => Err(ValueFault::NotAssigned),
-        }
-    }
 }
 
 /// The variable of a name.
@@ -93,7 +84,7 @@ fn place_of(entries: &[Variable], name: &[u8]) -> Option<usize>
 impl Variables {
     /// No variable is declared.
     pub fn new(alloc: Global) -> Variables
-        ensures { result ≡ [] }
+        ensures { Holds [] result }
     {
         Variables {
             entries: Vec::new(alloc),
@@ -120,7 +111,10 @@ impl Variables {
         ensures { result ≡ spec.entry_value self.now name.now }
     {
         match find(&self.entries, name) {
-            Some(variable) => variable.assigned(),
+            Some(variable) => match variable.value {
+                Some(number) => Ok(number),
+                None => Err(ValueFault::NotAssigned),
+            },
             None => Err(ValueFault::UnknownName),
         }
     }
@@ -180,22 +174,16 @@ impl Variables {
         Ok(())
     }
 
-    fn expression_value(&self, params: &[Text]) -> Result<Number, ValueFault>
-        ensures { result ≡ expression_value (spec.entry_value self.now) params.now }
-    {
-        match params {
-            [only] => value_of(only, self),
-            _ => Err(ValueFault::NotExpression),
-        }
-    }
-
     fn assign(&mut self, name: &[u8], params: &[Text]) -> Result<(), ValueFault>
         ensures { Makes result self.old self.new (table_assigned name.now params.now self.old) }
     {
         let Some(whole) = self.kind(name) else {
             return Err(ValueFault::UnknownName);
         };
-        match self.expression_value(params) {
+        let [only] = params else {
+            return Err(ValueFault::NotExpression);
+        };
+        match value_of(only, self) {
             Ok(value) => self.put_value(name, whole, value),
             Err(fault) => Err(fault),
         }
