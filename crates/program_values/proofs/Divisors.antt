@@ -1,6 +1,8 @@
 -- Greatest common divisors.
-use Rattle.std.proofs.Common.{◌≡◌, ℕ, zero, suc, ◌<◌, ◌≤◌, ◌%◌, arith, refl}
+use Rattle.std.proofs.Common.{◌≡◌, ℕ, zero, suc, ◌<◌, ◌≤◌, ◌%◌, arith, refl, sym, ap, ◌∙◌}
 use Rattle.std.specs.Int.{IsGcd}
+use Rattle.std.specs.Prelude.{◌*◌, ◌/◌}
+use Rattle.std.proofs.Math.Nat.{mul_comm, mul-div_assoc}
 use Rattle.std.proofs.lemmas.Nat.{mod_below}
 use Rattle.std.proofs.lemmas.Nat.Gcd.{IsGcd-from_zero, IsGcd-from_mod, same_from_IsGcd, le_of_dvd}
 use Rattle.program_values.specs.Numbers.{gcd, gcd_within}
@@ -21,3 +23,9 @@ found_is a b g h = same_from_IsGcd a b g (gcd a b) h (gcd-is a b)
 
 pub found_within : (a b g : ℕ) → 0 < b → IsGcd a b g → g ≤ b
 found_within a b g some h = le_of_dvd some h.1
+
+-- the fraction in lowest terms is the same one
+pub same_fraction : (a b : ℕ) → a / gcd a b * b ≡ a * (b / gcd a b)
+same_fraction a b =
+    let g = gcd a b in
+    mul_comm (a / g) b ∙ (sym (mul-div_assoc g b (gcd-is a b).0) ∙ (ap (λ n. n / g) (mul_comm b a) ∙ mul-div_assoc g a (gcd-is a b).1))

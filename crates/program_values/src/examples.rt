@@ -1,6 +1,6 @@
 // Examples: expressions and their values.
 
-ghost use Rattle.std.specs.Prelude.{◌≡◌, ◌∷◌, ◌++◌, ℕ, Err, List, None, Ok, Some, codes, decimal, pos, negsuc};
+ghost use Rattle.std.specs.Prelude.{◌≡◌, ◌*◌, ◌/◌, ◌∷◌, ◌++◌, ℕ, Err, List, None, Ok, Some, codes, decimal, pos, negsuc};
 ghost use Rattle.std.specs.Int.{IsGcd};
 ghost use Rattle.program_values.specs.Numbers.{gcd};
 ghost use Rattle.program_values.specs.Examples.{Gives, Fails, a_is_seven, assigning, declaring, refusal, start};
@@ -12,9 +12,10 @@ ghost use Rattle.dmis_text.specs.declared.elements.Statement.{Statement};
 ghost use Rattle.program_values.specs.Numbers.{whole_number};
 ghost use Rattle.program_values.specs.declared.faults.ValueFault.TheVariants as fault;
 
-/// Numbers are in lowest terms: numerator and denominator are divided by their greatest common divisor.
+/// Numbers are in lowest terms: numerator and denominator are divided by their greatest common divisor, and the fraction is the same.
 pub fn the_divisor_is_the_greatest()
-    ensures { (a b : ℕ) → IsGcd a b (gcd a b) }
+    ensures greatest { (a b : ℕ) → IsGcd a b (gcd a b) }
+    ensures same { (a b : ℕ) → a / gcd a b * b ≡ a * (b / gcd a b) }
 {}
 
 /// A table that agrees with looking back gives the values of expressions and texts that looking back gives.

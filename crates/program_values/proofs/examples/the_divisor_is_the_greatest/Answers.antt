@@ -1,5 +1,8 @@
-use Rattle.program_values.proofs.Divisors.{gcd-is}
+use Rattle.program_values.proofs.Divisors.{gcd-is, same_fraction}
 use Rattle.program_values.proofs.examples.the_divisor_is_the_greatest.Goals as goal
 
-pub returns : goal.returns
-returns c = gcd-is
+pub returns-clause-greatest : goal.returns-clause-greatest
+returns-clause-greatest c = gcd-is
+
+pub returns-clause-same : goal.returns-clause-same
+returns-clause-same c = same_fraction
