@@ -1,5 +1,5 @@
 -- The value of a variable, by looking back in what was carried out (ISO 22093, DECL and ASSIGN), newest statement first.
-use Rattle.std.specs.Prelude.{◌≡◌, ℕ, Bool, true, false, ◌&&◌, List, [], ◌∷◌, Option, Some, None, Result, Ok, Err, codes, bytes_eq, is_none}
+use Rattle.std.specs.Prelude.{◌≡◌, ℕ, Bool, true, false, ◌&&◌, List, [], ◌∷◌, Option, Some, None, Result, Ok, Err, codes, bytes_eq, is_none, is_some}
 use Rattle.std.specs.Prelude.{if◌then◌else◌}
 use Rattle.std.specs.List.{list_any}
 use Rattle.dmis_text.specs.declared.elements.Statement.{Statement}
@@ -25,6 +25,15 @@ declared_by (scope ∷ (kind ∷ names)) name = if is_among name names then kind
 -- the kind that a statement declares a name with
 abbrev pub declares : Statement → List ℕ → Option Bool
 declares s name = if bytes_eq s.word (codes "DECL") && is_none s.label then declared_by s.params name else None
+
+-- whether a statement declares names with a kind
+abbrev pub has_kind : List (List ℕ) → Bool
+has_kind [] = false
+has_kind (scope ∷ []) = false
+has_kind (scope ∷ (kind ∷ names)) = is_some (kind_of_word kind)
+
+abbrev pub is_declaration : Statement → Bool
+is_declaration s = bytes_eq s.word (codes "DECL") && (is_none s.label && has_kind s.params)
 
 -- the name that a statement assigns to
 abbrev pub target : Statement → Option (List ℕ)

@@ -1,6 +1,9 @@
 -- Exact numbers: fractions in lowest terms within a bound (this profile), and their arithmetic.
 use Rattle.std.specs.Prelude.{ℕ, zero, suc, ◌*◌, ◌/◌, ◌%◌, ◌<◌, ◌≤◌, Bool, ◌&&◌, nat_le, ◌==◌, ℤ, pos, neg_ℤ, ◌*ℤ◌, ◌+ℤ◌}
-use Rattle.std.specs.Prelude.{unsigned_abs, int_lt, Result, Ok, Err, if◌then◌else◌}
+use Rattle.std.specs.Prelude.{unsigned_abs, int_lt, List, Result, Ok, Err, if◌then◌else◌}
+use Rattle.std.specs.Fmt.{signed_decimal}
+use Rattle.fixed_um.specs.Computed.{rounded}
+use Rattle.fixed_um.specs.Written.{written_component}
 use Rattle.program_values.specs.declared.faults.ValueFault.{ValueFault}
 use Rattle.program_values.specs.declared.faults.ValueFault.TheVariants.{PastBound, DivisionByZero, BadExponent}
 
@@ -84,3 +87,11 @@ power_within f g = if int_lt g.over (pos 0)
 
 abbrev pub power : Fraction → Fraction → Result Fraction ValueFault
 power f g = if (g.under == 1) && nat_le (unsigned_abs g.over) 64 then power_within f g else Err BadExponent
+
+-- the millionths nearest to a number; of two those farther from zero
+abbrev pub millionths : Fraction → ℤ
+millionths f = signed (int_lt f.over (pos 0)) (rounded (unsigned_abs f.over * 1000000) f.under)
+
+-- as a numeral: a whole number without a point, another in millionths
+abbrev pub numeral : Fraction → List ℕ
+numeral f = if f.under == 1 then signed_decimal f.over else written_component (millionths f)

@@ -3,7 +3,7 @@ use Rattle.std.specs.Prelude.{ℕ, zero, suc, ◌+◌, ◌*◌, ◌-◌, ◌^◌
 use Rattle.std.specs.Prelude.{bytes_eq, take, drop, Option, Some, None, Result, Ok, Err, pos, codes, if◌then◌else◌}
 use Rattle.std.specs.Char.{is_ascii_digit, is_ascii_alphanumeric, is_ascii_alphabetic}
 use Rattle.std.specs.List.{position, list_all}
-use Rattle.program_values.specs.Numbers.{Fraction, and_then, reduced, sum, product, quotient, opposite, power, magnitude, whole_part}
+use Rattle.program_values.specs.Numbers.{Fraction, and_then, reduced, sum, product, quotient, opposite, power, magnitude, whole_part, numeral}
 use Rattle.program_values.specs.Parts.{Parts, parts_of, begins_numeral}
 use Rattle.program_values.specs.Parts.Parts.{Both, Opposite, Same, Called, Leaf}
 use Rattle.program_values.specs.declared.places.Operator.{Operator}
@@ -108,3 +108,22 @@ value_within said (suc n) text = parts_value said (value_within said n) (parts_o
 
 abbrev pub value_of : (List ℕ → Result Fraction ValueFault) → List ℕ → Result Fraction ValueFault
 value_of said text = value_within said levels text
+
+-- a numeral, with one sign or without
+abbrev pub is_alone : Parts → Bool
+is_alone (Leaf text) = is_numeral text
+is_alone _ = false
+
+abbrev pub is_constant : Parts → Bool
+is_constant (Opposite rest) = is_alone (parts_of rest)
+is_constant (Same rest) = is_alone (parts_of rest)
+is_constant (Leaf text) = is_numeral text
+is_constant _ = false
+
+-- a text with its value in its place: a numeral stays as it is, and so does what has no value
+abbrev pub numeral_or : List ℕ → Result Fraction ValueFault → List ℕ
+numeral_or text (Ok f) = numeral f
+numeral_or text (Err fault) = text
+
+abbrev pub computed : (List ℕ → Result Fraction ValueFault) → List ℕ → List ℕ
+computed said text = if is_constant (parts_of text) then text else numeral_or text (value_of said text)

@@ -1,12 +1,12 @@
 // Examples: expressions and their values.
 
-ghost use Rattle.std.specs.Prelude.{◌≡◌, ◌*◌, ◌/◌, ◌∷◌, ◌++◌, ℕ, Err, List, None, Ok, Some, codes, decimal, pos, negsuc};
+ghost use Rattle.std.specs.Prelude.{◌≡◌, ◌*◌, ◌/◌, ◌∷◌, ◌++◌, ℕ, Err, List, None, Ok, Some, codes, decimal, false, true, pos, negsuc};
 ghost use Rattle.std.specs.Int.{IsGcd};
-ghost use Rattle.program_values.specs.Numbers.{gcd};
+ghost use Rattle.program_values.specs.Numbers.{gcd, numeral};
 ghost use Rattle.program_values.specs.Examples.{Gives, Fails, a_is_seven, assigning, declaring, refusal, start};
-ghost use Rattle.program_values.specs.LookBack.{Holds, value_said};
+ghost use Rattle.program_values.specs.LookBack.{Holds, is_declaration, value_said};
 ghost use Rattle.program_values.specs.Texts.{expanded};
-ghost use Rattle.program_values.specs.Values.{value_of};
+ghost use Rattle.program_values.specs.Values.{computed, value_of};
 ghost use Rattle.program_values.specs.Variables.{Entry, entry_value};
 ghost use Rattle.dmis_text.specs.declared.elements.Statement.{Statement};
 ghost use Rattle.program_values.specs.Numbers.{whole_number};
@@ -103,6 +103,37 @@ pub fn assignments_are_looked_back_for()
     ensures zero { refusal start (assigning (codes "N") (codes "1/0"))
         ≡ Some fault.DivisionByZero }
     ensures fine { refusal start (assigning (codes "N") (codes "1")) ≡ None }
+{}
+
+/// Values are written as numerals: whole ones without a point, others to the nearest millionth.
+#[tactic(auto, unfolding(fixed_um::specs::Written::written_component))]
+pub fn values_are_written()
+    ensures whole { numeral (whole_number (negsuc 4)) ≡ codes "-" ++ decimal 5 }
+    ensures half { numeral (record { over = pos 5; under = 2 }) ≡ decimal 2 ++ codes ".500000" }
+    ensures third { numeral (record { over = negsuc 1; under = 3 })
+        ≡ codes "-" ++ (decimal 0 ++ codes ".666667") }
+    ensures away { numeral (record { over = negsuc 0; under = 2000000 })
+        ≡ codes "-" ++ (decimal 0 ++ codes ".000001") }
+    ensures zero { numeral (record { over = negsuc 0; under = 3000000 })
+        ≡ decimal 0 ++ codes ".000000" }
+{}
+
+/// A value takes the place of an expression; a numeral stays as it is, and what has no value.
+#[tactic(auto, unfolding(crate::specs::Values::value_within, crate::specs::Values::numeral_value, crate::specs::Parts::parts_of, crate::specs::Numbers::reduced, crate::specs::Numbers::gcd_within, crate::specs::Numbers::multiplied))]
+pub fn values_take_the_place_of_expressions()
+    ensures sum { computed a_is_seven (codes "A+1") ≡ decimal 8 }
+    ensures name { computed a_is_seven (codes "A") ≡ decimal 7 }
+    ensures opposite { computed a_is_seven (codes "-A") ≡ codes "-" ++ decimal 7 }
+    ensures twice { computed a_is_seven (codes "--5") ≡ decimal 5 }
+    ensures numeral { computed a_is_seven (codes "1E1") ≡ codes "1E1" }
+    ensures signed { computed a_is_seven (codes "-5") ≡ codes "-5" }
+    ensures plus { computed a_is_seven (codes "+5") ≡ codes "+5" }
+    ensures label { computed a_is_seven (codes "F(A)") ≡ codes "F(A)" }
+    ensures unassigned { computed a_is_seven (codes "B") ≡ codes "B" }
+    ensures real { is_declaration (declaring (codes "REAL") (codes "X")) ≡ true }
+    ensures texts { is_declaration (declaring (codes "CHAR") (codes "X")) ≡ false }
+    ensures labelled { is_declaration (record (declaring (codes "REAL") (codes "X"))
+        { label = Some (codes "X") }) ≡ false }
 {}
 
 /// A name after an `@` stands for its value.

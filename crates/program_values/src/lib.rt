@@ -19,5 +19,5 @@ mod variables;
 pub use faults::ValueFault;
 pub use numbers::Number;
 pub use texts::expanded;
-pub use values::value_of;
-pub use variables::Variables;
+pub use values::{computed, value_of};
+pub use variables::{Variables, is_declaration};

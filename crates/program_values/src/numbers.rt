@@ -1,11 +1,15 @@
 // Exact numbers and their arithmetic.
 
-ghost use Rattle.std.specs.Prelude.{◌≡◌, ◌<◌, ◌≤◌, ◌*◌, ◌*ℤ◌, ◌+ℤ◌, Ok, pos, unsigned_abs};
+ghost use Rattle.std.specs.Prelude.{◌≡◌, ◌<◌, ◌≤◌, ◌++◌, ◌∷◌, [], ◌*◌, ◌*ℤ◌, ◌+ℤ◌, OnOk, Ok, pos, unsigned_abs};
 ghost use Rattle.program_values.specs.Numbers as spec;
 ghost use Rattle.program_values.specs.Numbers.{bound};
 ghost use Rattle.program_values.specs.Texts.{whole_of};
+ghost use Rattle.fixed_um.specs.Computed.{rounded};
+ghost use Rattle.fixed_um.specs.Written.{last_digit, three_digits};
 
 use crate::faults::ValueFault;
+use itoa::Buffer;
+use std::alloc::AllocError;
 use std::marker::Model;
 
 /// The greatest numerator and denominator.
@@ -168,6 +172,35 @@ impl Number {
         }
     }
 
+    /// The whole millionths nearest to the number without its sign, halves away from zero.
+    fn millionths(self) -> u128
+        ensures value { result ≡ rounded (unsigned_abs self.over * 1000000) self.under }
+        ensures within { result ≤ 2 * bound * 1000000 }
+    {
+        let scaled = u128::from(self.over.unsigned_abs()) * 1_000_000;
+        let under = u128::from(self.under);
+        (2 * scaled + under) / (2 * under)
+    }
+
+    /// Appends the number as a numeral: a whole one without a point, another with six decimals, to the nearest millionth.
+    #[tactic(auto, unfolding(fixed_um::specs::Written::written_component))]
+    pub fn write(self, out: &mut Vec<u8>) -> Result<(), AllocError>
+        ensures { OnOk result (out.new.items ≡ out.old.items ++ spec.numeral self) }
+    {
+        if self.under == 1 {
+            return out.extend_from_slice(Buffer::new().format(self.over).as_bytes());
+        }
+        let millionths = self.millionths();
+        if self.over < 0 && millionths > 0 {
+            out.push(b'-')?;
+        }
+        let whole = (millionths / 1_000_000) as u64;
+        out.extend_from_slice(Buffer::new().format(whole).as_bytes())?;
+        out.push(b'.')?;
+        push_three(out, millionths / 1000)?;
+        push_three(out, millionths)
+    }
+
     /// The number without its decimals: towards zero.
     pub fn whole_part(self) -> Number
         ensures { result ≡ spec.whole_part self }
@@ -190,6 +223,21 @@ impl Number {
             multiplied(self, times, Number::whole(1))
         }
     }
+}
+
+/// Appends the last digit of a number.
+fn push_digit(out: &mut Vec<u8>, number: u128) -> Result<(), AllocError>
+    ensures { OnOk result (out.new.items ≡ out.old.items ++ last_digit number ∷ []) }
+{
+    Ok(out.push(b'0' + (number % 10) as u8)?)
+}
+
+fn push_three(out: &mut Vec<u8>, number: u128) -> Result<(), AllocError>
+    ensures { OnOk result (out.new.items ≡ out.old.items ++ three_digits number) }
+{
+    push_digit(out, number / 100)?;
+    push_digit(out, number / 10)?;
+    push_digit(out, number)
 }
 
 /// A value multiplied that many times by a number.

@@ -1,8 +1,8 @@
 // The value of an expression.
 
-ghost use Rattle.std.specs.Prelude.{◌≡◌};
-ghost use Rattle.std.specs.Prelude.{bytes_eq};
+ghost use Rattle.std.specs.Prelude.{◌≡◌, IfOk, bytes_eq};
 ghost use Rattle.program_values.specs.Cuts.{seen};
+ghost use Rattle.program_values.specs.Parts as cuts;
 ghost use Rattle.program_values.specs.Values as spec;
 ghost use Rattle.program_values.specs.Variables.{entry_value};
 
@@ -12,6 +12,7 @@ use crate::numerals::numeral_value;
 use crate::parts::{Cut, parts_of};
 use crate::places::{Operator, begins_numeral};
 use crate::variables::Variables;
+use std::alloc::AllocError;
 
 /// How many operations may be within one another.
 const LEVELS: u64 = 100;
@@ -124,4 +125,39 @@ pub fn value_of(text: &[u8], variables: &Variables) -> Result<Number, ValueFault
     ensures { result ≡ spec.value_of (entry_value variables.now) text.now }
 {
     value_within(text, variables, LEVELS)
+}
+
+fn is_alone(cut: &Cut) -> bool
+    ensures { result ≡ spec.is_alone (seen cut.now) }
+{
+    match cut {
+        Cut::Leaf(text) => is_numeral(text),
+        _ => false,
+    }
+}
+
+/// Whether a text is a numeral, with one sign or without.
+fn is_constant(text: &[u8]) -> bool
+    ensures { result ≡ spec.is_constant (cuts.parts_of text.now) }
+{
+    match parts_of(text) {
+        Cut::Opposite(rest) | Cut::Same(rest) => is_alone(&parts_of(rest)),
+        cut => is_alone(&cut),
+    }
+}
+
+/// A text with the value of its expression in its place, as a numeral. A numeral stays as it is, and so does what has no value.
+pub fn computed(text: Vec<u8>, variables: &Variables) -> Result<Vec<u8>, AllocError>
+    ensures { IfOk result (λ out. out.items
+        ≡ spec.computed (entry_value variables.now) text.items) }
+{
+    if is_constant(&text) {
+        return Ok(text);
+    }
+    let Ok(number) = value_of(&text, variables) else {
+        return Ok(text);
+    };
+    let mut out = Vec::new(*text.allocator());
+    number.write(&mut out)?;
+    Ok(out)
 }

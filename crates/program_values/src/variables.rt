@@ -3,7 +3,7 @@
 ghost use Rattle.std.specs.Prelude.{◌≡◌, ◌<◌, IfSome, OnOk, OnErr, IfErr, List, [], length, bytes_eq};
 ghost use Rattle.std.specs.Option.{option_map};
 ghost use Rattle.program_values.specs.Carried.{CarriesOut, Makes, put_all, put_value, table_after, table_assigned, table_declared};
-ghost use Rattle.program_values.specs.LookBack.{Holds, kind_of_word};
+ghost use Rattle.program_values.specs.LookBack.{Holds, is_declaration, kind_of_word};
 ghost use Rattle.program_values.specs.Variables as spec;
 ghost use Rattle.program_values.specs.declared.faults.ValueFault.TheVariants.{Memory};
 ghost use Rattle.dmis_text.specs.declared.elements.Statement.{Statement};
@@ -212,6 +212,20 @@ impl Variables {
             → CarriesOut above statement.now result self.new }
     {
         self.step(statement)
+    }
+}
+
+/// Whether a statement is a `DECL` of `REAL` or `INTGR`.
+pub fn is_declaration(statement: &Statement) -> bool
+    ensures { result ≡ is_declaration statement.now }
+{
+    if !is_text(&statement.word, "DECL") || statement.label.is_some() {
+        return false;
+    }
+    let params: &[Text] = &statement.params;
+    match params {
+        [_, kind, ..] => kind_of_word(kind).is_some(),
+        _ => false,
     }
 }
 
