@@ -17,11 +17,13 @@ use Rattle.program_lowering.specs.declared.lowering.Lowered.{Lowered}
 use Rattle.program_lowering.specs.Inches.{all_stated}
 use Rattle.program_lowering.proofs.Names.{◌++◌}
 use Rattle.program_lowering.specs.Carried.{frames_closed}
+use Rattle.program_lowering.specs.Lowering.{valued_statements}
+use Rattle.program_lowering.specs.Valued.{all_valued}
 use Rattle.program_lowering.specs.StoredFrames.{frame_notes, if_stored}
 
 -- all of a text
 abbrev pub run_of : List (List ℕ × Point) → Choices → List ℕ → Result Written (Refusal × ℕ)
-run_of frames choices text = run frames choices (text_reading text).fault (length (lines text)) (text_reading text).statements nothing_carried
+run_of frames choices text = run frames choices (text_reading text).fault (length (lines text)) (valued_statements text) nothing_carried
 
 record HasTexts (r : Result (List Step) (Refusal × ℕ)) (text notes about : List ℕ) (w : Written) : Type 0 where
   steps : List Step
@@ -52,7 +54,7 @@ pub written_of : (frames : List (List ℕ × Point)) (choices : Choices) (text :
     → AreLines frames choices text w.text (w.notes ++ if_stored choices w.frames)
 unfolding meaning_of
 written_of frames choices text w h =
-    let statements = (text_reading text).statements in
+    let statements = valued_statements text in
     let t = has_texts (steps_up_to frames (text_reading text).fault (length (lines text)) [] (all_stated [] (kept choices statements)))
     (ended_lines (flat_lines (all_stated [] (kept choices statements)))) (notes_from choices [] statements)
     (frame_notes (all_stated [] (kept choices statements))) w
@@ -68,7 +70,7 @@ pub refused_of : (frames : List (List ℕ × Point)) (choices : Choices) (text :
     → lowered_meaning frames choices text ≡ Err e
 unfolding meaning_of
 refused_of frames choices text e h =
-    let statements = (text_reading text).statements in
+    let statements = valued_statements text in
     has_refusal (steps_up_to frames (text_reading text).fault (length (lines text)) [] (all_stated [] (kept choices statements)))
     (ended_lines (flat_lines (all_stated [] (kept choices statements)))) (notes_from choices [] statements)
     (frame_notes (all_stated [] (kept choices statements))) e
@@ -112,28 +114,29 @@ at_line frames choices text due fault n all c none is same =
     refused_of frames choices text (ended due c.above.number n)
     (sym same ∙ ends_at frames choices fault n all c none ∙ ap (λ (f : Option TextFault). Err (ended f c.above.number n)) is)
 
-pub at_fault : (frames : List (List ℕ × Point)) (choices : Choices) (text : List ℕ) (fault : TextFault) (u : Unread) (c : Carried)
-    → IsDue u fault → run frames choices u.fault u.lines u.left c ≡ run_of frames choices text
+pub at_fault : (frames : List (List ℕ × Point)) (choices : Choices) (text : List ℕ) (fault : TextFault) (u : Unread) (above : List Statement) (c : Carried)
+    → IsDue u fault → run frames choices u.fault u.lines (all_valued above u.left) c ≡ run_of frames choices text
     → GivesLines frames choices text (Err (text_refused fault))
-at_fault frames choices text (text_fault.LineTooLong line) u c due same =
-    at_line frames choices text (Some (text_fault.LineTooLong line)) u.fault u.lines u.left c due.0 due.1 same
-at_fault frames choices text (text_fault.BadByte line) u c due same =
-    at_line frames choices text (Some (text_fault.BadByte line)) u.fault u.lines u.left c due.0 due.1 same
-at_fault frames choices text text_fault.Memory u c due same = tt
+at_fault frames choices text (text_fault.LineTooLong line) u above c due same =
+    at_line frames choices text (Some (text_fault.LineTooLong line)) u.fault u.lines (all_valued above u.left) c (ap (all_valued above) due.0) due.1 same
+at_fault frames choices text (text_fault.BadByte line) u above c due same =
+    at_line frames choices text (Some (text_fault.BadByte line)) u.fault u.lines (all_valued above u.left) c (ap (all_valued above) due.0) due.1 same
+at_fault frames choices text text_fault.Memory u above c due same = tt
 
 -- and where the text ends
-pub at_end : (frames : List (List ℕ × Point)) (choices : Choices) (text : List ℕ) (u : Unread) (c : Carried) → u.left ≡ [] → u.fault ≡ None
-    → run frames choices u.fault u.lines u.left c ≡ run_of frames choices text
+pub at_end : (frames : List (List ℕ × Point)) (choices : Choices) (text : List ℕ) (u : Unread) (above : List Statement) (c : Carried) → u.left ≡ [] → u.fault ≡ None
+    → run frames choices u.fault u.lines (all_valued above u.left) c ≡ run_of frames choices text
     → GivesLines frames choices text (Err (refused_at (without_end c.above.number u.lines)))
-at_end frames choices text u c none is same = at_line frames choices text None u.fault u.lines u.left c none is same
+at_end frames choices text u above c none is same =
+    at_line frames choices text None u.fault u.lines (all_valued above u.left) c (ap (all_valued above) none) is same
 
 -- where the reader answers that
-pub at_error : (frames : List (List ℕ × Point)) (choices : Choices) (text : List ℕ) (u : Unread) (c : Carried) (r : Result Lowered ProgramFault)
+pub at_error : (frames : List (List ℕ × Point)) (choices : Choices) (text : List ℕ) (u : Unread) (above : List Statement) (c : Carried) (r : Result Lowered ProgramFault)
     (f : ProgramFault) → IsErrAnd r (λ given. given ≡ f) → ((due : TextFault) × (f ≡ text_refused due) × IsDue u due)
-    → run frames choices u.fault u.lines u.left c ≡ run_of frames choices text → GivesLines frames choices text r
-at_error frames choices text u c (Ok lines) f is due same = absurd is
-at_error frames choices text u c (Err given) f is due same =
-    subst (λ (g : ProgramFault). GivesLines frames choices text (Err g)) (sym (is ∙ due.1)) (at_fault frames choices text due.0 u c due.2 same)
+    → run frames choices u.fault u.lines (all_valued above u.left) c ≡ run_of frames choices text → GivesLines frames choices text r
+at_error frames choices text u above c (Ok lines) f is due same = absurd is
+at_error frames choices text u above c (Err given) f is due same =
+    subst (λ (g : ProgramFault). GivesLines frames choices text (Err g)) (sym (is ∙ due.1)) (at_fault frames choices text due.0 u above c due.2 same)
 
 -- where the program ends
 pub finished : (frames : List (List ℕ × Point)) (choices : Choices) (source text notes : List ℕ) (r : Result Lowered ProgramFault)

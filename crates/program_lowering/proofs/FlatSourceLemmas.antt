@@ -27,6 +27,11 @@ use Rattle.dmis_program.specs.declared.sayings.StatementMeaning.TheVariants.{Pas
 use Rattle.program_lowering.specs.Inches.{all_stated, in_inches, inches_after, is_unit, params_in, stated, unit_params}
 use Rattle.program_review.specs.Notices.{begins_with}
 use Rattle.program_lowering.proofs.StatedLemmas.{text_same}
+use Rattle.program_lowering.proofs.Names.{is_none, is_operator_text}
+use Rattle.program_lowering.proofs.TextLemmas.{is_text}
+use Rattle.dmis_program.specs.Keywords.{is_among}
+use Rattle.program_values.specs.LookBack.{fault_of, is_declaration, kind_said, value_said}
+use Rattle.program_lowering.specs.Valued.{all_valued, assigned_params, carried, commanding, has_variables, held_or_none, valued, valued_params, with_params}
 
 -- what follows a statement that says this may be exchanged for what has the same steps
 same_front : (b : Bool) (front : List Step) (r q : Result (List Step) (Refusal × ℕ)) (steps : List Step)
@@ -241,7 +246,7 @@ stated_fits : (sources statements : List Statement) → Fit statements → Fit (
 stated_fits sources [] h = tt
 stated_fits sources (s ∷ statements) h = (text_same (in_inches sources) s ∙ h.0, stated_fits (s ∷ sources) statements h.1)
 
-pub flat_source : (frames : List (List ℕ × Point)) (choices : Choices) (fault : Option TextFault) (lines : ℕ) (statements : List Statement)
+flat_source : (frames : List (List ℕ × Point)) (choices : Choices) (fault : Option TextFault) (lines : ℕ) (statements : List Statement)
     (m : Meaning) → AllByRecursion (λ (s : Statement). text_refusal s ≡ None) statements → meant (steps_from frames fault lines [] statements) ≡ Ok m
     → meant (steps_up_to frames fault lines [] (all_stated [] (kept choices statements))) ≡ Ok m
 flat_source frames choices fault lines statements m fit h =
@@ -251,3 +256,92 @@ flat_source frames choices fault lines statements m fit h =
       stated_alike frames fault lines [] [] (kept choices statements) found.0 refl (all_kept frames choices fault lines [] statements found.0 refl found.1),
     )
     (ap (λ (all : Meaning). Ok all) (sym found.2))
+
+-- a flat program declares no variable, so each statement is its own with values
+record IsPlainWord (s : Statement) : Type 0 where
+  no_assign : bytes_eq s.word (codes "ASSIGN") ≡ false
+  no_declaration : is_declaration s ≡ false
+
+unknown_words : (is_unknown (keyword_of (codes "ASSIGN")) ≡ true) × (is_unknown (keyword_of (codes "DECL")) ≡ true)
+unfolding keyword_of
+unknown_words = (refl, refl)
+
+other_word : (word other : List ℕ) → is_unknown (keyword_of other) ≡ true → is_unknown (keyword_of word) ≡ false → bytes_eq word other ≡ false
+other_word word other h g = go (bytes_eq word other) refl
+  where
+    go : (b : Bool) → bytes_eq word other ≡ b → b ≡ false
+    go false e = refl
+    go true e = let is = (bytes_eq-Decides word other).0 e in let same = rw is at g in absurd cc
+
+plain_word : (s : Statement) → is_unknown (keyword_of s.word) ≡ false → IsPlainWord s
+plain_word s known = record {
+  no_assign = other_word s.word (codes "ASSIGN") unknown_words.0 known;
+  no_declaration = rw (other_word s.word (codes "DECL") unknown_words.1 known) refl;
+}
+
+itself : (above : List Statement) (s : Statement) → IsPlainWord s → has_variables above ≡ false → valued above s ≡ s
+itself above s plain none = rw (plain.no_assign, none) refl
+
+none_then : (above : List Statement) (s : Statement) → IsPlainWord s → has_variables above ≡ false → has_variables (carried above s) ≡ false
+none_then above s plain none = go (is_none (fault_of (kind_said above) (value_said above) s))
+  where
+    go : (b : Bool) → has_variables (cond b (s ∷ above) above) ≡ false
+    go true = rw (none, plain.no_declaration) refl
+    go false = none
+
+valued_on : (frames : List (List ℕ × Point)) (fault : Option TextFault) (lines : ℕ) (aboves above : List Statement) (s : Statement)
+    (below : List Statement) (steps : List Step) (r : Result StatementMeaning Refusal) → judged frames (context_at frames aboves) s ≡ r
+    → has_variables above ≡ false
+    → ((more : List Step) → has_variables (carried above s) ≡ false → steps_from frames fault lines (s ∷ aboves) below ≡ Ok more
+    → steps_from frames fault lines (s ∷ aboves) (all_valued (carried above s) below) ≡ Ok more)
+    → continued s.line r (steps_of frames (context_at frames aboves)) (steps_from frames fault lines (s ∷ aboves) below) ≡ Ok steps
+    → steps_from frames fault lines aboves (all_valued above (s ∷ below)) ≡ Ok steps
+valued_on frames fault lines aboves above s below steps (Err refusal) e none behind h = absurd cc
+valued_on frames fault lines aboves above s below steps (Ok m) e none behind h =
+    let known = accepted_known frames (context_at frames aboves) s m (accepted_if frames (context_at frames aboves) s m e) in
+    let plain = plain_word s known in
+    rw (itself above s plain none, e) (same_front (closes m) (steps_of frames (context_at frames aboves) m) (steps_from frames fault lines (s ∷ aboves) below)
+    (steps_from frames fault lines (s ∷ aboves) (all_valued (carried above s) below)) steps (λ more g. behind more (none_then above s plain none) g) h)
+
+valued_alike : (frames : List (List ℕ × Point)) (fault : Option TextFault) (lines : ℕ) (aboves above below : List Statement) (steps : List Step)
+    → has_variables above ≡ false → steps_from frames fault lines aboves below ≡ Ok steps
+    → steps_from frames fault lines aboves (all_valued above below) ≡ Ok steps
+valued_alike frames fault lines aboves above [] steps none h = h
+valued_alike frames fault lines aboves above (s ∷ below) steps none h =
+    valued_on frames fault lines aboves above s below steps (judged frames (context_at frames aboves) s) refl none
+    (λ more next g. valued_alike frames fault lines (s ∷ aboves) (carried above s) below more next g) h
+
+-- and no text for the operator changes
+no_operator : (s : Statement) (params : List (List ℕ)) → (bytes_eq s.word (codes "ASSIGN") || is_among s.word commanding) ≡ true
+    → text_refusal (record { line = s.line; label = None; word = s.word; params = params }) ≡ None
+no_operator s params h = go (is_operator_text (record { line = s.line; label = None; word = s.word; params = params })) refl
+  where
+    go : (b : Bool) → is_operator_text (record { line = s.line; label = None; word = s.word; params = params }) ≡ b
+        → text_refusal (record { line = s.line; label = None; word = s.word; params = params }) ≡ None
+    go false e = rw e refl
+    go true e =
+        let is = (is_text (record { line = s.line; label = None; word = s.word; params = params }) e).word_is in
+        let same = rw is at h in absurd cc
+
+valued_text : (above : List Statement) (s : Statement) → text_refusal s ≡ None → text_refusal (valued above s) ≡ None
+valued_text above s h = go (bytes_eq s.word (codes "ASSIGN")) (has_variables above) (is_none s.label) (is_among s.word commanding) refl refl
+  where
+    go : (a b c d : Bool) → bytes_eq s.word (codes "ASSIGN") ≡ a → is_among s.word commanding ≡ d
+        → text_refusal (with_params s (cond a (Some (assigned_params above s s.label)) (cond (b && (c && d)) (Some (valued_params (value_said above) s.params)) None))) ≡ None
+    go true b c d e f = no_operator s (held_or_none s.word (assigned_params above s s.label)) (rw e refl)
+    go false true true true e f = no_operator s (held_or_none s.word (valued_params (value_said above) s.params)) (rw (e, f) refl)
+    go false true true false e f = h
+    go false true false d e f = h
+    go false false c d e f = h
+
+valued_fits : (above statements : List Statement) → Fit statements → Fit (all_valued above statements)
+valued_fits above [] h = tt
+valued_fits above (s ∷ statements) h = (valued_text above s h.0, valued_fits (carried above s) statements h.1)
+
+pub valued_source : (frames : List (List ℕ × Point)) (choices : Choices) (fault : Option TextFault) (lines : ℕ) (statements : List Statement)
+    (m : Meaning) → AllByRecursion (λ (s : Statement). text_refusal s ≡ None) statements → meant (steps_from frames fault lines [] statements) ≡ Ok m
+    → meant (steps_up_to frames fault lines [] (all_stated [] (kept choices (all_valued [] statements)))) ≡ Ok m
+valued_source frames choices fault lines statements m fit h =
+    let found = meant_steps m (steps_from frames fault lines [] statements) h in
+    flat_source frames choices fault lines (all_valued [] statements) m (valued_fits [] statements fit)
+    (ap meant (valued_alike frames fault lines [] [] statements found.0 refl found.1) ∙ ap (λ (all : Meaning). Ok all) (sym found.2))

@@ -6,12 +6,14 @@ use Rattle.program_lowering.proofs.Names.{ℕ}
 use Rattle.dmis_text.specs.Numbers.{AreNumbered}
 use Rattle.dmis_text.proofs.NumberLaws.{numbered_is}
 use Rattle.dmis_program.specs.Meaning.{meaning_of}
-use Rattle.program_lowering.proofs.FlatSourceLemmas.{flat_source}
+use Rattle.program_lowering.proofs.FlatSourceLemmas.{valued_source}
 use Rattle.program_lowering.proofs.LineCounts.{lines_few}
 use Rattle.program_lowering.proofs.ReadBackLemmas.{HasShortLine, acts_back, reads_back}
 use Rattle.program_lowering.proofs.RunLemmas.{ended_append}
 use Rattle.program_lowering.specs.Inches.{all_stated}
-use Rattle.program_lowering.specs.Lowering.{counted_at, kept_above}
+use Rattle.program_lowering.proofs.ValuedLemmas.{valued_line}
+use Rattle.program_lowering.specs.Valued.{all_valued, carried}
+use Rattle.program_lowering.specs.Lowering.{counted_at, kept_above, valued_statements}
 use Rattle.program_lowering.specs.StoredFrames.{is_used}
 use Rattle.program_lowering.proofs.FrameLemmas.{same_line}
 use Rattle.program_lowering.proofs.Names.{subst}
@@ -38,32 +40,37 @@ stated_short : (sources statements : List Statement) → AllByRecursion HasShort
 stated_short sources [] h = tt
 stated_short sources (s ∷ statements) h = (h.0, stated_short (s ∷ sources) statements h.1)
 
+valued_short : (above statements : List Statement) → AllByRecursion HasShortLine statements → AllByRecursion HasShortLine (all_valued above statements)
+valued_short above [] h = tt
+valued_short above (s ∷ statements) h =
+    (subst (λ (n : ℕ). n < 2 ^ 64) (sym (valued_line above s)) h.0, valued_short (carried above s) statements h.1)
+
 pub programs_read_back : (frames : List (List ℕ × Point)) (choices : Choices) (text : List ℕ) (heads : List (List ℕ)) (m : Meaning)
     → length text < 2 ^ 64 → AllByRecursion IsComment heads → lowered_meaning frames choices text ≡ Ok m
     → program_of frames (ended_lines heads ++ flat_program choices text) ≡ Ok m
 unfolding meaning_of
 programs_read_back frames choices text heads m few comments h =
     let short = numbers_short 1 (1 + length (lines text)) (text_reading text).statements (omega (arith, few, lines_few text)) (numbered_is 1 (lines text)).0 in
-    ap (λ (t : List ℕ). program_of frames t) (sym (ended_append heads (flat_lines (all_stated [] (kept choices (text_reading text).statements)))))
-    ∙ reads_back frames (text_reading text).fault (length (lines text)) (all_stated [] (kept choices (text_reading text).statements)) heads m
-    (stated_short [] (kept choices (text_reading text).statements) (kept_short choices [] (text_reading text).statements short)) comments h
+    ap (λ (t : List ℕ). program_of frames t) (sym (ended_append heads (flat_lines (all_stated [] (kept choices (valued_statements text))))))
+    ∙ reads_back frames (text_reading text).fault (length (lines text)) (all_stated [] (kept choices (valued_statements text))) heads m
+    (stated_short [] (kept choices (valued_statements text)) (kept_short choices [] (valued_statements text) (valued_short [] (text_reading text).statements short))) comments h
 
 pub texts_stay : (frames : List (List ℕ × Point)) (choices : Choices) (text : List ℕ) (heads : List (List ℕ)) (m : Meaning)
     → length text < 2 ^ 64 → AllByRecursion IsComment heads → lowered_meaning frames choices text ≡ Ok m
     → acts_of frames (text_reading (ended_lines heads ++ flat_program choices text)).statements
-    ≡ acts_of frames (all_stated [] (kept choices (text_reading text).statements))
+    ≡ acts_of frames (all_stated [] (kept choices (valued_statements text)))
 unfolding meaning_of
 texts_stay frames choices text heads m few comments h =
     let short = numbers_short 1 (1 + length (lines text)) (text_reading text).statements (omega (arith, few, lines_few text)) (numbered_is 1 (lines text)).0 in
-    ap (λ (t : List ℕ). acts_of frames (text_reading t).statements) (sym (ended_append heads (flat_lines (all_stated [] (kept choices (text_reading text).statements)))))
-    ∙ acts_back frames (text_reading text).fault (length (lines text)) (all_stated [] (kept choices (text_reading text).statements)) heads m
-    (stated_short [] (kept choices (text_reading text).statements) (kept_short choices [] (text_reading text).statements short)) comments h
+    ap (λ (t : List ℕ). acts_of frames (text_reading t).statements) (sym (ended_append heads (flat_lines (all_stated [] (kept choices (valued_statements text))))))
+    ∙ acts_back frames (text_reading text).fault (length (lines text)) (all_stated [] (kept choices (valued_statements text))) heads m
+    (stated_short [] (kept choices (valued_statements text)) (kept_short choices [] (valued_statements text) (valued_short [] (text_reading text).statements short))) comments h
 
 pub sources_keep : (frames : List (List ℕ × Point)) (choices : Choices) (text : List ℕ) (m : Meaning) → TextsFit text → program_of frames text ≡ Ok m
     → lowered_meaning frames choices text ≡ Ok m
 unfolding meaning_of
 sources_keep frames choices text m fit h =
-    flat_source frames choices (text_reading text).fault (length (lines text)) (text_reading text).statements m fit h
+    valued_source frames choices (text_reading text).fault (length (lines text)) (text_reading text).statements m fit h
 
 -- manual blocks
 pub touches_skipped : (choices : Choices) (t s : Statement) (above : List Statement) → choices.skip_manual ≡ true

@@ -22,4 +22,5 @@ pub mod WholeLemmas
 pub mod LineCounts
 pub mod Takes
 pub mod LineParts
+pub mod ValuedLemmas
 pub mod ExampleLemmas

@@ -1,12 +1,12 @@
 -- Lines are written part by part.
 use Rattle.program_lowering.proofs.Names.{[], ◌++◌, ◌∙◌, ◌∷◌, ◌≡◌, after_word, ap, append-nil, append_assoc, as_read, Bool, Choices, codes, decimal}
-use Rattle.program_lowering.proofs.Names.{encode_lower, ended_lines, Err, false, Flat, flat_line, flat_meant, flat_said, flat_text, head_lines}
+use Rattle.program_lowering.proofs.Names.{encode_lower, ended_lines, false, Flat, flat_line, flat_meant, flat_said, flat_text, head_lines}
 use Rattle.program_lowering.proofs.Names.{is_operator_text, is_some, keyword_of, line_end, line_for, List, marked, Names, None, note_for, note_start}
-use Rattle.program_lowering.proofs.Names.{Ok, OnOk, Option, options_text, Reason, refl, Result, setup_name, shown_name, Some, Statement}
+use Rattle.program_lowering.proofs.Names.{Option, options_text, Reason, refl, setup_name, shown_name, Some, Statement}
 use Rattle.program_lowering.proofs.Names.{StatementMeaning, sym, text_for, true, with_commas, ℕ}
 use Rattle.sha2.specs.Sha256.{sha256}
 use Rattle.program_lowering.specs.Lowering.{ended}
-use Rattle.program_lowering.specs.Reasons.{reason_text}
+use Rattle.program_lowering.specs.Reasons.{detail, reason_text}
 
 parts : (line : ℕ) (old : List ℕ) (o : Option Flat)
     → ((old ++ text_for o) ++ line_end line (is_some o)) ≡ (old ++ ended_lines (line_for line o))
@@ -24,12 +24,26 @@ pub line_is : (line : ℕ) (o : Option Flat) (old middle new : List ℕ) (writte
 line_is line o old middle new written e h g = g ∙ rw (e, h) (parts line old o)
 
 -- a note
-pub note_on : {X E : Type 0} (r : Result X E) (s : Statement) (given : Option Reason) (reason : Reason) (old middle new shown : List ℕ)
-    → given ≡ Some reason → middle ≡ old ++ note_start s → shown ≡ reason_text reason
-    → OnOk r (new ≡ middle ++ ended (codes " is left out: " ++ shown)) → OnOk r (new ≡ old ++ note_for s given)
-note_on (Ok done) s given reason old middle new shown is e h g =
-    rw (is, g, e, h) (append_assoc old (note_start s) (ended (codes " is left out: " ++ reason_text reason)))
-note_on (Err refused) s given reason old middle new shown is e h g = tt
+pub note_is : (s : Statement) (reason : Reason) (old start mark shown told new : List ℕ) → start ≡ old ++ note_start s
+    → mark ≡ start ++ codes " is left out: " → shown ≡ mark ++ reason_text reason → told ≡ shown ++ detail reason s.params
+    → new ≡ told ++ 10 ∷ [] → new ≡ old ++ note_for s (Some reason)
+note_is s reason old start mark shown told new a b c d e =
+    rw (
+      e,
+      d,
+      c,
+      b,
+      a,
+      append_assoc old (note_start s) (codes " is left out: "),
+      append_assoc old (note_start s ++ codes " is left out: ") (reason_text reason),
+      append_assoc old ((note_start s ++ codes " is left out: ") ++ reason_text reason) (detail reason s.params),
+      append_assoc old (((note_start s ++ codes " is left out: ") ++ reason_text reason) ++ detail reason s.params) (10 ∷ []),
+      append_assoc (note_start s) (codes " is left out: ") (reason_text reason),
+      append_assoc (note_start s) (codes " is left out: " ++ reason_text reason) (detail reason s.params),
+      append_assoc (codes " is left out: ") (reason_text reason) (detail reason s.params),
+      append_assoc (note_start s) (codes " is left out: " ++ (reason_text reason ++ detail reason s.params)) (10 ∷ []),
+    )
+    refl
 
 -- the head
 five : (a b c d e : List ℕ) → ((((a ++ b) ++ c) ++ d) ++ e) ≡ (a ++ (b ++ (c ++ (d ++ (e ++ [])))))
@@ -76,7 +90,7 @@ commas_are : (mark : ℕ) (p : List ℕ) (ps : List (List ℕ)) → mark ∷ wit
 commas_are mark p [] = ap (λ (xs : List ℕ). mark ∷ xs) (sym (append-nil p))
 commas_are mark p (q ∷ ps) = ap (λ (xs : List ℕ). mark ∷ (p ++ xs)) (commas_are 44 q ps)
 
-marked_is : (ps : List (List ℕ)) → marked 47 ps ≡ after_word ps
+pub marked_is : (ps : List (List ℕ)) → marked 47 ps ≡ after_word ps
 marked_is [] = refl
 marked_is (p ∷ ps) = sym (commas_are 47 p ps)
 

@@ -4,7 +4,7 @@ use Rattle.program_lowering.proofs.Names.{before_refused, Bool, Carried, Choices
 use Rattle.program_lowering.proofs.Names.{false, fault_for, flat_lines, flat_meant, followed, has_open_text, is_closing}
 use Rattle.program_lowering.proofs.Names.{is_operator_text, is_unknown, judged, kept, Keyword, keyword_of, length}
 use Rattle.program_lowering.proofs.Names.{line_for, LineTooLong, List, ne_eqb, None, none_above, not, note_for, noted, notes_from, nothing_carried}
-use Rattle.program_lowering.proofs.Names.{Ok, Option, passed_over, Point, Reason, reason_of, refl, Refusal, refused_by, Result, saying, Some}
+use Rattle.program_lowering.proofs.Names.{Ok, Option, passed_over, Point, Reason, reason_for, refl, Refusal, refused_by, Result, saying, Some}
 use Rattle.program_lowering.proofs.Names.{Statement, StatementMeaning, Step, stepped, steps_from, steps_of, subst, suc, sym, text_refusal, TextFault}
 use Rattle.program_lowering.proofs.Names.{true, up_to_refused, with_front, word_refusal, ℕ}
 use Rattle.dmis_program.specs.Meaning.{ended}
@@ -81,7 +81,7 @@ left_out_closes choices used manual s reason h = go choices.skip_manual (is_skip
     nothing h = closes_nothing (by_frame choices used s) (same_end choices used s h)
 
     go : (asked b unknown : Bool) → is_skipped manual s ≡ b → is_unknown (keyword_of s.word) ≡ unknown
-        → cond (asked && b) (Some Manual) (cond (unknown && not (has_open_text s)) (reason_of choices s.word s.params) None) ≡ Some reason
+        → cond (asked && b) (Some Manual) (cond (unknown && not (has_open_text s)) (reason_for choices s) None) ≡ Some reason
         → is_closing (saying (by_frame choices used s)) ≡ false
     go true true unknown e f h = nothing (other (keyword_of s.word) (inl (skipped_measures manual _ _ e)))
     go asked b true e f h = nothing (other (keyword_of s.word) (inr f))

@@ -1,5 +1,5 @@
 -- What the code carries from statement to statement: no public clause cites it. specs/Lowering.antt looks back instead.
-use Rattle.std.specs.Prelude.{◌≡◌, ℕ, ◌+◌, ◌==◌, nat_le, Bool, true, false, List, [], ◌∷◌, ◌++◌, Option, Some, None, Result, Ok, Err, if◌then◌else◌}
+use Rattle.std.specs.Prelude.{◌≡◌, ℕ, ◌+◌, ◌==◌, nat_le, Bool, true, false, List, [], ◌∷◌, ◌++◌, Option, Some, None, OnOk, IfOk, IfErr, Result, Ok, Err, if◌then◌else◌}
 use Rattle.dmis_text.specs.declared.elements.Statement.{Statement}
 use Rattle.fixed_um.specs.declared.frames.Frame.TheVariants.{Machine}
 use Rattle.fixed_um.specs.declared.lengths.Point.{Point}
@@ -15,10 +15,19 @@ use Rattle.dmis_program.specs.declared.faults.StatementFault.TheVariants as faul
 use Rattle.dmis_program.specs.declared.faults.ProgramFault.{ProgramFault}
 use Rattle.dmis_program.specs.declared.sayings.StatementMeaning.{StatementMeaning}
 use Rattle.dmis_program.specs.declared.sayings.StatementMeaning.TheVariants as said
+use Rattle.dmis_text.specs.Reading.{text_reading}
+use Rattle.std.specs.List.{list_all}
+use Rattle.program_values.specs.LookBack.{Holds}
+use Rattle.program_values.specs.Numbers.{Fraction, and_then, numeral}
+use Rattle.program_values.specs.Variables.{Entry}
+use Rattle.program_values.specs.declared.faults.ValueFault.{ValueFault}
+use Rattle.program_values.specs.declared.faults.ValueFault.TheVariants as value
+use Rattle.program_lowering.specs.Flats.{flat, flat_line}
+use Rattle.program_lowering.specs.Valued.{carried, has_variables, held_or_none}
 use Rattle.program_lowering.specs.Manual.{manual_after}
 use Rattle.program_lowering.specs.Inches.{inches_after, said_stated}
-use Rattle.program_lowering.specs.OperatorTexts.{flat_meant, text_refusal}
-use Rattle.program_lowering.specs.Lowering.{ended_lines, flat_program, left_out_in, line_for, lowered_meaning, note_for, notes_of, passed_over}
+use Rattle.program_lowering.specs.OperatorTexts.{flat_meant, is_plain, marked, text_refusal}
+use Rattle.program_lowering.specs.Lowering.{ended, ended_lines, flat_program, left_out_in, line_for, lowered_meaning, note_for, notes_of, passed_over}
 use Rattle.program_lowering.specs.Lowered.{Refuses}
 use Rattle.program_lowering.specs.StoredFrames.{by_frame, frame_end, frame_start}
 use Rattle.program_lowering.specs.declared.above.Above.{Above}
@@ -166,6 +175,43 @@ abbrev pub GivesStep : Result Bool StatementFault → Carried → Result (Bool �
 GivesStep (Ok closed) new due = due ≡ Ok (closed, new)
 GivesStep (Err (faults.Refused refusal)) new due = due ≡ Err refusal
 GivesStep (Err faults.Memory) new due = Unit {0}
+
+-- the variables that the code carries are those that were declared and assigned to
+pub record Knows (above : List Statement) (entries : List Entry) (declared : Bool) : Type 0 where
+  pub holds : Holds above entries
+  pub some : declared ≡ has_variables above
+
+-- a parameter with its values at the end of a text, and whether it is plain; and several, each after its mark
+abbrev pub pushed : List ℕ → Result (List ℕ) ValueFault → Result (List ℕ × Bool) ValueFault
+pushed old made = and_then made (λ q. Ok (old ++ q, is_plain false q))
+
+abbrev pub all_pushed : List ℕ → ℕ → Result (List (List ℕ)) ValueFault → Result (List ℕ × Bool) ValueFault
+all_pushed old mark made = and_then made (λ qs. Ok (old ++ marked mark qs, list_all (is_plain false) qs))
+
+abbrev pub Pushes : Result Bool ValueFault → List ℕ → Result (List ℕ × Bool) ValueFault → Type 0
+Pushes result new due = IfOk result (λ plain. due ≡ Ok (new, plain)) × IfErr result (λ fault. (fault ≡ value.Memory → ⊥) → due ≡ Err fault)
+
+-- an `ASSIGN` that was carried out, by the values then
+abbrev pub pair_of : Bool → (List ℕ → Result Fraction ValueFault) → Option (List ℕ) → Result (List (List ℕ)) ValueFault
+pair_of false values label = Err value.UnknownName
+pair_of true values None = Err value.UnknownName
+pair_of true values (Some name) = and_then (values name) (λ f. Ok (name ∷ (numeral f ∷ [])))
+
+-- the line from which a statement is read back with its values
+abbrev pub line_with : List ℕ → Result (List (List ℕ)) ValueFault → List ℕ
+line_with word made = ended (flat_line (flat word (held_or_none word made)) 1)
+
+-- a line gives one statement, as if it were the first; or there is none, and a statement stays as it is
+pub record IsRead (line : List ℕ) (s : Statement) : Type 0 where
+  pub only : text_reading line ≡ record { statements = s ∷ []; fault = None }
+
+abbrev pub GivesLine : Option (List ℕ) → Statement → Statement → Type 0
+GivesLine None s v = v ≡ s
+GivesLine (Some line) s v = IsRead line (record v { line = 1 }) × (v.line ≡ s.line)
+
+-- likewise for a statement with its values, which is then carried out, unless memory ran out
+abbrev pub TakesValued : Result Bool StatementFault → Carried → List Entry → Bool → List Statement → Statement → Result (Bool × Carried) Refusal → Type 0
+TakesValued result new entries declared above s due = GivesStep result new due × OnOk result (Knows (carried above s) entries declared)
 
 -- the lines of the flat program of a text, and what was decided; or why there are none
 pub record AreLines (frames : List (List ℕ × Point)) (choices : Choices) (source text notes : List ℕ) : Type 0 where

@@ -77,3 +77,13 @@ naming_none = labelled (codes "F(A)") (codes "DATSET") ∷ labelled (codes "D(A)
 -- two touches in A and one in B; what is below the end counts no more
 abbrev pub two_frames : List Statement
 two_frames = recall_a ∷ a_touch ∷ bare (codes "ENDMES") [] ∷ a_touch ∷ make_b ∷ a_touch ∷ bare (codes "ENDFIL") [] ∷ a_touch ∷ recall_a ∷ []
+
+-- a variable that is declared, and assigned to
+abbrev pub declare_x : Statement
+declare_x = bare (codes "DECL") (codes "GLOBAL" ∷ codes "REAL" ∷ codes "X" ∷ [])
+
+abbrev pub assign : List ℕ → List ℕ → Statement
+assign name text = record { line = 1; label = Some name; word = codes "ASSIGN"; params = text ∷ [] }
+
+abbrev pub x_is_five : List Statement
+x_is_five = assign (codes "X") (codes "5") ∷ declare_x ∷ []

@@ -17,8 +17,9 @@ use Rattle.program_lowering.specs.Flats.{Flat, flat_line, note_line}
 use Rattle.program_lowering.specs.StoredFrames.{by_frame, frame_notes, if_stored, is_used}
 use Rattle.program_review.specs.Texts.{is_operator_text}
 use Rattle.program_lowering.specs.Inches.{all_stated}
+use Rattle.program_lowering.specs.Valued.{all_valued, valued_reading}
 use Rattle.program_lowering.specs.OperatorTexts.{flat_meant, up_to_refused}
-use Rattle.program_lowering.specs.Reasons.{reason_text}
+use Rattle.program_lowering.specs.Reasons.{detail, reason_text}
 use Rattle.program_lowering.specs.declared.words.Choices.{Choices}
 use Rattle.program_lowering.specs.declared.words.Reason.{Reason}
 use Rattle.program_lowering.specs.declared.words.Reason.TheVariants.{Manual}
@@ -56,9 +57,13 @@ kept choices statements = kept_below choices [] statements
 abbrev pub kept_reading : Choices → Reading → Reading
 kept_reading choices reading = up_to_refused reading.fault (all_stated [] (kept choices reading.statements))
 
--- what the text means without those that are left out, or its first refusal with its line
+-- the statements of a text with their values
+abbrev pub valued_statements : List ℕ → List Statement
+valued_statements text = all_valued [] (text_reading text).statements
+
+-- what the text means with its values and without those that are left out, or its first refusal with its line
 abbrev pub lowered_meaning : List (List ℕ × Point) → Choices → List ℕ → Result Meaning (Refusal × ℕ)
-lowered_meaning frames choices text = meaning_of frames (kept_reading choices (text_reading text)) (length (lines text))
+lowered_meaning frames choices text = meaning_of frames (kept_reading choices (valued_reading (text_reading text))) (length (lines text))
 
 -- a statement that closes the program
 abbrev pub is_closing : Result StatementMeaning Refusal → Bool
@@ -89,7 +94,7 @@ ended_lines written = flat_map ended written
 
 -- the flat program of a text, but for its head
 abbrev pub flat_program : Choices → List ℕ → List ℕ
-flat_program choices text = ended_lines (flat_lines (all_stated [] (kept choices (text_reading text).statements)))
+flat_program choices text = ended_lines (flat_lines (all_stated [] (kept choices (valued_statements text))))
 
 -- why nothing is written of a statement: it is left out, or commands nothing
 abbrev pub passed_over : Statement → Result StatementMeaning Refusal → Option Reason
@@ -102,7 +107,7 @@ note_start s = note_line s.line ++ s.word
 
 abbrev pub note_for : Statement → Option Reason → List ℕ
 note_for s None = []
-note_for s (Some reason) = note_start s ++ ended (codes " is left out: " ++ reason_text reason)
+note_for s (Some reason) = note_start s ++ ended (codes " is left out: " ++ (reason_text reason ++ detail reason s.params))
 
 abbrev pub note_at : Option Reason → Statement → Statement → List ℕ
 note_at (Some reason) s counted = note_for s (Some reason)
@@ -115,5 +120,5 @@ notes_from choices above (s ∷ statements) = note_at (left_out_at choices above
     ++ (if is_closing (saying (counted_at choices above s)) then [] else notes_from choices (s ∷ above) statements)
 
 abbrev pub notes_of : Choices → List ℕ → List ℕ
-notes_of choices text = notes_from choices [] (text_reading text).statements
-    ++ if_stored choices (frame_notes (all_stated [] (kept choices (text_reading text).statements)))
+notes_of choices text = notes_from choices [] (valued_statements text)
+    ++ if_stored choices (frame_notes (all_stated [] (kept choices (valued_statements text))))

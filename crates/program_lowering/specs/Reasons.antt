@@ -1,8 +1,8 @@
 -- The reasons as they are printed (this profile).
-use Rattle.std.specs.Prelude.{List, ℕ, codes}
+use Rattle.std.specs.Prelude.{List, [], ◌∷◌, ◌++◌, ℕ, codes}
 use Rattle.program_lowering.specs.declared.words.Reason.{Reason}
 use Rattle.program_lowering.specs.declared.words.Reason.TheVariants.{Printing, Naming, Evaluating, Motion, Clearing, Uncompensated}
-use Rattle.program_lowering.specs.declared.words.Reason.TheVariants.{Compensated, Manual, Passed, Stored}
+use Rattle.program_lowering.specs.declared.words.Reason.TheVariants.{Compensated, Manual, Passed, Stored, Declared, Assigned}
 
 abbrev pub reason_text : Reason → List ℕ
 reason_text Printing = codes "it says what is printed or shown, and where"
@@ -15,3 +15,14 @@ reason_text Compensated = codes "the machine corrects for temperature"
 reason_text Manual = codes "it is in a manual block; the operator would carry it out"
 reason_text Stored = codes "the frames are the setup's"
 reason_text Passed = codes "it commands nothing"
+reason_text Declared = codes "it declares variables"
+reason_text Assigned = codes "from here on "
+
+-- and what follows: the name of a variable with its value
+abbrev pub assigned_text : List (List ℕ) → List ℕ
+assigned_text (name ∷ (value ∷ [])) = name ++ (codes " is " ++ value)
+assigned_text _ = []
+
+abbrev pub detail : Reason → List (List ℕ) → List ℕ
+detail Assigned params = assigned_text params
+detail _ params = []

@@ -1,6 +1,6 @@
 -- The words that a flat program does not have, each with the reason for which it is left out (ISO 22093 has the words; the reasons are this
 -- profile's). All of them measure nothing, and but for clearing none moves the machine.
-use Rattle.std.specs.Prelude.{ℕ, Bool, true, false, not, ◌&&◌, List, [], ◌∷◌, ◌||◌, codes, Option, Some, None, if◌then◌else◌}
+use Rattle.std.specs.Prelude.{ℕ, Bool, true, false, not, ◌&&◌, List, [], ◌∷◌, ◌||◌, codes, is_none, Option, Some, None, if◌then◌else◌}
 use Rattle.std.specs.Str.{bytes_eq}
 use Rattle.dmis_text.specs.Statements.{has_open_text}
 use Rattle.dmis_text.specs.declared.elements.Statement.{Statement}
@@ -8,6 +8,7 @@ use Rattle.dmis_program.specs.Keywords.{keyword_of, is_among}
 use Rattle.dmis_program.specs.declared.keywords.Keyword.{Keyword}
 use Rattle.dmis_program.specs.declared.keywords.Keyword.TheVariants as word
 use Rattle.dmis_program.specs.Parameters.{begins}
+use Rattle.program_values.specs.LookBack.{is_declaration}
 use Rattle.program_lowering.specs.declared.words.Choices.{Choices}
 use Rattle.program_lowering.specs.declared.words.Reason.{Reason}
 use Rattle.program_lowering.specs.declared.words.Reason.TheVariants as reason
@@ -63,9 +64,22 @@ abbrev pub is_unknown : Keyword → Bool
 is_unknown word.Unknown = true
 is_unknown _ = false
 
+-- an `ASSIGN` that was carried out: the name and its value
+abbrev pub is_pair : List (List ℕ) → Bool
+is_pair (name ∷ (value ∷ [])) = true
+is_pair _ = false
+
+abbrev pub is_assigned : Statement → Bool
+is_assigned s = bytes_eq s.word (codes "ASSIGN") && (is_none s.label && is_pair s.params)
+
+-- likewise of a statement with its values
+abbrev pub reason_for : Choices → Statement → Option Reason
+reason_for choices s = if is_declaration s then Some reason.Declared else
+    if is_assigned s then Some reason.Assigned else reason_of choices s.word s.params
+
 -- why a statement is left out: its word is no flat program's, and its texts are closed
 abbrev pub left_out : Choices → Statement → Option Reason
-left_out choices s = if is_unknown (keyword_of s.word) && not (has_open_text s) then reason_of choices s.word s.params else None
+left_out choices s = if is_unknown (keyword_of s.word) && not (has_open_text s) then reason_for choices s else None
 
 -- the settings of motion and of probing that a flat program may have, and passes over
 abbrev pub passed_motion : List (List ℕ)

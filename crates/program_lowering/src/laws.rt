@@ -1,5 +1,5 @@
 // What follows from the definitions alone. Each function has laws for its contract and does nothing.
-ghost use Rattle.std.specs.Prelude.{◌≡◌, ◌<◌, ◌^◌, ◌++◌, ◌∷◌, ◌*◌, [], ℕ, ℤ, pos, neg_ℤ, int_lt, unsigned_abs, Bool, Err, List, length, map, codes, false, true, Some, None, Ok};
+ghost use Rattle.std.specs.Prelude.{◌≡◌, ◌<◌, ◌^◌, ◌++◌, ◌∷◌, ◌*◌, [], ℕ, ℤ, pos, neg_ℤ, int_lt, unsigned_abs, Bool, Err, List, length, map, codes, decimal, false, true, Some, None, Ok};
 ghost use Rattle.std.specs.List.{AllByRecursion};
 ghost use Rattle.std.specs.Option.{option_map};
 ghost use Rattle.dmis_program.specs.Keywords.{keyword_of};
@@ -17,14 +17,16 @@ ghost use Rattle.fixed_um.specs.Numerals.{IsRounded, signed};
 ghost use Rattle.fixed_um.specs.declared.lengths.Point.{Point};
 ghost use Rattle.program_review.specs.Texts.{is_operator_text};
 ghost use Rattle.program_lowering.specs.Acts.{acts_of};
-ghost use Rattle.program_lowering.specs.Examples.{all_choices, bare, first_by_hand, manual_front, measured, mode_man, mode_prog, plain_choices, start, to_operator, a_touch, make_a, make_a_on_7, make_b, recall_a, naming_a, naming_none, of_setup, saving, two_frames};
+ghost use Rattle.program_lowering.specs.Examples.{all_choices, assign, bare, declare_x, first_by_hand, manual_front, measured, mode_man, mode_prog, plain_choices, start, to_operator, a_touch, make_a, make_a_on_7, make_b, recall_a, naming_a, naming_none, of_setup, saving, two_frames, labelled, x_is_five};
 ghost use Rattle.program_lowering.specs.Flats.{flat, flat_text};
 ghost use Rattle.program_lowering.specs.Heads.{IsComment, Names, head_lines};
 ghost use Rattle.program_lowering.specs.Inches.{all_stated, in_inches, in_millimetres, inch_length, stated};
-ghost use Rattle.program_lowering.specs.Lowering.{counted_at, ended_lines, flat_program, kept, left_out_at, lowered_meaning, passed_over};
+ghost use Rattle.program_lowering.specs.Lowering.{counted_at, ended_lines, flat_program, kept, left_out_at, lowered_meaning, passed_over, valued_statements};
 ghost use Rattle.program_lowering.specs.Manual.{in_manual, is_skipped};
 ghost use Rattle.program_lowering.specs.OperatorTexts.{TextsFit, flat_meant, text_refusal};
 ghost use Rattle.program_lowering.specs.StoredFrames.{by_frame, frame_note, frame_notes, is_used, stored_frame};
+ghost use Rattle.program_lowering.specs.Reasons.{detail};
+ghost use Rattle.program_lowering.specs.Valued.{carried, held, new_params, valued};
 ghost use Rattle.program_lowering.specs.Words.{left_out};
 ghost use Rattle.program_lowering.specs.declared.words.Choices.{Choices};
 ghost use Rattle.fixed_um.specs.Numerals.{Reads};
@@ -45,7 +47,7 @@ pub fn texts_stay_in_their_places()
         (heads : List (List ℕ)) (m : Meaning) → length text < 2 ^ 64
         → AllByRecursion IsComment heads → lowered_meaning frames choices text ≡ Ok m
         → acts_of frames (text_reading (ended_lines heads ++ flat_program choices text)).statements
-        ≡ acts_of frames (all_stated [] (kept choices (text_reading text).statements)) }
+        ≡ acts_of frames (all_stated [] (kept choices (valued_statements text))) }
 {}
 
 /// An inch is exactly 25.4 millimetres: a length in inches, read to a millionth, is written as the whole micrometre nearest to it.
@@ -70,6 +72,35 @@ pub fn examples_of_units()
         ∷ (bare (codes "UNITS") (codes "INCH" ∷ []) ∷ [])) ≡ false }
     ensures polar { (stated true (bare (codes "GOTO") (codes "POL" ∷ (codes "1" ∷ [])))).params
         ≡ codes "POL" ∷ (codes "1" ∷ []) }
+{}
+
+/// Examples: expressions and names with values; what has none stays, or leaves its statement without parameters.
+#[tactic(auto, unfolding(program_values::specs::Values::value_within, program_values::specs::Values::numeral_value, program_values::specs::Parts::parts_of, program_values::specs::Numbers::reduced, program_values::specs::Numbers::gcd_within, program_values::specs::Numbers::multiplied, program_values::specs::Texts::expanded_within, dmis_program::specs::Keywords::keyword_of))]
+pub fn examples_of_values()
+    ensures moved { new_params x_is_five
+        (bare (codes "GOTO") (codes "X+10" ∷ (codes "1E1" ∷ (codes "Y" ∷ []))))
+        ≡ Some (Ok (decimal 15 ∷ (codes "1E1" ∷ (codes "Y" ∷ [])))) }
+    ensures undeclared { new_params [] (bare (codes "GOTO") (codes "1+1" ∷ [])) ≡ None }
+    ensures unknown { (valued x_is_five (bare (codes "SNSLCT") (codes "S(T@Y)" ∷ []))).params
+        ≡ [] }
+    ensures feature { new_params x_is_five (bare (codes "FEAT") (codes "X+1" ∷ [])) ≡ None }
+    ensures labelled { new_params x_is_five (labelled (codes "A") (codes "GOTO")) ≡ None }
+    ensures assigned { new_params (declare_x ∷ []) (assign (codes "X") (codes "2+3"))
+        ≡ Some (Ok (codes "X" ∷ (decimal 5 ∷ []))) }
+    ensures faulty { (valued x_is_five (assign (codes "Y") (codes "5"))).params ≡ [] }
+    ensures not_carried { carried x_is_five (assign (codes "Y") (codes "5")) ≡ x_is_five }
+    ensures carried { carried (declare_x ∷ []) (assign (codes "X") (codes "5")) ≡ x_is_five }
+    ensures unlabelled { (valued x_is_five
+        (bare (codes "ASSIGN") (codes "X" ∷ (codes "5" ∷ [])))).params ≡ [] }
+    ensures blank { held (codes "SNSLCT") (codes "S(A B)" ∷ []) ≡ [] }
+    ensures plain { held (codes "SNSLCT") (codes "S(A)" ∷ []) ≡ codes "S(A)" ∷ [] }
+    ensures declares { left_out plain_choices declare_x ≡ Some reason.Declared }
+    ensures texts { left_out plain_choices
+        (bare (codes "DECL") (codes "GLOBAL" ∷ (codes "CHAR" ∷ []))) ≡ None }
+    ensures assigns { left_out plain_choices (bare (codes "ASSIGN") (codes "X" ∷ (codes "5" ∷ [])))
+        ≡ Some reason.Assigned }
+    ensures refused { left_out plain_choices (bare (codes "ASSIGN") []) ≡ None }
+    ensures noted { detail reason.Assigned (codes "X" ∷ (codes "5" ∷ [])) ≡ codes "X is 5" }
 {}
 
 /// Where the operator would measure, no touch stays, if it is asked for; elsewhere a statement is left out for itself alone.

@@ -6,6 +6,7 @@
 //! - `inches`: what a statement says whose lengths are in inches
 //! - `manual`: what is left to the operator
 //! - `stored`: frames of the setup in place of alignments
+//! - `values`: statements with the values of variables
 //! - `heads`: the comments before a flat program
 //! - `above`: what the statements above leave for the one that is judged
 //! - `lowering`: `lower`, the flat program of a text, or its first refusal; `laws`: what follows from the definitions
@@ -24,6 +25,7 @@ mod lowering;
 mod manual;
 mod orders;
 mod stored;
+mod values;
 mod words;
 
 pub use heads::SourceNames;

@@ -32,7 +32,7 @@ fn is_inner(byte: u8) -> bool
 }
 
 /// Whether a parameter is read back as it is written.
-fn is_plain(param: &[u8]) -> bool
+pub(crate) fn is_plain(param: &[u8]) -> bool
     ensures { result ≡ spec.is_plain false param.now }
 {
     let mut inside = false;
@@ -82,7 +82,7 @@ fn are_plain(params: &[Text]) -> bool
 }
 
 /// Appends the comment that names a line of the source.
-fn push_comment(out: &mut Vec<u8>, line: u64) -> Result<(), AllocError>
+pub(crate) fn push_comment(out: &mut Vec<u8>, line: u64) -> Result<(), AllocError>
     ensures { OnOk result (out.new.items ≡ out.old.items ++ (codes " $$ line " ++ decimal line)) }
 {
     out.extend_from_slice(b" $$ line ")?;

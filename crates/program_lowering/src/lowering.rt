@@ -1,27 +1,30 @@
 // The flat program of a text.
 
-ghost use Rattle.std.specs.Prelude.{◌≡◌, ◌≤◌, ◌<◌, ◌++◌, ◌∷◌, [], codes, decimal, OnOk, IfOk, IfSome, IfNone, IfErr, Ok, None, Option, Some};
+ghost use Rattle.std.specs.Prelude.{◌≡◌, ◌≤◌, ◌<◌, ◌++◌, ◌∷◌, [], OnOk, IfOk, IfSome, IfNone, IfErr, List, Ok, None, Option, Some};
 ghost use Rattle.dmis_program.specs.Keywords.{keyword_of};
 ghost use Rattle.dmis_program.specs.Meaning.{closes, without_end};
 ghost use Rattle.dmis_program.specs.Outcomes.{fault_at, refused_at, text_refused, Gives};
 ghost use Rattle.dmis_text.specs.Reading.{IsDue};
 ghost use Rattle.dmis_text.specs.declared.reading.TextFault.{TextFault};
-ghost use Rattle.program_lowering.specs.Carried.{GivesLines, GivesStep, after_said, followed, left_out_after, noted, nothing_carried, step, frames_closed, judged_next};
+ghost use Rattle.dmis_text.specs.declared.elements.Statement.{Statement};
+ghost use Rattle.program_lowering.specs.Valued.{valued};
+ghost use Rattle.program_lowering.specs.Carried.{GivesLines, GivesStep, Knows, TakesValued, followed, left_out_after, nothing_carried, step, frames_closed, judged_next};
 ghost use Rattle.program_lowering.specs.Heads.{names_of};
 ghost use Rattle.program_lowering.specs.Lowered.{GivesLowered};
-ghost use Rattle.program_lowering.specs.Lowering.{lowered_meaning, flat_program, note_for, note_start, notes_of, passed_over};
+ghost use Rattle.program_lowering.specs.Lowering.{note_for, note_start, passed_over};
 ghost use Rattle.program_lowering.specs.StoredFrames.{by_frame, if_stored};
 ghost use Rattle.program_lowering.specs.Carried.{Carried};
 ghost use Rattle.tool_rack.specs.Setups.{has_name};
 
 use crate::above::Above;
-use crate::flats::{push_named, push_note_line};
+use crate::flats::push_note_line;
 use crate::heads::{SourceNames, with_head};
 use crate::inches::inches_after;
 use crate::lines::{push_line, text_refusal};
 use crate::manual::{is_skipped, manual_after};
 use crate::stored::{FrameNotes, FrameUses, stored_frame};
-use crate::words::{Choices, Reason, left_out, passed_reason, reason_text};
+use crate::values::{Values, read_back};
+use crate::words::{Choices, Reason, left_out, passed_reason, push_detail, reason_text};
 use dmis_program::{
     Frames, Keyword, ProgramFault, Refusal, StatementFault, StatementMeaning, keyword_of_word,
 };
@@ -84,7 +87,10 @@ fn push_note(
         return Ok(());
     };
     push_start(notes, statement)?;
-    push_named(notes, b" is left out: ", reason_text(reason))
+    notes.extend_from_slice(b" is left out: ")?;
+    notes.extend_from_slice(reason_text(reason))?;
+    push_detail(notes, reason, &statement.params)?;
+    Ok(notes.push(b'\n')?)
 }
 
 /// Why nothing is written of a statement with this keyword that says this.
@@ -289,6 +295,25 @@ impl Lowering {
     }
 }
 
+/// Takes the next statement of a text, with its values. True at the end of the program.
+fn take_valued(
+    lowering: &mut Lowering,
+    values: &mut Values,
+    choices: Choices,
+    frames: &Frames,
+    statement: &Statement,
+) -> Result<bool, StatementFault>
+    ensures { (above : List Statement) → Knows above values.old.variables values.old.declared
+        → TakesValued result lowering.new values.new.variables values.new.declared above
+        statement.now (step frames.now choices lowering.old (valued above statement.now)) }
+{
+    let Some(line) = values.take(lowering.alloc, statement)? else {
+        return lowering.take(choices, frames, statement);
+    };
+    let valued = read_back(lowering.alloc, statement.line, &line)?;
+    lowering.take(choices, frames, &valued)
+}
+
 /// The lines of the flat program of a text, up to its `ENDFIL`, with what was decided.
 fn lines_of(
     alloc: Global,
@@ -300,8 +325,9 @@ fn lines_of(
 {
     let mut statements = Statements::new(alloc, bytes);
     let mut lowering = Lowering::new(alloc);
+    let mut values = Values::new(alloc);
     while let Some(statement) = next_statement(&mut statements)? {
-        match lowering.take(choices, frames, &statement) {
+        match take_valued(&mut lowering, &mut values, choices, frames, &statement) {
             Ok(true) => return lowering.finish(choices),
             Ok(false) => statements.take_back(statement),
             Err(fault) => return Err(fault_at(fault, statement.line)),

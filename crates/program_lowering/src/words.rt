@@ -1,13 +1,15 @@
 // The words that a flat program does not have.
 
-ghost use Rattle.std.specs.Prelude.{◌≡◌};
+ghost use Rattle.std.specs.Prelude.{◌≡◌, ◌++◌, OnOk};
 ghost use Rattle.dmis_program.specs.Keywords.{is_among, keyword_of};
-ghost use Rattle.program_lowering.specs.Reasons.{reason_text};
-ghost use Rattle.program_lowering.specs.Words.{clearing, compensation, left_out, naming, passed_motion, passed_reason, printing, reason_of, is_of_setup, saves_frame};
+ghost use Rattle.program_lowering.specs.Reasons.{detail, reason_text};
+ghost use Rattle.program_lowering.specs.Words.{clearing, compensation, left_out, naming, is_assigned, passed_motion, passed_reason, printing, reason_for, reason_of, is_of_setup, saves_frame};
 
 use dmis_program::Keyword;
 use dmis_text::{Statement, Text};
 use program_review::{is_among, is_text};
+use program_values::is_declaration;
+use std::alloc::AllocError;
 
 /// What is left out besides what measures and moves nothing.
 #[derive(Clone, Copy, Debug)]
@@ -45,6 +47,10 @@ pub enum Reason {
     Stored,
     /// It commands nothing.
     Passed,
+    /// It declares variables.
+    Declared,
+    /// It assigns to a variable.
+    Assigned,
 }
 
 /// How results are printed, and where.
@@ -140,13 +146,40 @@ fn reason_of(choices: Choices, word: &[u8], params: &[Text]) -> Option<Reason>
     None
 }
 
+/// Whether a statement is an `ASSIGN` that was carried out.
+fn is_assigned(statement: &Statement) -> bool
+    ensures { result ≡ is_assigned statement.now }
+{
+    if !is_text(&statement.word, "ASSIGN") || statement.label.is_some() {
+        return false;
+    }
+    let params: &[Text] = &statement.params;
+    match params {
+        [_, _] => true,
+        _ => false,
+    }
+}
+
+/// Why a statement with its values may be left out, whose word no flat program has.
+fn reason_for(choices: Choices, statement: &Statement) -> Option<Reason>
+    ensures { result ≡ reason_for choices statement.now }
+{
+    if is_declaration(statement) {
+        return Some(Reason::Declared);
+    }
+    if is_assigned(statement) {
+        return Some(Reason::Assigned);
+    }
+    reason_of(choices, &statement.word, &statement.params)
+}
+
 /// Why a statement with this keyword is left out.
 pub(crate) fn left_out(choices: Choices, keyword: Keyword, statement: &Statement) -> Option<Reason>
     requires { keyword ≡ keyword_of statement.now.word }
     ensures { result ≡ left_out choices statement.now }
 {
     if keyword == Keyword::Unknown && !statement.is_open() {
-        return reason_of(choices, &statement.word, &statement.params);
+        return reason_for(choices, statement);
     }
     None
 }
@@ -184,5 +217,26 @@ pub(crate) fn reason_text(reason: Reason) -> &'static [u8]
         Reason::Manual => b"it is in a manual block; the operator would carry it out",
         Reason::Stored => b"the frames are the setup's",
         Reason::Passed => b"it commands nothing",
+        Reason::Declared => b"it declares variables",
+        Reason::Assigned => b"from here on ",
     }
+}
+
+/// Appends what follows a reason: of an `ASSIGN` the variable with its value.
+pub(crate) fn push_detail(
+    out: &mut Vec<u8>,
+    reason: Reason,
+    params: &[Text],
+) -> Result<(), AllocError>
+    ensures { OnOk result (out.new.items ≡ out.old.items ++ detail reason params.now) }
+{
+    let Reason::Assigned = reason else {
+        return Ok(());
+    };
+    let [name, value] = params else {
+        return Ok(());
+    };
+    out.extend_from_slice(name)?;
+    out.extend_from_slice(b" is ")?;
+    out.extend_from_slice(value)
 }

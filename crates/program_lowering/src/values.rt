@@ -1,0 +1,239 @@
+// Statements with the values of variables.
+
+ghost use Rattle.std.specs.Prelude.{◌≡◌, ◌++◌, ◌∷◌, [], ℕ, List, bytes_eq, codes, IfOk, IfErr, IfSome, false, is_none};
+ghost use Rattle.std.specs.List.{list_all};
+ghost use Rattle.std.specs.Option.{option_map};
+ghost use Rattle.dmis_text.specs.declared.elements.Statement.{Statement};
+ghost use Rattle.dmis_program.specs.Keywords.{is_among};
+ghost use Rattle.program_values.specs.LookBack.{fault_of, kind_said, value_said};
+ghost use Rattle.program_values.specs.Numbers.{numeral};
+ghost use Rattle.program_values.specs.Variables.{entry_value};
+ghost use Rattle.program_lowering.specs.Flats.{flat, flat_line};
+ghost use Rattle.program_lowering.specs.Lowering.{ended};
+ghost use Rattle.program_lowering.specs.OperatorTexts.{is_plain, marked};
+ghost use Rattle.program_lowering.specs.Carried as code;
+ghost use Rattle.program_lowering.specs.Valued as spec;
+
+use crate::lines::{is_plain, push_comment};
+use dmis_program::StatementFault;
+use dmis_text::{Statement, Statements, Text, TextFault};
+use program_review::{is_among, is_text};
+use program_values::{Number, ValueFault, Variables, computed, expanded, is_declaration};
+use std::alloc::{AllocError, Global};
+
+/// The most bytes of a statement with its values (this profile).
+const MOST_BYTES: usize = 4000;
+
+/// The variables as the statements above leave them.
+#[derive(Drop)]
+pub(crate) struct Values {
+    pub(crate) variables: Variables,
+    /// Whether one is declared.
+    pub(crate) declared: bool,
+}
+
+/// Whether a word commands a move, a touch or a selection.
+fn is_commanding(word: &[u8]) -> bool
+    ensures { result ≡ is_among word.now spec.commanding }
+{
+    is_among(word, &["GOTO", "PTMEAS", "MEAS", "SNSLCT", "RECALL"])
+}
+
+/// Appends a parameter with its values. Whether it is read back as it is written.
+fn push_param(out: &mut Vec<u8>, param: &[u8], variables: &Variables) -> Result<bool, ValueFault>
+    ensures { code.Pushes result out.new.items (code.pushed out.old.items
+        (spec.valued_param (entry_value variables.now) param.now)) }
+{
+    let mut text = Vec::new(*out.allocator());
+    expanded(&mut text, param, variables)?;
+    let text = computed(text, variables)?;
+    out.extend_from_slice(&text)?;
+    Ok(is_plain(&text))
+}
+
+/// Appends parameters with their values, each after its mark. Whether all are read back as they are written.
+fn push_params(
+    out: &mut Vec<u8>,
+    mark: u8,
+    params: &[Text],
+    variables: &Variables,
+) -> Result<bool, ValueFault>
+    ensures { code.Pushes result out.new.items (code.all_pushed out.old.items mark
+        (spec.valued_params (entry_value variables.now) params.now)) }
+{
+    let [first, rest @ ..] = params else {
+        return Ok(true);
+    };
+    out.extend_from_slice(&[mark])?;
+    let plain = push_param(out, first, variables)?;
+    match push_params(out, b',', rest, variables) {
+        Ok(others) => Ok(plain && others),
+        Err(fault) => Err(fault),
+    }
+}
+
+/// Appends the name of a variable and its value. Whether both are read back as they are written.
+fn push_pair(out: &mut Vec<u8>, name: &[u8], number: Number) -> Result<bool, AllocError>
+    ensures { IfOk result (λ plain. (out.new.items ≡ out.old.items
+        ++ marked 47 (name.now ∷ (numeral number ∷ [])))
+        × (plain ≡ list_all (is_plain false) (name.now ∷ (numeral number ∷ [])))) }
+{
+    let mut value = Vec::new(*out.allocator());
+    number.write(&mut value)?;
+    out.push(b'/')?;
+    out.extend_from_slice(name)?;
+    out.push(b',')?;
+    out.extend_from_slice(&value)?;
+    Ok(is_plain(name) && is_plain(&value))
+}
+
+/// The line of a word with these parameters, of which each is read back or not; without them if it is too long or they are not.
+fn line_of(alloc: Global, word: &[u8], text: Vec<u8>, plain: bool) -> Result<Vec<u8>, AllocError>
+    ensures { (params : List (List ℕ)) → text.items ≡ word.now ++ marked 47 params
+        → plain ≡ list_all (is_plain false) params → IfOk result (λ line. line.items
+        ≡ ended (flat_line (flat word.now (spec.held word.now params)) 1)) }
+{
+    let mut line = if plain && text.len() <= MOST_BYTES {
+        text
+    } else {
+        Vec::from_slice(alloc, word)?
+    };
+    push_comment(&mut line, 1)?;
+    line.push(b'\n')?;
+    Ok(line)
+}
+
+/// The line of a statement that has a fault, or of which no line holds the values.
+fn bare_line(alloc: Global, word: &[u8]) -> Result<Vec<u8>, AllocError>
+    ensures { IfOk result (λ line. line.items ≡ ended (flat_line (flat word.now []) 1)) }
+{
+    line_of(alloc, word, Vec::from_slice(alloc, word)?, true)
+}
+
+impl Values {
+    /// No variable is declared.
+    pub(crate) fn new(alloc: Global) -> Values
+        ensures { code.Knows [] result.variables result.declared }
+    {
+        Values {
+            variables: Variables::new(alloc),
+            declared: false,
+        }
+    }
+
+    /// Carries a statement out. False if a value has a fault.
+    fn carry_out(&mut self, statement: &Statement) -> Result<bool, AllocError>
+        ensures { (above : List Statement) → code.Knows above self.old.variables self.old.declared
+            → IfOk result (λ done. code.Knows (spec.carried above statement.now) self.new.variables
+            self.new.declared × (done ≡ is_none (fault_of (kind_said above) (value_said above)
+            statement.now))) }
+    {
+        match self.variables.carry_out(statement) {
+            Ok(()) => {
+                self.declared |= is_declaration(statement);
+                Ok(true)
+            }
+            Err(ValueFault::Memory) => Err(AllocError),
+            Err(_) => Ok(false),
+        }
+    }
+
+    /// The line of a statement with its values, by the variables as they are.
+    fn valued_line(&self, alloc: Global, statement: &Statement) -> Result<Vec<u8>, AllocError>
+        ensures { IfOk result (λ line. line.items ≡ code.line_with statement.now.word
+            (spec.valued_params (entry_value self.now.variables) statement.now.params)) }
+    {
+        let mut text = Vec::from_slice(alloc, &statement.word)?;
+        match push_params(&mut text, b'/', &statement.params, &self.variables) {
+            Ok(plain) => line_of(alloc, &statement.word, text, plain),
+            Err(ValueFault::Memory) => Err(AllocError),
+            Err(_) => bare_line(alloc, &statement.word),
+        }
+    }
+
+    /// The line of an `ASSIGN`, by the variables after it.
+    fn assigned_line(
+        &self,
+        alloc: Global,
+        statement: &Statement,
+        done: bool,
+    ) -> Result<Vec<u8>, AllocError>
+        ensures { IfOk result (λ line. line.items ≡ code.line_with statement.now.word
+            (code.pair_of done (entry_value self.now.variables) statement.now.label)) }
+    {
+        if done
+            && let Some(name) = &statement.label
+            && let Ok(number) = self.variables.value(name)
+        {
+            let mut text = Vec::from_slice(alloc, &statement.word)?;
+            let plain = push_pair(&mut text, name, number)?;
+            return line_of(alloc, &statement.word, text, plain);
+        }
+        bare_line(alloc, &statement.word)
+    }
+
+    /// The line of a statement that is no `ASSIGN`, if it has values.
+    fn other_line(
+        &self,
+        alloc: Global,
+        statement: &Statement,
+    ) -> Result<Option<Vec<u8>>, AllocError>
+        ensures read { IfOk result (λ line. IfSome line (λ l. (s : Statement)
+            × code.IsRead l.items s)) }
+        ensures valued { (above : List Statement)
+            → bytes_eq statement.now.word (codes "ASSIGN") ≡ false
+            → code.Knows above self.now.variables self.now.declared → IfOk result (λ line.
+            code.GivesLine (option_map (λ l. l.items) line) statement.now
+            (spec.valued above statement.now)) }
+    {
+        if !self.declared {
+            return Ok(None);
+        }
+        if statement.label.is_some() || !is_commanding(&statement.word) {
+            return Ok(None);
+        }
+        Ok(Some(self.valued_line(alloc, statement)?))
+    }
+
+    /// Carries a statement out. The line from which it is read with its values, if it has any.
+    pub(crate) fn take(
+        &mut self,
+        alloc: Global,
+        statement: &Statement,
+    ) -> Result<Option<Vec<u8>>, AllocError>
+        ensures read { IfOk result (λ line. IfSome line (λ l. (s : Statement)
+            × code.IsRead l.items s)) }
+        ensures valued { (above : List Statement)
+            → code.Knows above self.old.variables self.old.declared
+            → IfOk result (λ line. code.Knows (spec.carried above statement.now)
+            self.new.variables self.new.declared × code.GivesLine
+            (option_map (λ l. l.items) line) statement.now (spec.valued above statement.now)) }
+    {
+        if is_text(&statement.word, "ASSIGN") {
+            let done = self.carry_out(statement)?;
+            return Ok(Some(self.assigned_line(alloc, statement, done)?));
+        }
+        let line = self.other_line(alloc, statement)?;
+        self.carry_out(statement)?;
+        Ok(line)
+    }
+}
+
+/// The statement that a line gives, as if it were on another line of a text.
+pub(crate) fn read_back<'a>(
+    alloc: Global,
+    line: u64,
+    text: &'a [u8],
+) -> Result<Statement<'a>, StatementFault>
+    requires { (s : Statement) × code.IsRead text.now s }
+    ensures read { (s : Statement) → code.IsRead text.now s
+        → IfOk result (λ given. given ≡ record s { line = line }) }
+    ensures memory { IfErr result (λ fault. fault ≡ StatementFault.Memory) }
+{
+    let mut statements = Statements::new(alloc, text);
+    match statements.next() {
+        Ok(Some(statement)) => Ok(Statement { line, ..statement }),
+        Err(TextFault::Memory) => Err(StatementFault::Memory),
+        Ok(None) | Err(TextFault::LineTooLong(_) | TextFault::BadByte(_)) => unreachable!(),
+    }
+}
