@@ -18,8 +18,9 @@ use dme_orders::{
     check_under_setup, review_program, simulate,
 };
 use dme_words::{Audit, Check, Lower, Order, RecordAudit, Review, Simulation, read_words};
+use dmis_program::ProgramFault;
 use order_parts::{FilesFault, status};
-use program_lowering::{Choices, SourceNames, lower_program};
+use program_lowering::{Choices, SourceNames, lower_program, value_cause};
 use program_review::{FindingForm, FindingStyle};
 use refusal_guide::{InputFile, InputFiles};
 use std::alloc::{AllocError, Global};
@@ -113,6 +114,20 @@ fn review(rt: HostRuntime, order: Review) -> Result<u8, AllocError> {
     }
 }
 
+/// Why the values of the statement that is refused have a fault; nothing if they have none.
+fn value_note(
+    alloc: Global,
+    fault: &FilesFault,
+    files: &InputFiles,
+) -> Result<Vec<u8>, AllocError> {
+    match fault {
+        FilesFault::Program(ProgramFault::Refused(_, line)) if !files.is_short() => {
+            value_cause(alloc, files.program.text.as_slice(), *line)
+        }
+        _ => Ok(Vec::new(alloc)),
+    }
+}
+
 /// The order `lower`: its exit status. Standard error shows what was decided.
 #[inline(never)]
 fn lower(rt: HostRuntime, order: Lower) -> Result<u8, AllocError> {
@@ -127,7 +142,7 @@ fn lower(rt: HostRuntime, order: Lower) -> Result<u8, AllocError> {
         program: name.as_str(),
         setup: setup_name.as_deref().unwrap_or(""),
     };
-    let mut sources = Sources::new(rt, order.explain);
+    let mut sources = Sources::new(rt, true);
     let mut setup = sources.maybe(order.setup);
     let mut program = sources.file(order.program);
     let mut sink = Writing::new(io::writer(&rt));
@@ -139,7 +154,14 @@ fn lower(rt: HostRuntime, order: Lower) -> Result<u8, AllocError> {
             let _ = rt.stderr().write_all(flat.notes.as_slice());
             Ok(0)
         }
-        Err(fault) => Ok(refused(rt, fault, files, order.explain)),
+        Err(fault) => {
+            let note = value_note(alloc, &fault, &files);
+            let status = refused(rt, fault, files, order.explain);
+            if let Ok(note) = note {
+                let _ = rt.stderr().write_all(note.as_slice());
+            }
+            Ok(status)
+        }
     }
 }
 

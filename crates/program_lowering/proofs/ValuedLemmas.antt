@@ -14,6 +14,7 @@ use Rattle.program_values.specs.Variables.{Entry, entry_value}
 use Rattle.program_values.specs.declared.faults.ValueFault.{ValueFault}
 use Rattle.program_values.specs.declared.faults.ValueFault.TheVariants as value
 use Rattle.program_lowering.specs.Carried.{GivesLine, IsRead, Knows, all_pushed, line_with, pair_of, pushed}
+use Rattle.program_lowering.specs.Causes.{made_fault}
 use Rattle.program_lowering.specs.Lowering.{ended}
 use Rattle.program_lowering.specs.Valued.{assigned_params, carried, commanding, has_variables, held, held_or_none, new_params, valued, valued_param, valued_params, with_params}
 use Rattle.program_lowering.proofs.LineLemmas.{IsHeld, flat_is_line, flat_statement}
@@ -256,3 +257,19 @@ read_again v n e = ap (λ (k : ℕ). record v { line = k }) (sym e)
 pub on_ok : {A E X : Type 0} (r : Result A E) → X → OnOk r X
 on_ok (Ok a) x = x
 on_ok (Err e) x = tt
+
+-- ---- the fault of an `ASSIGN`
+
+assigns_by : (above : List Statement) (s : Statement) (label : Option (List ℕ)) (fault : ValueFault) → s.label ≡ label → is_none label ≡ false
+    → bytes_eq s.word (codes "ASSIGN") ≡ true → fault_of (kind_said above) (value_said above) s ≡ Some fault
+    → Some fault ≡ made_fault (Some (assigned_params above s label))
+assigns_by above s None fault l some is f = absurd cc
+assigns_by above s (Some name) fault l some is f =
+    let aim : target s ≡ Some name = rw is l in
+    let g : fault_in (new_value (kind_said above) (value_said above) s name) ≡ Some fault = rw aim at f in
+    rw (aim, same_bytes name, faulty (new_value (kind_said above) (value_said above) s name) fault g) refl
+
+pub assigns_fault : (above : List Statement) (s : Statement) (fault : ValueFault) → is_none s.label ≡ false
+    → bytes_eq s.word (codes "ASSIGN") ≡ true → fault_of (kind_said above) (value_said above) s ≡ Some fault
+    → Some fault ≡ made_fault (Some (assigned_params above s s.label))
+assigns_fault above s fault some is f = assigns_by above s s.label fault refl some is f

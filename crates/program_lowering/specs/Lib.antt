@@ -8,6 +8,7 @@ pub mod Inches
 pub mod Valued
 pub mod Acts
 pub mod Lowering
+pub mod Causes
 pub mod Heads
 pub mod Lowered
 pub mod Orders

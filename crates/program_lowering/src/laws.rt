@@ -18,7 +18,9 @@ ghost use Rattle.fixed_um.specs.declared.lengths.Point.{Point};
 ghost use Rattle.program_review.specs.Texts.{is_operator_text};
 ghost use Rattle.program_lowering.specs.Acts.{acts_of};
 ghost use Rattle.program_lowering.specs.Examples.{all_choices, assign, bare, declare_x, first_by_hand, manual_front, measured, mode_man, mode_prog, plain_choices, start, to_operator, a_touch, make_a, make_a_on_7, make_b, recall_a, naming_a, naming_none, of_setup, saving, two_frames, labelled, x_is_five};
+ghost use Rattle.program_lowering.specs.Causes.{fault_on};
 ghost use Rattle.program_lowering.specs.Flats.{flat, flat_text};
+ghost use Rattle.program_values.specs.declared.faults.ValueFault.TheVariants.{NotAssigned, UnknownName};
 ghost use Rattle.program_lowering.specs.Heads.{IsComment, Names, head_lines};
 ghost use Rattle.program_lowering.specs.Inches.{all_stated, in_inches, in_millimetres, inch_length, stated};
 ghost use Rattle.program_lowering.specs.Lowering.{counted_at, ended_lines, flat_program, kept, left_out_at, lowered_meaning, passed_over, valued_statements};
@@ -101,6 +103,19 @@ pub fn examples_of_values()
         ≡ Some reason.Assigned }
     ensures refused { left_out plain_choices (bare (codes "ASSIGN") []) ≡ None }
     ensures noted { detail reason.Assigned (codes "X" ∷ (codes "5" ∷ [])) ≡ codes "X is 5" }
+{}
+
+/// Examples: the fault of the values on a line, by what was carried out above it.
+#[tactic(auto, unfolding(program_values::specs::Values::value_within, program_values::specs::Values::numeral_value, program_values::specs::Parts::parts_of, program_values::specs::Numbers::reduced, program_values::specs::Numbers::gcd_within, program_values::specs::Texts::expanded_within))]
+pub fn examples_of_causes()
+    ensures assigned { fault_on 7 [] (declare_x ∷ (record (assign (codes "X") (codes "X"))
+        { line = 7 } ∷ [])) ≡ Some NotAssigned }
+    ensures named { fault_on 7 [] (declare_x ∷ (record (bare (codes "SNSLCT") (codes "S(T@Y)" ∷ []))
+        { line = 7 } ∷ [])) ≡ Some UnknownName }
+    ensures carried { fault_on 7 [] (declare_x ∷ (assign (codes "X") (codes "5")
+        ∷ (record (assign (codes "X") (codes "X+1")) { line = 7 } ∷ []))) ≡ None }
+    ensures another { fault_on 8 [] (declare_x ∷ (record (assign (codes "X") (codes "X"))
+        { line = 7 } ∷ [])) ≡ None }
 {}
 
 /// Where the operator would measure, no touch stays, if it is asked for; elsewhere a statement is left out for itself alone.

@@ -7,6 +7,7 @@
 //! - `manual`: what is left to the operator
 //! - `stored`: frames of the setup in place of alignments
 //! - `values`: statements with the values of variables
+//! - `causes`: `value_cause`, why the values of a statement have a fault
 //! - `heads`: the comments before a flat program
 //! - `above`: what the statements above leave for the one that is judged
 //! - `lowering`: `lower`, the flat program of a text, or its first refusal; `laws`: what follows from the definitions
@@ -16,6 +17,7 @@
 #![tactic(auto)]
 
 mod above;
+mod causes;
 mod flats;
 mod heads;
 mod inches;
@@ -28,6 +30,7 @@ mod stored;
 mod values;
 mod words;
 
+pub use causes::value_cause;
 pub use heads::SourceNames;
 pub use lowering::{Lowered, lower};
 pub use orders::lower_program;

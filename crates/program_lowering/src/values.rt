@@ -1,6 +1,6 @@
 // Statements with the values of variables.
 
-ghost use Rattle.std.specs.Prelude.{◌≡◌, ◌++◌, ◌∷◌, [], ℕ, List, bytes_eq, codes, IfOk, IfErr, IfSome, false, is_none};
+ghost use Rattle.std.specs.Prelude.{◌≡◌, ◌++◌, ◌∷◌, [], ℕ, List, bytes_eq, codes, IfOk, IfErr, IfSome, Some, false, is_none, true};
 ghost use Rattle.std.specs.List.{list_all};
 ghost use Rattle.std.specs.Option.{option_map};
 ghost use Rattle.dmis_text.specs.declared.elements.Statement.{Statement};
@@ -12,6 +12,7 @@ ghost use Rattle.program_lowering.specs.Flats.{flat, flat_line};
 ghost use Rattle.program_lowering.specs.Lowering.{ended};
 ghost use Rattle.program_lowering.specs.OperatorTexts.{is_plain, marked};
 ghost use Rattle.program_lowering.specs.Carried as code;
+ghost use Rattle.program_lowering.specs.Causes.{made_fault};
 ghost use Rattle.program_lowering.specs.Valued as spec;
 
 use crate::lines::{is_plain, push_comment};
@@ -122,7 +123,7 @@ impl Values {
     }
 
     /// Carries a statement out. False if a value has a fault.
-    fn carry_out(&mut self, statement: &Statement) -> Result<bool, AllocError>
+    pub(crate) fn carry_out(&mut self, statement: &Statement) -> Result<bool, AllocError>
         ensures { (above : List Statement) → code.Knows above self.old.variables self.old.declared
             → IfOk result (λ done. code.Knows (spec.carried above statement.now) self.new.variables
             self.new.declared × (done ≡ is_none (fault_of (kind_said above) (value_said above)
@@ -216,6 +217,52 @@ impl Values {
         let line = self.other_line(alloc, statement)?;
         self.carry_out(statement)?;
         Ok(line)
+    }
+
+    /// The fault of an `ASSIGN` that follows those that were carried out; without one it is carried out.
+    fn assigned_fault(&mut self, statement: &Statement) -> Result<Option<ValueFault>, AllocError>
+        ensures { (above : List Statement) → bytes_eq statement.now.word (codes "ASSIGN") ≡ true
+            → code.Knows above self.old.variables self.old.declared → IfOk result (λ fault. fault
+            ≡ made_fault (Some (spec.assigned_params above statement.now statement.now.label))) }
+    {
+        if statement.label.is_none() {
+            return Ok(Some(ValueFault::UnknownName));
+        }
+        match self.variables.carry_out(statement) {
+            Ok(()) => Ok(None),
+            Err(ValueFault::Memory) => Err(AllocError),
+            Err(fault) => Ok(Some(fault)),
+        }
+    }
+
+    /// The fault of the values of a statement that follows those that were carried out.
+    pub(crate) fn fault_of(
+        &mut self,
+        alloc: Global,
+        statement: &Statement,
+    ) -> Result<Option<ValueFault>, AllocError>
+        ensures { (above : List Statement) → code.Knows above self.old.variables self.old.declared
+            → IfOk result (λ fault. fault ≡ made_fault (spec.new_params above statement.now)) }
+    {
+        if is_text(&statement.word, "ASSIGN") {
+            return self.assigned_fault(statement);
+        }
+        if !self.declared {
+            return Ok(None);
+        }
+        if statement.label.is_some() || !is_commanding(&statement.word) {
+            return Ok(None);
+        }
+        match push_params(
+            &mut Vec::new(alloc),
+            b'/',
+            &statement.params,
+            &self.variables,
+        ) {
+            Ok(_) => Ok(None),
+            Err(ValueFault::Memory) => Err(AllocError),
+            Err(fault) => Ok(Some(fault)),
+        }
     }
 }
 
