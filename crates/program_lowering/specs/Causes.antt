@@ -5,7 +5,7 @@ use Rattle.program_values.specs.declared.faults.ValueFault.{ValueFault}
 use Rattle.program_values.specs.declared.faults.ValueFault.TheVariants.{NotExpression, UnknownName, NotAssigned, UnknownFunction, DivisionByZero}
 use Rattle.program_values.specs.declared.faults.ValueFault.TheVariants.{BadExponent, PastBound, TooDeep, NotWhole, Memory}
 use Rattle.program_lowering.specs.Flats.{note_line}
-use Rattle.program_lowering.specs.Valued.{carried, new_params}
+use Rattle.program_lowering.specs.Valued.{carried, has_variables, new_params}
 
 -- the fault of new parameters
 abbrev pub made_fault : Option (Result (List (List ℕ)) ValueFault) → Option ValueFault
@@ -13,10 +13,14 @@ made_fault None = None
 made_fault (Some (Ok params)) = None
 made_fault (Some (Err fault)) = Some fault
 
+-- that of a statement where a variable is declared
+abbrev pub value_fault : List Statement → Statement → Option ValueFault
+value_fault above s = if has_variables above then made_fault (new_params above s) else None
+
 -- that of the first statement that begins on a line, by those that were carried out above
 abbrev pub fault_on : ℕ → List Statement → List Statement → Option ValueFault
 fault_on line above [] = None
-fault_on line above (s ∷ statements) = if s.line == line then made_fault (new_params above s) else fault_on line (carried above s) statements
+fault_on line above (s ∷ statements) = if s.line == line then value_fault above s else fault_on line (carried above s) statements
 
 abbrev pub cause_text : ValueFault → List ℕ
 cause_text NotExpression = codes "it is not an expression"

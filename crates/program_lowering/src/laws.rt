@@ -114,6 +114,8 @@ pub fn examples_of_causes()
         { line = 7 } ∷ [])) ≡ Some UnknownName }
     ensures carried { fault_on 7 [] (declare_x ∷ (assign (codes "X") (codes "5")
         ∷ (record (assign (codes "X") (codes "X+1")) { line = 7 } ∷ []))) ≡ None }
+    ensures undeclared { fault_on 7 [] (record (assign (codes "X") (codes "X")) { line = 7 } ∷ [])
+        ≡ None }
     ensures another { fault_on 8 [] (declare_x ∷ (record (assign (codes "X") (codes "X"))
         { line = 7 } ∷ [])) ≡ None }
 {}

@@ -12,7 +12,7 @@ ghost use Rattle.program_lowering.specs.Flats.{flat, flat_line};
 ghost use Rattle.program_lowering.specs.Lowering.{ended};
 ghost use Rattle.program_lowering.specs.OperatorTexts.{is_plain, marked};
 ghost use Rattle.program_lowering.specs.Carried as code;
-ghost use Rattle.program_lowering.specs.Causes.{made_fault};
+ghost use Rattle.program_lowering.specs.Causes.{made_fault, value_fault};
 ghost use Rattle.program_lowering.specs.Valued as spec;
 
 use crate::lines::{is_plain, push_comment};
@@ -235,20 +235,20 @@ impl Values {
         }
     }
 
-    /// The fault of the values of a statement that follows those that were carried out.
+    /// The fault of the values of a statement that follows those that were carried out, where a variable is declared.
     pub(crate) fn fault_of(
         &mut self,
         alloc: Global,
         statement: &Statement,
     ) -> Result<Option<ValueFault>, AllocError>
         ensures { (above : List Statement) → code.Knows above self.old.variables self.old.declared
-            → IfOk result (λ fault. fault ≡ made_fault (spec.new_params above statement.now)) }
+            → IfOk result (λ fault. fault ≡ value_fault above statement.now) }
     {
-        if is_text(&statement.word, "ASSIGN") {
-            return self.assigned_fault(statement);
-        }
         if !self.declared {
             return Ok(None);
+        }
+        if is_text(&statement.word, "ASSIGN") {
+            return self.assigned_fault(statement);
         }
         if statement.label.is_some() || !is_commanding(&statement.word) {
             return Ok(None);
