@@ -1,0 +1,4 @@
+pub mod Entries
+pub mod Machines
+pub mod Words
+pub mod Messages
