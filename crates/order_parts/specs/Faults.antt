@@ -23,6 +23,7 @@ status_of (fault.Features cause) = 1
 status_of (fault.Contacts cause) = 1
 status_of (fault.Record cause) = 1
 status_of (fault.Limits cause) = 1
+status_of (fault.Machine cause) = 1
 status_of (fault.OtherProgram label) = 1
 status_of (fault.CannotRead file) = 1
 status_of fault.CannotWriteOutput = 1

@@ -8,6 +8,7 @@ use deviations::{LimitsFault, RowsFault};
 use dmis_program::ProgramFault;
 use fixed_um::Name;
 use link_world::ScheduleFault;
+use machine_file::MachineFault;
 use record_text::RecordFault;
 use std::alloc::{AllocError, AllocFailed};
 use thiserror::Error;
@@ -28,6 +29,8 @@ pub enum Role {
     Record,
     /// The limits of a part.
     Limits,
+    /// A machine's file.
+    Machine,
     /// The DMIS program.
     Program,
 }
@@ -47,6 +50,8 @@ pub enum FilesFault {
     Record(RecordFault),
     /// The limits are refused; never because memory ran out.
     Limits(LimitsFault),
+    /// The machine's file is refused; never because memory ran out.
+    Machine(MachineFault),
     /// The program is refused, under the setup's frames; never because memory ran out.
     Program(ProgramFault),
     /// A source has failed, or a million pulls have not come to the end of its text.
@@ -110,6 +115,9 @@ pub enum OrderFault {
     /// Limits that are refused; never because memory ran out.
     #[error("dme: {0} in limits\n")]
     Limits(LimitsFault),
+    /// A machine's file that is refused; never because memory ran out.
+    #[error("dme: {0} in machine\n")]
+    Machine(MachineFault),
     /// A record that is not of the program: this feature differs.
     #[error("dme: J3 OtherProgram (feature {0}) in record\n")]
     OtherProgram(Name),
@@ -164,7 +172,7 @@ impl OrderFault {
             OrderFault::Program(_) | OrderFault::Setup(_) | OrderFault::Schedule(_) => 1,
             OrderFault::Features(_) | OrderFault::Contacts(_) => 1,
             OrderFault::Record(_) | OrderFault::OtherProgram(_) => 1,
-            OrderFault::Limits(_) => 1,
+            OrderFault::Limits(_) | OrderFault::Machine(_) => 1,
             OrderFault::CannotRead(_)
             | OrderFault::CannotWriteOutput
             | OrderFault::CannotWrite(_) => 1,

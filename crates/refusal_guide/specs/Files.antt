@@ -4,6 +4,7 @@ use Rattle.tool_rack.specs.declared.faults.SetupFault.TheVariants as setup
 use Rattle.dmis_program.specs.declared.faults.ProgramFault.TheVariants as program
 use Rattle.link_world.specs.declared.texts.schedule_faults.ScheduleFault.TheVariants as schedule
 use Rattle.deviations.specs.declared.limit_faults.LimitsFault.TheVariants as limits
+use Rattle.machine_file.specs.declared.faults.MachineFault.TheVariants as machine
 use Rattle.record_text.specs.declared.faults.RecordFault.TheVariants as recorded
 use Rattle.order_parts.specs.declared.faults.FilesFault.{FilesFault}
 use Rattle.order_parts.specs.declared.faults.FilesFault.TheVariants as files
@@ -29,12 +30,13 @@ file_in files role.Features = files.features
 file_in files role.Contacts = files.contacts
 file_in files role.Record = files.record
 file_in files role.Limits = files.limits
+file_in files role.Machine = files.machine
 file_in files role.Program = files.program
 
 -- there was no memory to keep the whole text of one of them
 abbrev pub is_short : InputFiles → Bool
 is_short files = files.setup.is_short || (files.schedule.is_short || (files.features.is_short || (files.contacts.is_short
-    || (files.record.is_short || (files.limits.is_short || files.program.is_short)))))
+    || (files.record.is_short || (files.limits.is_short || (files.machine.is_short || files.program.is_short))))))
 
 -- a file without a name, of which nothing was read
 pub record IsUnnamed (file : InputFile) : Type 0 where
@@ -49,6 +51,7 @@ pub record AreUnnamed (files : InputFiles) : Type 0 where
   pub contacts : IsUnnamed files.contacts
   pub recorded : IsUnnamed files.record
   pub limits : IsUnnamed files.limits
+  pub machine : IsUnnamed files.machine
   pub program : IsUnnamed files.program
 
 -- what is shown for the fault of an order, by its files: the refusal, or the name of the file
@@ -65,6 +68,8 @@ IsFaultShown (files.Record recorded.Memory) file shown = shown ≡ fault.Memory
 IsFaultShown (files.Record cause) file shown = shown ≡ fault.Record cause
 IsFaultShown (files.Limits limits.Memory) file shown = shown ≡ fault.Memory
 IsFaultShown (files.Limits cause) file shown = shown ≡ fault.Limits cause
+IsFaultShown (files.Machine machine.Memory) file shown = shown ≡ fault.Memory
+IsFaultShown (files.Machine cause) file shown = shown ≡ fault.Machine cause
 IsFaultShown (files.OtherProgram label) file shown = shown ≡ fault.OtherProgram label
 IsFaultShown (files.Program program.Memory) file shown = shown ≡ fault.Memory
 IsFaultShown (files.Program cause) file shown = shown ≡ fault.Program cause
@@ -81,6 +86,7 @@ refused_file (files.Features cause) = role.Features
 refused_file (files.Contacts cause) = role.Contacts
 refused_file (files.Record cause) = role.Record
 refused_file (files.Limits cause) = role.Limits
+refused_file (files.Machine cause) = role.Machine
 refused_file _ = role.Program
 
 -- where the file of a fault is refused, by the order's files; nothing if no file is refused at a line

@@ -6,12 +6,13 @@ use Rattle.link_world.specs.declared.texts.schedule_faults.ScheduleFault.TheVari
 use Rattle.contact_ledger.specs.declared.faults.TextFault.TheVariants as text
 use Rattle.record_text.specs.declared.faults.RecordFault.TheVariants as recorded
 use Rattle.deviations.specs.declared.limit_faults.LimitsFault.TheVariants as limits
+use Rattle.machine_file.specs.declared.faults.MachineFault.TheVariants as machine
 use Rattle.refusal_guide.specs.Lines.{line_of, shown_from}
 use Rattle.refusal_guide.specs.Windows.{shown_start}
 use Rattle.refusal_guide.specs.Words.{Caused}
 use Rattle.refusal_guide.specs.Reasons.{spot_of, IsProgramReason}
 use Rattle.order_parts.specs.declared.faults.FilesFault.{FilesFault}
-use Rattle.order_parts.specs.declared.faults.FilesFault.TheVariants.{Program, Setup, Schedule, Features, Contacts, Record, Limits, Unread, OtherProgram, NotOurs, Write, Memory}
+use Rattle.order_parts.specs.declared.faults.FilesFault.TheVariants.{Program, Setup, Schedule, Features, Contacts, Record, Limits, Machine, Unread, OtherProgram, NotOurs, Write, Memory}
 
 -- the number of the line that is refused; none if no file is refused at a line
 abbrev pub number_of : FilesFault → Option ℕ
@@ -33,6 +34,9 @@ number_of (Limits (limits.NotLimit line)) = Some line
 number_of (Limits (limits.Twice line)) = Some line
 number_of (Limits (limits.EmptyRange line)) = Some line
 number_of (Limits limits.Memory) = None
+number_of (Machine (machine.BadLine line)) = Some line
+number_of (Machine (machine.Twice line)) = Some line
+number_of (Machine machine.Memory) = None
 number_of (Unread role) = None
 number_of (OtherProgram label) = None
 number_of NotOurs = None

@@ -8,6 +8,7 @@ use contact_ledger::TextFault;
 use deviations::LimitsFault;
 use dmis_program::ProgramFault;
 use link_world::ScheduleFault;
+use machine_file::MachineFault;
 use order_parts::{FilesFault, OrderFault, Role};
 use record_text::RecordFault;
 use std::alloc::{AllocError, Global};
@@ -43,6 +44,7 @@ pub struct InputFiles {
     pub contacts: InputFile,
     pub record: InputFile,
     pub limits: InputFile,
+    pub machine: InputFile,
     pub program: InputFile,
 }
 
@@ -58,6 +60,7 @@ impl InputFiles {
             contacts: InputFile::unnamed(alloc),
             record: InputFile::unnamed(alloc),
             limits: InputFile::unnamed(alloc),
+            machine: InputFile::unnamed(alloc),
             program: InputFile::unnamed(alloc),
         }
     }
@@ -72,6 +75,7 @@ impl InputFiles {
             || self.contacts.is_short
             || self.record.is_short
             || self.limits.is_short
+            || self.machine.is_short
             || self.program.is_short
     }
 
@@ -85,6 +89,7 @@ impl InputFiles {
             Role::Contacts => self.contacts,
             Role::Record => self.record,
             Role::Limits => self.limits,
+            Role::Machine => self.machine,
             Role::Program => self.program,
         }
     }
@@ -106,6 +111,7 @@ pub fn place_of(
         FilesFault::Contacts(_) => &files.contacts,
         FilesFault::Record(_) => &files.record,
         FilesFault::Limits(_) => &files.limits,
+        FilesFault::Machine(_) => &files.machine,
         _ => &files.program,
     };
     let mut out = Vec::new(alloc);
@@ -124,6 +130,7 @@ pub fn shown_fault(fault: FilesFault, files: InputFiles) -> OrderFault
         | FilesFault::Contacts(TextFault::Memory)
         | FilesFault::Record(RecordFault::Memory)
         | FilesFault::Limits(LimitsFault::Memory)
+        | FilesFault::Machine(MachineFault::Memory)
         | FilesFault::Program(ProgramFault::Memory)
         | FilesFault::Memory => OrderFault::Memory,
         FilesFault::Setup(cause) => OrderFault::Setup(cause),
@@ -132,6 +139,7 @@ pub fn shown_fault(fault: FilesFault, files: InputFiles) -> OrderFault
         FilesFault::Contacts(cause) => OrderFault::Contacts(cause),
         FilesFault::Record(cause) => OrderFault::Record(cause),
         FilesFault::Limits(cause) => OrderFault::Limits(cause),
+        FilesFault::Machine(cause) => OrderFault::Machine(cause),
         FilesFault::OtherProgram(label) => OrderFault::OtherProgram(label),
         FilesFault::Program(cause) => OrderFault::Program(cause),
         FilesFault::Unread(role) => OrderFault::CannotRead(files.into_file(role).name),

@@ -14,6 +14,7 @@ use contact_ledger::TextFault;
 use deviations::LimitsFault;
 use dmis_program::{ProgramFault, Refusal};
 use link_world::ScheduleFault;
+use machine_file::MachineFault;
 use order_parts::FilesFault;
 use record_text::RecordFault;
 use std::alloc::{AllocError, Global};
@@ -33,7 +34,9 @@ fn line_number(fault: &FilesFault) -> Option<u64>
         | FilesFault::Record(RecordFault::Damaged(line))
         | FilesFault::Limits(LimitsFault::NotLimit(line))
         | FilesFault::Limits(LimitsFault::Twice(line))
-        | FilesFault::Limits(LimitsFault::EmptyRange(line)) => Some(*line),
+        | FilesFault::Limits(LimitsFault::EmptyRange(line))
+        | FilesFault::Machine(MachineFault::BadLine(line))
+        | FilesFault::Machine(MachineFault::Twice(line)) => Some(*line),
         _ => None,
     }
 }
@@ -56,6 +59,8 @@ fn line_reason(alloc: Global, fault: &FilesFault, place: Place) -> Result<Reason
         FilesFault::Contacts(_) => (contact_reason(alloc, place)?, "K1"),
         FilesFault::Record(_) => (record_reason(alloc, place)?, "J1"),
         FilesFault::Limits(LimitsFault::Twice(_)) => (twice_reason(alloc, place)?, "M2"),
+        FilesFault::Machine(MachineFault::Twice(_)) => (None, "D2"),
+        FilesFault::Machine(_) => (None, "D1"),
         FilesFault::Limits(LimitsFault::EmptyRange(_)) => (range_reason(alloc, place)?, "M3"),
         _ => (Form::Limits.line_reason(alloc, place)?, "M1"),
     };

@@ -9,16 +9,16 @@ ghost use Rattle.refusal_guide.specs.Codes.{is_called, is_error_number, is_code_
 use std::alloc::{AllocError, Global};
 
 /// The codes of what `dme` refuses, and the numbers of the errors of its server.
-const CODES: [&str; 46] = [
+const CODES: [&str; 48] = [
     "P1", "P2", "P3", "P4", "P5", "P6", "P7", "P8", "P9", "P10", "P11", "P12", "P13", "P14", "P15",
-    "P16", "N1", "N2", "N3", "S1", "S2", "S3", "H1", "M1", "M2", "M3", "K1", "C4", "J1", "J2",
-    "J3", "9001", "9002", "9003", "9004", "9005", "9006", "9007", "9008", "9009", "9010", "9011",
-    "9012", "9013", "9014", "9015",
+    "P16", "N1", "N2", "N3", "S1", "S2", "S3", "H1", "M1", "M2", "M3", "D1", "D2", "K1", "C4",
+    "J1", "J2", "J3", "9001", "9002", "9003", "9004", "9005", "9006", "9007", "9008", "9009",
+    "9010", "9011", "9012", "9013", "9014", "9015",
 ];
 
 /// The pages of these codes, as they are printed after them: a line each for the name, for what it means, for what to do about it, and for a
 /// line as it should be, of the program, of the file or of the wire. The last is that of an error of a server with another number.
-const PAGES: [&str; 47] = [
+const PAGES: [&str; 49] = [
     "NotDmis\nMeaning: The first statement of the program is not DMISMN, or there is no statement at all.\n\
      Remedy: Check that the file is a DMIS program and is not empty; put DMISMN before its first statement.\nExample: DMISMN/'PART',05.2",
     "Truncated\nMeaning: The program ends without ENDFIL; the line is the last one of the text.\n\
@@ -71,6 +71,10 @@ const PAGES: [&str; 47] = [
      Remedy: Remove one of the two lines.\nExample: LIMIT * -0.05 0.05",
     "EmptyRange\nMeaning: The lower limit is greater than the upper one.\n\
      Remedy: Exchange the two, or look for a missing sign.\nExample: LIMIT BORE -0.010 0.020",
+    "BadLine\nMeaning: A line of a machine's file is not SETUP file, HOST h, PORT n, TIMEOUT s, WAIT s, WINDOW w or RECORDS folder; or it has a space at its start or end, or its value is not UTF-8.\n\
+     Remedy: Write one option of run per line, its value up to the end of the line; a comment is a line of its own that begins with #.\nExample: HOST 192.168.0.7",
+    "Twice\nMeaning: A line of a machine's file has the word of a line above it.\n\
+     Remedy: Remove one of the two lines. What the command line says goes over the file.\nExample: PORT 1294",
     "Damaged\nMeaning: A line of a features or contacts file is unexpected: the file is a different one, or was changed manually. What follows its last line end is not read and is not damage.\n\
      Remedy: Use the file as it was written. In a features file, remove the feature with this line and all that follow it: they are measured again.\nExample: FEATURE C 3 2 M",
     "NotOurs\nMeaning: The features in the file are not the first features of the program, by label and count of points.\n\
