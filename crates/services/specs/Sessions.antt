@@ -5,7 +5,6 @@ use Rattle.contact_ledger.specs.ContactTexts.{act_line, contacts_text}
 use Rattle.contact_ledger.specs.declared.acts.Act.{Act}
 use Rattle.protocol_model.specs.Ends.{serving_left}
 use Rattle.link_world.specs.Reports.{reported, contact_rows}
-use Rattle.effects.specs.declared.vocabulary.Cause.TheVariants.{Link}
 use Rattle.effects.specs.declared.vocabulary.Growth.{Growth}
 use Rattle.effects.specs.declared.vocabulary.Growth.TheVariants.{Contacts}
 use Rattle.effects.specs.declared.vocabulary.Peer.TheVariants.{Client}
@@ -135,19 +134,9 @@ pub record IsBefore (c : Core) (o : Outside) : Type 0 where
 abbrev pub IsPlain : List ℕ → Outside → Type 0
 IsPlain name o = o.seen ≡ Some (name, Done)
 
--- or a device or the like, which is written at the end alone; no link is
-abbrev pub is_other : Reply → Bool
-is_other Done = false
-is_other (Failed Link) = false
-is_other reply = true
-
-abbrev pub IsOther : List ℕ → Option (List ℕ × Reply) → Type 0
-IsOther name None = ⊥
-IsOther name (Some seen) = (seen.0 ≡ name) × (is_other seen.1 ≡ true)
-
--- the contacts file can be written, or need not be until the end
+-- the contacts file can be written, if one is named
 abbrev pub IsPrepared : Core → Outside → Type 0
-IsPrepared c o = (c.named ≡ false) ⊎ ((o.is_made ≡ true) ⊎ IsOther c.name o.seen)
+IsPrepared c o = (c.named ≡ false) ⊎ (o.is_made ≡ true)
 
 -- the contacts file that grows has all that the server has done, but for this text, unless it could not be kept
 abbrev pub HasAllBut : List ℕ → Core → Outside → Type 0

@@ -9,7 +9,7 @@ ghost use Rattle.protocol_model.specs.Ends.{ServerEnd};
 ghost use Rattle.protocol_model.specs.Server.{running_job};
 ghost use Rattle.server_core.specs.Serving.{may_turn};
 ghost use Rattle.tool_rack.specs.Setups.{SetupValue};
-ghost use Rattle.services.specs.Sessions.{AreSeen, AsksAt, Breaks, Core, HasServed, IsBrokenOff, IsStatus, Led, NoneBroken, Outside, Ready, State, due, is_other, outcome, untouched};
+ghost use Rattle.services.specs.Sessions.{AreSeen, AsksAt, Breaks, Core, HasServed, IsBrokenOff, IsStatus, Led, NoneBroken, Outside, Ready, State, due, outcome, untouched};
 ghost use Rattle.services.specs.Serving.{Talk, Traffic, Served, IsBreak, IsServing, IsAt, is_over, may_leave, passed};
 ghost use Rattle.link_world.specs.declared.connections.pumps.PumpFault.TheVariants as fault;
 ghost use Rattle.services.specs.declared.stages.Stage.TheVariants as stage;
@@ -43,17 +43,18 @@ pub fn what_grows_is_no_link()
         → Ready (due first) first.core untouched → Led first past s o → AreSeen past }
 {}
 
-/// A file that was not looked for, or under another name, or that is a link, is not locked; no port is listened on if it is a link, but one
-/// is if it is a device; and the file is looked for first.
+/// A file that was not looked for, or under another name, or that is a link or a device, is not locked; no port is listened on before it is;
+/// and the file is looked for first.
 pub fn seeing_rows()
     ensures unseen { (c : Core) (o : Outside) → o.seen ≡ None → Ready stage.Making c o → ⊥ }
     ensures other { (c : Core) (o : Outside) → c.name ≡ 7 ∷ [] → o.seen ≡ Some (5 ∷ [], Done)
         → Ready stage.Making c o → ⊥ }
     ensures linked { (c : Core) (o : Outside) → o.seen ≡ Some (c.name, Failed Link)
         → Ready stage.Making c o → ⊥ }
+    ensures device { (c : Core) (o : Outside) → o.seen ≡ Some (c.name, Failed Device)
+        → Ready stage.Making c o → ⊥ }
     ensures unlistened { (c : Core) (o : Outside) → c.named ≡ true → o.is_made ≡ false
-        → o.seen ≡ Some (c.name, Failed Link) → Ready stage.Listening c o → ⊥ }
-    ensures device { is_other (Failed Device) ≡ true }
+        → Ready stage.Listening c o → ⊥ }
     ensures looked { (s : State) → s.core.name ≡ 7 ∷ [] → AsksAt stage.Looking s (Look (5 ∷ [])) → ⊥ }
     ensures made { (s : State) → s.core.name ≡ 7 ∷ []
         → AsksAt stage.Making s (Make Contacts (5 ∷ []) [] []) → ⊥ }

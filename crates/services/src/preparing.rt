@@ -6,7 +6,7 @@ ghost use Rattle.services.specs.Sessions as spec;
 ghost use Rattle.services.specs.Serving as serving;
 
 use crate::{Session, Stage};
-use effects::{Answer, Cause};
+use effects::Answer;
 use session_telling::{cause_of, why_unconnected, why_unwritten};
 use std::alloc::AllocError;
 
@@ -73,10 +73,10 @@ impl Session {
             (Stage::Logged, Answer::Done) => self.stage = self.after_log(),
             (Stage::Logged, _) => return self.lose_log(self.after_log()),
             (Stage::Looking, Answer::Done) => self.stage = Stage::Making,
-            (Stage::Looking, Answer::Failed(Cause::Link)) => {
-                return self.refuse_contacts(why_unwritten(Cause::Link));
+            (Stage::Looking, Answer::Short) => return Err(AllocError),
+            (Stage::Looking, answer) => {
+                return self.refuse_contacts(why_unwritten(cause_of(answer)));
             }
-            (Stage::Looking, _) => self.stage = Stage::Listening,
             (Stage::Making, Answer::Done) => self.made(false),
             (Stage::Making, Answer::Found) => self.made(true),
             (Stage::Making, Answer::Short) => return Err(AllocError),
