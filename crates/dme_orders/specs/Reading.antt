@@ -7,6 +7,9 @@ use Rattle.contact_ledger.specs.declared.features.Feature.{Feature}
 use Rattle.contact_ledger.specs.declared.faults.TextFault.TheVariants as ledger
 use Rattle.tool_rack.specs.Setups.{SetupValue, setup_of}
 use Rattle.tool_rack.specs.declared.faults.SetupFault.TheVariants as setup
+use Rattle.machine_file.specs.Entries.{Given}
+use Rattle.machine_file.specs.Machines.{machine_of}
+use Rattle.machine_file.specs.declared.faults.MachineFault.TheVariants as machine
 use Rattle.deviations.specs.Limits.{limits_of}
 use Rattle.deviations.specs.declared.entries.Limit.{Limit}
 use Rattle.deviations.specs.declared.limit_faults.LimitsFault.TheVariants as limits
@@ -118,6 +121,16 @@ module _ {S : Type 0} (c : Came S) where
   WhyNoLimits (fault.Limits limits.Memory) = ⊥
   WhyNoLimits (fault.Limits cause) = Reads c (λ text. limits_of text ≡ Err cause)
   WhyNoLimits given = WhyNoText role.Limits given
+
+  -- the machine's file of a source
+  abbrev pub ReadsMachine : List Given → Type 0
+  ReadsMachine said = Reads c (λ text. machine_of text ≡ Ok said)
+
+  -- why there is none
+  abbrev pub WhyNoMachine : FilesFault → Type 0
+  WhyNoMachine (fault.Machine machine.Memory) = ⊥
+  WhyNoMachine (fault.Machine cause) = Reads c (λ text. machine_of text ≡ Err cause)
+  WhyNoMachine given = WhyNoText role.Machine given
 
   -- the program of a source under frames
   abbrev pub ReadsProgram : List (List ℕ × Point) → Meaning → Type 0

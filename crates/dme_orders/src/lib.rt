@@ -48,10 +48,14 @@ pub use exporting::{ExportFiles, Exported, export_files};
 pub use looping::{LoopTask, loop_over};
 pub use missing::Missing;
 pub use notes::{audit_notes, other_program_notes};
-pub use of_records::{RecordFiles, RecordNotes, RecordText, audit_record, export_record};
+pub use of_records::{
+    RecordFiles, RecordNotes, RecordText, audit_record, export_record, of_program,
+};
 pub use orders::check_under_setup;
 pub use preparing::setup_and_program;
-pub use reading::read_setup;
+pub use reading::{
+    named_limits, named_setup, program_under, read_machine, read_setup, record_from,
+};
 pub use reporting::report_record;
 pub use reviewing::review_program;
 pub use simulating::{SimulationFiles, simulate};

@@ -106,11 +106,7 @@ pub(crate) fn limited_input<L: Source, S: Source, J: Source, R: Source>(
 }
 
 /// Refuses a record that is not of this program. One that is not begun is of any.
-pub(crate) fn of_program(
-    alloc: Global,
-    held: &Option<Record>,
-    program: &Program,
-) -> Result<(), FilesFault>
+pub fn of_program(alloc: Global, held: &Option<Record>, program: &Program) -> Result<(), FilesFault>
     ensures same { OnOk result (IsOfProgram held.now program.now) }
     ensures other { IfErr result (RefusesRecord held.now program.now) }
 {

@@ -3,7 +3,7 @@
 ghost use Rattle.std.specs.Prelude.{◌≡◌, Ok, IfOk, IfErr};
 ghost use Rattle.dme_orders.specs.Reading.{came, Reads, WhyNoText, ReadsSetup, WhyNoSetup, ReadsSchedule, WhyNoSchedule, ReadsProgram, WhyNoProgram};
 ghost use Rattle.dme_orders.specs.Reading.{ReadsFeatures, WhyNoFeatures, ReadsContacts, WhyNoContacts, ReadsRecord, WhyNoRecord};
-ghost use Rattle.dme_orders.specs.Reading.{ReadsLimits, WhyNoLimits};
+ghost use Rattle.dme_orders.specs.Reading.{ReadsLimits, WhyNoLimits, ReadsMachine, WhyNoMachine};
 ghost use Rattle.program_review.specs.Reviews.{frames_under};
 ghost use Rattle.dme_orders.specs.Input.{named, ReadsNamed, WhyNoNamed, ReadsNamedLimits, WhyNoNamedLimits};
 
@@ -12,6 +12,7 @@ use contact_ledger::{FeatureLedger, ServerLedger, TextFault, read_features};
 use deviations::{Limits, LimitsFault};
 use dmis_program::{Frames, Program, ProgramFault};
 use link_world::{Schedule, ScheduleFault};
+use machine_file::{Machine, MachineFault};
 use order_parts::{FilesFault, Role};
 use record_text::{Record, RecordFault, read_record};
 use std::alloc::Global;
@@ -103,10 +104,7 @@ pub(crate) fn contacts_from<S: Source>(
 }
 
 /// The record that a source gives, if it is begun.
-pub(crate) fn record_from<S: Source>(
-    alloc: Global,
-    source: &mut S,
-) -> Result<Option<Record>, FilesFault>
+pub fn record_from<S: Source>(alloc: Global, source: &mut S) -> Result<Option<Record>, FilesFault>
     ensures ok { IfOk result (ReadsRecord (came S.left S.has_failed source.old source.new)) }
     ensures err { IfErr result (WhyNoRecord (came S.left S.has_failed source.old source.new)) }
 {
@@ -134,7 +132,23 @@ fn limits_from<S: Source>(alloc: Global, source: &mut S) -> Result<Limits, Files
     }
 }
 
-pub(crate) fn named_limits<S: Source>(
+/// The machine's file that a source gives.
+pub fn read_machine<S: Source>(alloc: Global, source: &mut S) -> Result<Machine, FilesFault>
+    ensures ok { IfOk result (ReadsMachine (came S.left S.has_failed source.old source.new)) }
+    ensures err { IfErr result (WhyNoMachine (came S.left S.has_failed source.old source.new)) }
+{
+    let text = read_text(alloc, source, Role::Machine)?;
+    let read = Machine::read(alloc, text.as_slice());
+    drop(text);
+    match read {
+        Ok(machine) => Ok(machine),
+        Err(MachineFault::Memory) => Err(FilesFault::Memory),
+        Err(refused) => Err(FilesFault::Machine(refused)),
+    }
+}
+
+/// The limits that a source gives, if one is named.
+pub fn named_limits<S: Source>(
     alloc: Global,
     source: &mut Option<S>,
 ) -> Result<Option<Limits>, FilesFault>
@@ -168,7 +182,8 @@ pub(crate) fn read_program<S: Source>(
     }
 }
 
-pub(crate) fn named_setup<S: Source>(
+/// The setup that a source gives, if one is named.
+pub fn named_setup<S: Source>(
     alloc: Global,
     source: &mut Option<S>,
 ) -> Result<Option<Setup>, FilesFault>
@@ -182,7 +197,7 @@ pub(crate) fn named_setup<S: Source>(
 }
 
 /// The program that a source gives under the frames of a setup, and under no frames without one.
-pub(crate) fn program_under<R: Source>(
+pub fn program_under<R: Source>(
     alloc: Global,
     setup: &Option<Setup>,
     source: &mut R,

@@ -1,0 +1,3 @@
+pub mod Touches
+pub mod Tallies
+pub mod Reasons

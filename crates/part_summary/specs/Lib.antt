@@ -1,0 +1,5 @@
+pub mod Sums
+pub mod Batches
+pub mod Texts
+pub mod Tables
+pub mod Examples

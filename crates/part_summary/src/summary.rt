@@ -1,0 +1,237 @@
+// A summary, which counts records one after the other.
+
+ghost use Rattle.std.specs.Prelude.{◌≡◌, [], length, IfOk, IfErr, OnOk, OnErr};
+ghost use Rattle.dme_orders.specs.Exporting.{RefusesFeatures};
+ghost use Rattle.dme_orders.specs.Reading.{came};
+ghost use Rattle.dme_orders.specs.Recorded.{features_in};
+ghost use Rattle.part_summary.specs.Batches.{Adds, Counts, IsSummary, WhyNotCounted, alongs_in, empty_tallies, joined_all, name_of, named_if_unfinished, places_in, range_at, touches_of, with_part};
+ghost use Rattle.part_summary.specs.Texts.{summary_status};
+
+use crate::sums::Tally;
+use byte_ports::Source;
+use contact_ledger::Feature;
+use deviations::{Limits, Range, Row, rows_of};
+use dme_orders::{of_program, record_from};
+use dmis_program::Program;
+use order_parts::FilesFault;
+use record_text::Record;
+use std::alloc::{AllocError, Global};
+use std::marker::Model;
+
+/// A part that lacks a feature.
+#[derive(Debug, Drop)]
+pub(crate) struct Unfinished {
+    pub(crate) name: Vec<u8>,
+    pub(crate) measured: usize,
+}
+
+impl Model for Unfinished {
+    ghost use Rattle.part_summary.specs.Batches.{UnfinishedPart};
+
+    ghost Value = { UnfinishedPart };
+
+    ghost view = { λ u. record { name = u.name.items; measured = u.measured } };
+}
+
+/// What is kept of the records of a batch: sums for each touch of their program, and which parts lack a feature (this profile). Contracts
+/// see it as a `Summed`; `IsSummary` relates it to its parts.
+#[derive(Drop)]
+pub struct Summary<'a> {
+    alloc: Global,
+    pub(crate) program: &'a Program,
+    limits: &'a Option<Limits>,
+    pub(crate) counted: u64,
+    pub(crate) tallies: Vec<Tally>,
+    pub(crate) unfinished: Vec<Unfinished>,
+}
+
+impl<'a> Model for Summary<'a> {
+    ghost use Rattle.part_summary.specs.Batches.{Summed};
+
+    ghost Value = { Summed };
+
+    ghost view = { λ s. record {
+      program = s.program.now;
+      limits = s.limits.now;
+      counted = s.counted;
+      tallies = s.tallies.items;
+      unfinished = s.unfinished.items;
+    } };
+}
+
+/// The rows of the touches of a program, as if none was made. Fails only if out of memory.
+#[tactic(auto, using(crate::proofs::Touches::are_touches))]
+pub(crate) fn open_rows<'a>(alloc: Global, program: &'a Program) -> Result<Vec<Row<'a>>, AllocError>
+    ensures { IfOk result (λ rows. places_in rows.items ≡ touches_of program.now) }
+{
+    match rows_of(alloc, program, &[]) {
+        Ok(rows) => Ok(rows),
+        Err(_) => Err(AllocError),
+    }
+}
+
+fn range_at(limits: &Option<Limits>, row: &Row<'_>) -> Option<Range>
+    ensures { result ≡ range_at limits.now row.now.place }
+{
+    match limits {
+        Some(limits) => limits.range_for(row.feature()),
+        None => None,
+    }
+}
+
+/// What is kept of the touches of these rows if they have no deviation.
+fn empty_tallies(
+    alloc: Global,
+    limits: &Option<Limits>,
+    rows: &[Row<'_>],
+) -> Result<Vec<Tally>, AllocError>
+    ensures { IfOk result (λ tallies. tallies.items
+        ≡ empty_tallies limits.now (places_in rows.now)) }
+{
+    let mut tallies = Vec::new(alloc);
+    let mut left = rows;
+    while let [row, others @ ..] = left {
+        tallies.push(Tally {
+            range: range_at(limits, row),
+            sums: None,
+        })?;
+        left = others;
+    }
+    Ok(tallies)
+}
+
+/// What is kept of touches, with the deviation of each in the row at its place. Fails only if out of memory, or if there are too many.
+fn joined_all(alloc: Global, tallies: &[Tally], rows: &[Row<'_>]) -> Result<Vec<Tally>, AllocError>
+    ensures { IfOk result (λ all. all.items ≡ joined_all (alongs_in rows.now) tallies.now) }
+{
+    let mut all = Vec::with_capacity(alloc, tallies.len())?;
+    let mut left = tallies;
+    let mut later = rows;
+    while let [tally, others @ ..] = left {
+        match later {
+            [row, behind @ ..] => {
+                all.push(tally.joined(row.along())?)?;
+                later = behind;
+            }
+            [] => all.push(*tally)?,
+        }
+        left = others;
+    }
+    Ok(all)
+}
+
+/// The features of a record; one that is not begun has none.
+fn features_in(held: &Option<Record>) -> &[Feature]
+    ensures { result.now ≡ features_in held.now }
+{
+    match held {
+        Some(held) => held.features(),
+        None => &[],
+    }
+}
+
+/// What a part is called: by its record, or as the file of the record.
+fn name_of<'a>(file: &'a str, held: &'a Option<Record>) -> &'a [u8]
+    ensures { result.now ≡ name_of file.now held.now }
+{
+    match held {
+        Some(held) => held.part().unwrap_or(file.as_bytes()),
+        None => file.as_bytes(),
+    }
+}
+
+impl<'a> Summary<'a> {
+    /// A summary of no part, for records of a program, with limits for its features if there are any. Fails only if out of memory.
+    pub fn new(
+        alloc: Global,
+        program: &'a Program,
+        limits: &'a Option<Limits>,
+    ) -> Result<Summary<'a>, AllocError>
+        ensures program { IfOk result (λ s. s.program ≡ program.now) }
+        ensures limits { IfOk result (λ s. s.limits ≡ limits.now) }
+        ensures none { IfOk result (λ s. IsSummary s []) }
+    {
+        let rows = open_rows(alloc, program)?;
+        let tallies = empty_tallies(alloc, limits, rows.as_slice())?;
+        Ok(Summary {
+            alloc,
+            program,
+            limits,
+            counted: 0,
+            tallies,
+            unfinished: Vec::new(alloc),
+        })
+    }
+
+    /// Names a part if it lacks a feature.
+    fn name_unfinished(&mut self, name: &[u8], measured: usize) -> Result<(), AllocError>
+        ensures named { OnOk result (self.new ≡ record self.old {
+          unfinished = named_if_unfinished (length self.old.program.features) name.now measured
+              self.old.unfinished;
+        }) }
+        ensures same { OnErr result (self.new ≡ self.old) }
+    {
+        if measured == self.program.features().len() {
+            return Ok(());
+        }
+        let name = Vec::from_slice(self.alloc, name)?;
+        self.unfinished.push(Unfinished { name, measured })?;
+        Ok(())
+    }
+
+    /// Keeps the deviations of a part, and its name if it lacks a feature. Fails only if out of memory, or if there are too many parts.
+    fn keep(&mut self, name: &[u8], measured: usize, rows: &[Row<'_>]) -> Result<(), AllocError>
+        ensures kept { OnOk result (self.new
+            ≡ with_part self.old name.now measured (alongs_in rows.now)) }
+        ensures same { OnErr result (self.new ≡ self.old) }
+    {
+        let tallies = joined_all(self.alloc, self.tallies.as_slice(), rows)?;
+        let Some(counted) = self.counted.checked_add(1) else {
+            return Err(AllocError);
+        };
+        self.name_unfinished(name, measured)?;
+        self.counted = counted;
+        self.tallies = tallies;
+        Ok(())
+    }
+
+    /// Counts the part of a record in a file. Its features are refused only if they are not the first ones of the program.
+    #[tactic(auto, using(crate::proofs::Tallies::adds))]
+    fn count(&mut self, file: &str, held: &Option<Record>) -> Result<(), FilesFault>
+        ensures adds { OnOk result (Adds file.now held.now self.old self.new) }
+        ensures refused { IfErr result (RefusesFeatures self.old.program (features_in held.now)) }
+        ensures same { OnErr result (self.new ≡ self.old) }
+    {
+        let features = features_in(held);
+        let program = self.program;
+        let rows = rows_of(self.alloc, program, features)?;
+        self.keep(name_of(file, held), features.len(), rows.as_slice())?;
+        Ok(())
+    }
+
+    /// Reads the record of a part to the end of its text, and counts it. The part is called by its record, or as this file if the record
+    /// names none; a record that is not begun is that of a part without any feature. A record that is damaged, or cannot be read, or is
+    /// of another program does not count, and changes nothing. Four thousand million parts count; more are called out of memory.
+    #[tactic(auto, using(crate::proofs::Reasons::counts, crate::proofs::Reasons::stranger))]
+    pub fn add<S: Source>(&mut self, file: &str, source: &mut S) -> Result<(), FilesFault>
+        ensures counts { OnOk result (Counts (came S.left S.has_failed source.old source.new)
+            file.now self.old self.new) }
+        ensures refused { IfErr result (WhyNotCounted
+            (came S.left S.has_failed source.old source.new) self.old.program) }
+        ensures same { OnErr result (self.new ≡ self.old) }
+    {
+        let held = record_from(self.alloc, source)?;
+        of_program(self.alloc, &held, self.program)?;
+        self.count(file, &held)
+    }
+
+    /// The exit status: 3 if a part lacks a feature, else 0.
+    pub fn status(&self) -> u8
+        ensures { result ≡ summary_status self.now.unfinished }
+    {
+        match self.unfinished.as_slice() {
+            [] => 0,
+            [_, ..] => 3,
+        }
+    }
+}
