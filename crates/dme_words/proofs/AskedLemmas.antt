@@ -66,7 +66,7 @@ service words none = level_has (leaf serve_line) words refl
 
 driven : (words : List Text) → level_fault (leaf run_line) [] nothing_held words false [] ≡ [] → Has run_line (rows_after (leaf run_line).rules [] words)
 driven words none = level_has (leaf run_line) words refl
-    ((refl, inl (refl, refl)), ((refl, inl (refl, refl)), ((refl, inl (refl, refl)), ((refl, inl (refl, refl)), ((refl, inl (refl, refl)), ((refl, inl (refl, refl)), ((refl, inl (refl, refl)), ((refl, inl (refl, refl)), ((refl, inl (refl, refl)), ((refl, inr (inl (refl, omega arith))), ((refl, inr (inl (refl, omega arith))), ((refl, inl (refl, refl)), ((refl, inl (refl, refl)), ((refl, inl (refl, refl)), ((refl, inl (refl, refl)), ((refl, inr (inl (refl, omega arith))), ((refl, inr (inl (refl, omega arith))), ((refl, inr (inl (refl, omega arith))), ((refl, inl (refl, refl)), ((refl, inr (inr refl)), tt))))))))))))))))))))
+    ((refl, inl (refl, refl)), ((refl, inl (refl, refl)), ((refl, inl (refl, refl)), ((refl, inl (refl, refl)), ((refl, inl (refl, refl)), ((refl, inl (refl, refl)), ((refl, inl (refl, refl)), ((refl, inl (refl, refl)), ((refl, inl (refl, refl)), ((refl, inl (refl, refl)), ((refl, inl (refl, refl)), ((refl, inr (inl (refl, omega arith))), ((refl, inr (inl (refl, omega arith))), ((refl, inl (refl, refl)), ((refl, inl (refl, refl)), ((refl, inl (refl, refl)), ((refl, inl (refl, refl)), ((refl, inr (inl (refl, omega arith))), ((refl, inr (inl (refl, omega arith))), ((refl, inr (inl (refl, omega arith))), ((refl, inl (refl, refl)), ((refl, inr (inr refl)), tt))))))))))))))))))))))
     none
 
 explained : (words : List Text) → level_fault (leaf explain_line) [] nothing_held words false [] ≡ [] → Has explain_line (rows_after (leaf explain_line).rules [] words)
@@ -115,26 +115,29 @@ serves p free = (
       (
         λ answers none. inr (inr (inr (inl (refl, loop p.1 none)))),
         (
-          λ answers none. inr (inr (inr (inr (inl (refl, service p.1 none))))),
+          λ answers none. inr (inr (inr (inr (inr (inl (refl, service p.1 none)))))),
           (
-            λ answers none. inr (inr (inr (inr (inr (inl (refl, driven p.1 none)))))),
+            λ answers none. inr (inr (inr (inr (inr (inr (inl (refl, driven p.1 none))))))),
             (
-              λ answers none. inr (inr (inr (inr (inr (inr (inl (refl, explained p.1 none))))))),
+              λ answers none. inr (inr (inr (inr (inr (inr (inr (inl (refl, explained p.1 none)))))))),
               (
-                λ answers none. inr (inr (inr (inr (inr (inr (inr (inl (refl, export p.1 none)))))))),
+                λ answers none. inr (inr (inr (inr (inr (inr (inr (inr (inl (refl, export p.1 none))))))))),
                 (
-                  λ answers none. inr (inr (inr (inr (inr (inr (inr (inr (inl refl)))))))),
+                  λ answers none. inr (inr (inr (inr (inr (inr (inr (inr (inr (inl refl))))))))),
                   (
-                    λ answers none. inr (inr (inr (inr (inr (inr (inr (inr (inr (inl (refl, witnessed p.1 none)))))))))),
+                    λ answers none. inr (inr (inr (inr (inr (inr (inr (inr (inr (inr (inl (refl, witnessed p.1 none))))))))))),
                     (
-                      λ answers none. inr (inr (inr (inr (inr (inr (inr (inr (inr (inr (inl (refl, judged p.1 none))))))))))),
+                      λ answers none. inr (inr (inr (inr (inr (inr (inr (inr (inr (inr (inr (inl (refl, judged p.1 none)))))))))))),
                       (
-                        λ answers none. inr (inr (inr (inr (inr (inr (inr (inr (inr (inr (inr (inl (refl, relayed p.1 none)))))))))))),
+                        λ answers none. inr (inr (inr (inr (inr (inr (inr (inr (inr (inr (inr (inr (inl (refl, relayed p.1 none))))))))))))),
                         (
-                          λ answers none. inr (inr (inr (inr (inr (inr (inr (inr (inr (inr (inr (inr (inl (refl, lowered p.1 none))))))))))))),
+                          λ answers none. inr (inr (inr (inr (inr (inr (inr (inr (inr (inr (inr (inr (inr (inl (refl, lowered p.1 none)))))))))))))),
                           (
-                            λ answers none. inr (inr (inr (inr (inr (inr (inr (inr (inr (inr (inr (inr (inr (refl, reported p.1 none))))))))))))),
-                            (λ answers none. absurd (no_help p.0 p.1 free answers), tt),
+                            λ answers none. inr (inr (inr (inr (inr (inr (inr (inr (inr (inr (inr (inr (inr (inr (refl, reported p.1 none)))))))))))))),
+                            (
+                              λ answers none. inr (inr (inr (inr (inl refl)))),
+                              (λ answers none. absurd (no_help p.0 p.1 free answers), tt),
+                            ),
                           ),
                         ),
                       ),
