@@ -1,7 +1,7 @@
 -- Errors of a server, and their lines.
-use Rattle.run_session.proofs.Names.{[], ◌%◌, ◌&&◌, ◌++◌, ◌-◌, ◌/◌, ◌<◌, ◌==◌, ◌∙◌, ◌∷◌, ◌≡◌, ◌≤◌, agree_below_at, ap₂, arith, Bool, cond, false}
-use Rattle.run_session.proofs.Names.{false≢true, fitting, get_or, HaveLines, is_printed, kept_error, length, length-append, List, list_all, nat_le}
-use Rattle.run_session.proofs.Names.{not, refl, suc, true, w8, ℕ}
+use Rattle.run_session.proofs.Names.{[], ◌%◌, ◌&&◌, ◌++◌, ◌-◌, ◌/◌, ◌<◌, ◌∙◌, ◌∷◌, ◌≡◌, ◌≤◌, agree_below_at, ap₂, arith, Bool, cond, false}
+use Rattle.run_session.proofs.Names.{false≢true, fitting, get_or, is_printed, kept_error, length, length-append, List, list_all, nat_le}
+use Rattle.run_session.proofs.Names.{refl, suc, true, w8, ℕ}
 use Rattle.std.proofs.Common.{Fits}
 use Rattle.record_text.specs.Heads.{IsPrinted}
 use Rattle.std.proofs.lemmas.Bool.Decides.{nat_tests}
@@ -57,10 +57,3 @@ has_refusal (b ∷ bytes) fits some = record {
   few = (fits_whole 400 (b ∷ bytes)).few;
   printed = all_shown 400 (b ∷ bytes) (λ k. (fits k).fits);
 }
-
--- an error that is not empty
-pub has_line : (bytes : List ℕ) (none : Bool) → ((k : ℕ) → Fits w8 (get_or bytes k 0)) → none ≡ (length bytes == 0) → not none ≡ true
-    → HaveLines (bytes ∷ [])
-has_line [] true fits is some = absurd (false≢true some)
-has_line [] false fits is some = absurd (false≢true is)
-has_line (b ∷ bytes) none fits is some = (record { printed = has_refusal (b ∷ bytes) fits (omega arith); form = refl }, tt)

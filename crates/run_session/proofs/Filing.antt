@@ -2,13 +2,18 @@
 use Rattle.effects.specs.declared.vocabulary.Answer.{Answer}
 use Rattle.effects.specs.declared.vocabulary.Answer.TheVariants as answer
 use Rattle.run_session.proofs.Names.{HasFiled}
+use Rattle.std.specs.Prelude.{◌||◌, is_err}
+use Rattle.run_session.proofs.ClientCalls.{or_false, or_true}
+use Rattle.run_session.specs.Errors.{Talk}
+use Rattle.run_session.specs.Errors.Records.{takes_all, takes_none}
+use Rattle.run_session.specs.Records.{forgets, says}
 use Rattle.run_session.specs.Records.{answered, Grown, is_done, is_record, Listed, marked, marked_at, Origin, Record, Report, Whole, with_marks, Write}
 use Rattle.run_session.proofs.Names.{[], ◌++◌, ◌∙◌, ◌∷◌, ◌≡◌, ◌≤◌, ◌⊎◌, Act, AddsErrors, ap, append-nil, append_assoc, arith, At, begins, Book, Bool}
 use Rattle.run_session.proofs.Names.{Bytes, calls, ClientEnd, cond, confirms, Done, drop, drop-append_seam, End, Err, error_note, Failed, false}
 use Rattle.run_session.proofs.Names.{false≢true, filed, filed_by, Found, GoesOn, Growth, HasReported, HaveLines, inl, inr, IsKept, IsQuiet, IsRun, IsRunOf, IsSafe, Keeps, lacking}
 use Rattle.run_session.proofs.Names.{length, List, Missing, new_lines, None, Nothing, of_file, Ok, OnErr, OnOk, Option, outcome, outcome_by, Outside}
 use Rattle.run_session.proofs.Names.{Pair, Ran, refl, Reply, Reports, Result, Short, Some, Stage, State, subst, suc, sym, take, take-append-drop, tells}
-use Rattle.run_session.proofs.Names.{the_reply, told_now, told_unless, Took, true, AreSaid, IsNoteText, map, note_lines, Says, with_acts, with_notes, writes, zero, ℕ}
+use Rattle.run_session.proofs.Names.{the_reply, told_now, told_unless, Took, true, is_error, IsNoteText, map, note_lines, Says, with_acts, with_notes, writes, zero, ℕ}
 
 -- lines are added at the end
 grown_by : (lacks : Bool) (e : ClientEnd) (notes : List Says) (g : Growth)
@@ -19,24 +24,30 @@ grown_by false e notes g =
     let lines : List ℕ = note_lines g.telling.connection notes in
     (acts ++ lines, append_assoc g.text acts lines)
 
-pub grows : {b : Bool} (first : Pair) (ps : List ℕ) (p : Pair) → Ran b first ps p → (more : List ℕ) × (p.recording.text ≡ first.recording.text ++ more)
-grows first _ _ (begins ps) = ([], sym (append-nil first.recording.text))
-grows first _ _ (calls ps p call r run free) = grows first ps p r
-grows first _ _ (confirms n ps p r counted) = grows first (n ∷ ps) p r
-grows first _ _ (tells ps p lacks notes r said) =
-    let before = grows first ps p r in
-    let added = grown_by lacks p.end notes p.recording in
+pub grows : {b : Bool} (first : Pair) (v : Talk) (ps : List ℕ) (p : Pair) (t : Talk) → Ran b first v ps p t → (more : List ℕ) × (p.recording.text ≡ first.recording.text ++ more)
+grows first v _ _ _ (begins ps) = ([], sym (append-nil first.recording.text))
+grows first v _ _ _ (calls ps p t u call r run free talks) = grows first v ps p t r
+grows first v _ _ _ (forgets ps p t u r lost) = grows first v ps p t r
+grows first v _ _ _ (confirms n ps p t r counted) = grows first v (n ∷ ps) p t r
+grows first v _ _ _ (says ps p t said r can other) =
+    let before = grows first v ps p t r in
+    let added = grown_by true p.end (said ∷ []) p.recording in
+    (before.0 ++ added.0, added.1 ∙ (ap (λ (t : List ℕ). t ++ added.0) before.1 ∙ append_assoc first.recording.text before.0 added.0))
+grows first v _ _ _ (tells ps p t u lacks errors r records lines) =
+    let before = grows first v ps p t r in
+    let added = grown_by lacks p.end (map error_note errors) p.recording in
     (before.0 ++ added.0, added.1 ∙ (ap (λ (t : List ℕ). t ++ added.0) before.1 ∙ append_assoc first.recording.text before.0 added.0))
 
 -- the client and the record are later ones, and nothing is written
 pub moved : (first : Pair) (before : List (ℕ × Act)) (s t : State) (o : Outside) → Keeps s t → of_file t.book ≡ of_file s.book
     → IsKept first before s o → IsKept first before t o
 moved first before s t o keeps same k =
-    let w : Origin = record { aborts = true; first = s.pair; before = before; marks = o.marks } in
-    let more = grows s.pair t.book.pauses t.pair
+    let w : Origin = record { aborts = true; first = s.pair; begun = s.talk; before = before; marks = o.marks } in
+    let more = grows s.pair s.talk t.book.pauses t.pair t.talk
     (keeps w (record { ran = begins s.book.pauses; reported = k.ran.reported; same = k.ran.same })).ran in
     record {
-      ran = keeps (record { aborts = true; first = first; before = before; marks = o.marks }) k.ran;
+      begun = k.begun;
+      ran = keeps (record { aborts = true; first = first; begun = k.begun; before = before; marks = o.marks }) k.ran;
       front = (
         k.front.0 ++ more.0,
         sym (append_assoc o.file k.front.0 more.0)
@@ -60,12 +71,18 @@ moved_on s t reply quiet keeps same = λ first before o n k.
 pub goes_further : (s m t : State) (reply : Reply) → GoesOn s reply m → Keeps m t → of_file t.book ≡ of_file m.book → GoesOn s reply t
 goes_further s m t reply goes keeps same = λ first before o n k. moved first before m t (outcome n s reply o) keeps same (goes first before o n k)
 
+pub record IsSame (s t : State) : Type 0 where
+  pub pair : t.pair ≡ s.pair
+  pub talk : t.talk ≡ s.talk
+  pub reports : t.reports ≡ s.reports
+
 -- one with the same client, record and pauses
-same_ran : (w : Origin) (s t : State) → t.pair ≡ s.pair → t.reports ≡ s.reports → t.book.pauses ≡ s.book.pauses → IsRunOf w s → IsRunOf w t
-same_ran w s t same reports pauses ran =
-    subst (λ (ps : List ℕ). IsRun w ps t.pair t.reports) (sym pauses)
-    (subst (λ (r : Reports). IsRun w s.book.pauses t.pair r) (sym reports)
-    (subst (λ (p : Pair). IsRun w s.book.pauses p s.reports) (sym same) ran))
+same_ran : (w : Origin) (s t : State) → IsSame s t → t.book.pauses ≡ s.book.pauses → IsRunOf w s → IsRunOf w t
+same_ran w s t same pauses ran =
+    subst (λ (ps : List ℕ). IsRun w ps t.pair t.talk t.reports) (sym pauses)
+    (subst (λ (r : Reports). IsRun w s.book.pauses t.pair t.talk r) (sym same.reports)
+    (subst (λ (u : Talk). IsRun w s.book.pauses t.pair u s.reports) (sym same.talk)
+    (subst (λ (p : Pair). IsRun w s.book.pauses p s.talk s.reports) (sym same.pair) ran)))
 
 -- ---- the record's file was written, or not
 
@@ -118,28 +135,32 @@ filed_file first before s t o sound same k = (
 least : (n : ℕ) → n ≤ n
 least n = omega arith
 
-pub filed_on : (s t : State) (forced : Bool) → writes s.stage ≡ Some (Record forced) → s.book.lost ≡ false → t.pair ≡ s.pair → t.reports ≡ s.reports
+pub filed_on : (s t : State) (forced : Bool) → writes s.stage ≡ Some (Record forced) → s.book.lost ≡ false → IsSame s t
     → t.book ≡ filed s → GoesOn s Done t
-filed_on s t false w sound same reports book = λ first before o n k.
+filed_on s t false w sound same book = λ first before o n k.
     subst (λ (x : Option Write). IsKept first before t (by_write x n s Done o)) (sym w) (record {
-      ran = same_ran (record { aborts = true; first = first; before = before; marks = o.marks }) s t same reports (ap (λ (b : Book). b.pauses) (book ∙ ap (λ (x : Option Write). filed_by x s) w)) k.ran;
-      front = ([], (filed_file first before s t o sound same k).0);
-      filed = λ l. (filed_file first before s t o sound same k).1
+      begun = k.begun;
+      ran = same_ran (record { aborts = true; first = first; begun = k.begun; before = before; marks = o.marks }) s t same (ap (λ (b : Book). b.pauses) (book ∙ ap (λ (x : Option Write). filed_by x s) w)) k.ran;
+      front = ([], (filed_file first before s t o sound same.pair k).0);
+      filed = λ l. (filed_file first before s t o sound same.pair k).1
           ∙ sym (ap (λ (b : Book). b.filed) (book ∙ ap (λ (x : Option Write). filed_by x s) w));
       within = within_more o (lacking s) k.within;
       safe = subst (λ (b : Book). IsSafe first b.settled o.safe) (sym (book ∙ ap (λ (x : Option Write). filed_by x s) w)) k.safe;
     })
-filed_on s t true w sound same reports book = λ first before o n k.
+filed_on s t true w sound same book = λ first before o n k.
     subst (λ (x : Option Write). IsKept first before t (by_write x n s Done o)) (sym w) (record {
-      ran = same_ran (record { aborts = true; first = first; before = before; marks = o.marks }) s t same reports (ap (λ (b : Book). b.pauses) (book ∙ ap (λ (x : Option Write). filed_by x s) w)) k.ran;
-      front = ([], (filed_file first before s t o sound same k).0);
-      filed = λ l. (filed_file first before s t o sound same k).1
+      begun = k.begun;
+      ran = same_ran (record { aborts = true; first = first; begun = k.begun; before = before; marks = o.marks }) s t same (ap (λ (b : Book). b.pauses) (book ∙ ap (λ (x : Option Write). filed_by x s) w)) k.ran;
+      front = ([], (filed_file first before s t o sound same.pair k).0);
+      filed = λ l. (filed_file first before s t o sound same.pair k).1
           ∙ sym (ap (λ (b : Book). b.filed) (book ∙ ap (λ (x : Option Write). filed_by x s) w));
       within = ([], append-nil (o.file ++ lacking s));
       safe = subst (λ (b : Book). IsSafe first b.settled (o.file ++ lacking s))
           (sym (book ∙ ap (λ (x : Option Write). filed_by x s) w)) (record {
             moment = s.pair;
             pauses = s.book.pauses;
+            begun = k.begun;
+            talk = s.talk;
             ran = k.ran.ran;
             rest = [];
             text = append-nil s.pair.recording.text ∙ sym (all_of first before s o k sound);
@@ -163,70 +184,72 @@ safe_more : (first : Pair) (count : ℕ) (safe more : List ℕ) → IsSafe first
 safe_more first count safe more h = record {
   moment = h.moment;
   pauses = h.pauses;
+  begun = h.begun;
+  talk = h.talk;
   ran = h.ran;
   rest = h.rest ++ more;
   text = sym (append_assoc h.moment.recording.text h.rest more) ∙ ap (λ (x : List ℕ). x ++ more) h.text;
   features = h.features;
 }
 
-lost_kept : (first : Pair) (before : List (ℕ × Act)) (s t : State) (p : Outside) → IsRunOf (record { aborts = true; first = first; before = before; marks = p.marks }) s → t.pair ≡ s.pair
-    → t.reports ≡ s.reports → t.book ≡ record (s.book) { lost = true }
+lost_kept : (first : Pair) (begun : Talk) (before : List (ℕ × Act)) (s t : State) (p : Outside)
+    → IsRunOf (record { aborts = true; first = first; begun = begun; before = before; marks = p.marks }) s → IsSame s t → t.book ≡ record (s.book) { lost = true }
     → (rest : List ℕ) × (p.file ++ rest ≡ s.pair.recording.text) → (rest : List ℕ) × (p.safe ++ rest ≡ p.file)
     → IsSafe first s.book.settled p.safe → IsKept first before t p
-lost_kept first before s t p ran same reports book front within safe = record {
-  ran = same_ran (record { aborts = true; first = first; before = before; marks = p.marks }) s t same reports (ap (λ (b : Book). b.pauses) book) ran;
-  front = (front.0, front.1 ∙ ap (λ (x : Pair). x.recording.text) (sym same));
+lost_kept first begun before s t p ran same book front within safe = record {
+  begun = begun;
+  ran = same_ran (record { aborts = true; first = first; begun = begun; before = before; marks = p.marks }) s t same (ap (λ (b : Book). b.pauses) book) ran;
+  front = (front.0, front.1 ∙ ap (λ (x : Pair). x.recording.text) (sym same.pair));
   filed = λ l. absurd (false≢true (sym l ∙ ap (λ (b : Book). b.lost) book));
   within = within;
   safe = subst (λ (b : Book). IsSafe first b.settled p.safe) (sym book) safe;
 }
 
 -- the file is lost: whatever was answered, it has the first bytes
-lost_on : (first : Pair) (before : List (ℕ × Act)) (s t : State) (o : Outside) (n : ℕ) (forced : Bool) (reply : Reply) → t.pair ≡ s.pair
-    → t.reports ≡ s.reports → t.book ≡ record (s.book) { lost = true } → IsKept first before s o
+lost_on : (first : Pair) (before : List (ℕ × Act)) (s t : State) (o : Outside) (n : ℕ) (forced : Bool) (reply : Reply) → IsSame s t → t.book ≡ record (s.book) { lost = true } → IsKept first before s o
     → IsKept first before t (by_write (Some (Record forced)) n s reply o)
-lost_on first before s t o n false Done same reports book k =
-    lost_kept first before s t _ k.ran same reports book (left_of first before s o k s.book.lost refl) (within_more o (lacking s) k.within) k.safe
-lost_on first before s t o n true Done same reports book k =
-    lost_kept first before s t _ k.ran same reports book (left_of first before s o k s.book.lost refl) ([], append-nil (o.file ++ lacking s))
+lost_on first before s t o n false Done same book k =
+    lost_kept first k.begun before s t _ k.ran same book (left_of first before s o k s.book.lost refl) (within_more o (lacking s) k.within) k.safe
+lost_on first before s t o n true Done same book k =
+    lost_kept first k.begun before s t _ k.ran same book (left_of first before s o k s.book.lost refl) ([], append-nil (o.file ++ lacking s))
     (subst (λ (x : List ℕ). IsSafe first s.book.settled x) (within_more o (lacking s) k.within).1
     (safe_more first s.book.settled o.safe (within_more o (lacking s) k.within).0 k.safe))
-lost_on first before s t o n false (Bytes bytes) same reports book k =
-    lost_kept first before s t _ k.ran same reports book (some_of first before s o n k) (within_more o (take n (lacking s)) k.within) k.safe
-lost_on first before s t o n false End same reports book k =
-    lost_kept first before s t _ k.ran same reports book (some_of first before s o n k) (within_more o (take n (lacking s)) k.within) k.safe
-lost_on first before s t o n false Missing same reports book k =
-    lost_kept first before s t _ k.ran same reports book (some_of first before s o n k) (within_more o (take n (lacking s)) k.within) k.safe
-lost_on first before s t o n false Found same reports book k =
-    lost_kept first before s t _ k.ran same reports book (some_of first before s o n k) (within_more o (take n (lacking s)) k.within) k.safe
-lost_on first before s t o n false Nothing same reports book k =
-    lost_kept first before s t _ k.ran same reports book (some_of first before s o n k) (within_more o (take n (lacking s)) k.within) k.safe
-lost_on first before s t o n false (At ms) same reports book k =
-    lost_kept first before s t _ k.ran same reports book (some_of first before s o n k) (within_more o (take n (lacking s)) k.within) k.safe
-lost_on first before s t o n false (Took count) same reports book k =
-    lost_kept first before s t _ k.ran same reports book (some_of first before s o n k) (within_more o (take n (lacking s)) k.within) k.safe
-lost_on first before s t o n false (Failed why) same reports book k =
-    lost_kept first before s t _ k.ran same reports book (some_of first before s o n k) (within_more o (take n (lacking s)) k.within) k.safe
-lost_on first before s t o n false Short same reports book k =
-    lost_kept first before s t _ k.ran same reports book (some_of first before s o n k) (within_more o (take n (lacking s)) k.within) k.safe
-lost_on first before s t o n true (Bytes bytes) same reports book k =
-    lost_kept first before s t _ k.ran same reports book (some_of first before s o n k) (within_more o (take n (lacking s)) k.within) k.safe
-lost_on first before s t o n true End same reports book k =
-    lost_kept first before s t _ k.ran same reports book (some_of first before s o n k) (within_more o (take n (lacking s)) k.within) k.safe
-lost_on first before s t o n true Missing same reports book k =
-    lost_kept first before s t _ k.ran same reports book (some_of first before s o n k) (within_more o (take n (lacking s)) k.within) k.safe
-lost_on first before s t o n true Found same reports book k =
-    lost_kept first before s t _ k.ran same reports book (some_of first before s o n k) (within_more o (take n (lacking s)) k.within) k.safe
-lost_on first before s t o n true Nothing same reports book k =
-    lost_kept first before s t _ k.ran same reports book (some_of first before s o n k) (within_more o (take n (lacking s)) k.within) k.safe
-lost_on first before s t o n true (At ms) same reports book k =
-    lost_kept first before s t _ k.ran same reports book (some_of first before s o n k) (within_more o (take n (lacking s)) k.within) k.safe
-lost_on first before s t o n true (Took count) same reports book k =
-    lost_kept first before s t _ k.ran same reports book (some_of first before s o n k) (within_more o (take n (lacking s)) k.within) k.safe
-lost_on first before s t o n true (Failed why) same reports book k =
-    lost_kept first before s t _ k.ran same reports book (some_of first before s o n k) (within_more o (take n (lacking s)) k.within) k.safe
-lost_on first before s t o n true Short same reports book k =
-    lost_kept first before s t _ k.ran same reports book (some_of first before s o n k) (within_more o (take n (lacking s)) k.within) k.safe
+lost_on first before s t o n false (Bytes bytes) same book k =
+    lost_kept first k.begun before s t _ k.ran same book (some_of first before s o n k) (within_more o (take n (lacking s)) k.within) k.safe
+lost_on first before s t o n false End same book k =
+    lost_kept first k.begun before s t _ k.ran same book (some_of first before s o n k) (within_more o (take n (lacking s)) k.within) k.safe
+lost_on first before s t o n false Missing same book k =
+    lost_kept first k.begun before s t _ k.ran same book (some_of first before s o n k) (within_more o (take n (lacking s)) k.within) k.safe
+lost_on first before s t o n false Found same book k =
+    lost_kept first k.begun before s t _ k.ran same book (some_of first before s o n k) (within_more o (take n (lacking s)) k.within) k.safe
+lost_on first before s t o n false Nothing same book k =
+    lost_kept first k.begun before s t _ k.ran same book (some_of first before s o n k) (within_more o (take n (lacking s)) k.within) k.safe
+lost_on first before s t o n false (At ms) same book k =
+    lost_kept first k.begun before s t _ k.ran same book (some_of first before s o n k) (within_more o (take n (lacking s)) k.within) k.safe
+lost_on first before s t o n false (Took count) same book k =
+    lost_kept first k.begun before s t _ k.ran same book (some_of first before s o n k) (within_more o (take n (lacking s)) k.within) k.safe
+lost_on first before s t o n false (Failed why) same book k =
+    lost_kept first k.begun before s t _ k.ran same book (some_of first before s o n k) (within_more o (take n (lacking s)) k.within) k.safe
+lost_on first before s t o n false Short same book k =
+    lost_kept first k.begun before s t _ k.ran same book (some_of first before s o n k) (within_more o (take n (lacking s)) k.within) k.safe
+lost_on first before s t o n true (Bytes bytes) same book k =
+    lost_kept first k.begun before s t _ k.ran same book (some_of first before s o n k) (within_more o (take n (lacking s)) k.within) k.safe
+lost_on first before s t o n true End same book k =
+    lost_kept first k.begun before s t _ k.ran same book (some_of first before s o n k) (within_more o (take n (lacking s)) k.within) k.safe
+lost_on first before s t o n true Missing same book k =
+    lost_kept first k.begun before s t _ k.ran same book (some_of first before s o n k) (within_more o (take n (lacking s)) k.within) k.safe
+lost_on first before s t o n true Found same book k =
+    lost_kept first k.begun before s t _ k.ran same book (some_of first before s o n k) (within_more o (take n (lacking s)) k.within) k.safe
+lost_on first before s t o n true Nothing same book k =
+    lost_kept first k.begun before s t _ k.ran same book (some_of first before s o n k) (within_more o (take n (lacking s)) k.within) k.safe
+lost_on first before s t o n true (At ms) same book k =
+    lost_kept first k.begun before s t _ k.ran same book (some_of first before s o n k) (within_more o (take n (lacking s)) k.within) k.safe
+lost_on first before s t o n true (Took count) same book k =
+    lost_kept first k.begun before s t _ k.ran same book (some_of first before s o n k) (within_more o (take n (lacking s)) k.within) k.safe
+lost_on first before s t o n true (Failed why) same book k =
+    lost_kept first k.begun before s t _ k.ran same book (some_of first before s o n k) (within_more o (take n (lacking s)) k.within) k.safe
+lost_on first before s t o n true Short same book k =
+    lost_kept first k.begun before s t _ k.ran same book (some_of first before s o n k) (within_more o (take n (lacking s)) k.within) k.safe
 
 record_of : (w : Option Write) → is_record w ≡ true → (forced : Bool) × (w ≡ Some (Record forced))
 record_of None is = absurd (false≢true is)
@@ -236,10 +259,10 @@ record_of (Some Listed) is = absurd (false≢true is)
 record_of (Some Report) is = absurd (false≢true is)
 record_of (Some Whole) is = absurd (false≢true is)
 
-pub lost_goes : (s t : State) (reply : Reply) → is_record (writes s.stage) ≡ true → t.pair ≡ s.pair → t.reports ≡ s.reports → t.book ≡ record (s.book) { lost = true } → GoesOn s reply t
-lost_goes s t reply is same reports book = λ first before o n k.
+pub lost_goes : (s t : State) (reply : Reply) → is_record (writes s.stage) ≡ true → IsSame s t → t.book ≡ record (s.book) { lost = true } → GoesOn s reply t
+lost_goes s t reply is same book = λ first before o n k.
     let w = record_of (writes s.stage) is in subst (λ (x : Option Write). IsKept first before t (by_write x n s reply o)) (sym w.1)
-    (lost_on first before s t o n w.0 reply same reports book k)
+    (lost_on first before s t o n w.0 reply same book k)
 
 -- ---- acts and errors
 
@@ -247,18 +270,21 @@ same_text : (g : Growth) → with_notes [] g ≡ g
 same_text g = ap (λ (t : List ℕ). record g { text = t }) (append-nil g.text)
 
 -- from one record to another, with these pauses that are to come
-abbrev Tells : List ℕ → ClientEnd → Growth → Growth → Type 0
-Tells ps e g h = (b : Bool) (first : Pair) → Ran b first ps (record { end = e; recording = g }) → Ran b first ps (record { end = e; recording = h })
+abbrev Tells : List ℕ → ClientEnd → Growth → Growth → Talk → Talk → Type 0
+Tells ps e g h t u = (b : Bool) (first : Pair) (v : Talk) → Ran b first v ps (record { end = e; recording = g }) t
+    → Ran b first v ps (record { end = e; recording = h }) u
 
-acts_keep : (ps : List ℕ) (e : ClientEnd) (g h : Growth) → h ≡ with_acts e.client.program.features e.client.table.tally.counted g → Tells ps e g h
-acts_keep ps e g h is = λ b first ran.
-    subst (λ (x : Growth). Ran b first ps (record { end = e; recording = x })) (same_text (told_now e g) ∙ sym is)
-    (tells ps (record { end = e; recording = g }) false [] ran tt)
+acts_keep : (ps : List ℕ) (e : ClientEnd) (g h : Growth) (t : Talk) → h ≡ with_acts e.client.program.features e.client.table.tally.counted g
+    → Tells ps e g h t t
+acts_keep ps e g h t is = λ b first v ran.
+    subst (λ (x : Growth). Ran b first v ps (record { end = e; recording = x }) t) (same_text (told_now e g) ∙ sym is)
+    (tells ps (record { end = e; recording = g }) t t false [] ran (takes_none t) tt)
 
-notes_keep : (ps : List ℕ) (e : ClientEnd) (g h : Growth) (notes : List Says) → AreSaid notes → h ≡ with_notes notes g → Tells ps e g h
-notes_keep ps e g h notes said is = λ b first ran.
-    subst (λ (x : Growth). Ran b first ps (record { end = e; recording = x })) (sym is)
-    (tells ps (record { end = e; recording = g }) true notes ran said)
+errors_keep : (ps : List ℕ) (e : ClientEnd) (g h : Growth) (t : Talk) → HaveLines t.errors → h ≡ with_notes (map error_note t.errors) g
+    → Tells ps e g h t (record t { errors = [] })
+errors_keep ps e g h t lines is = λ b first v ran.
+    subst (λ (x : Growth). Ran b first v ps (record { end = e; recording = x }) (record t { errors = [] })) (sym is)
+    (tells ps (record { end = e; recording = g }) t (record t { errors = [] }) true t.errors ran (takes_all t) lines)
 
 pub first_lines : (n : ℕ) (errors : List (List ℕ)) → HaveLines errors → HaveLines (take n errors)
 first_lines zero [] h = tt
@@ -279,6 +305,7 @@ pub new_kept : (before : List (ℕ × Act)) (s : State) → s.book ≡ record {
 }
     → HasReported before s.pair s.reports → IsKept s.pair before s (record { file = s.pair.recording.text; safe = s.pair.recording.text; marks = s.reports.marks })
 new_kept before s book reported = record {
+  begun = s.talk;
   ran = record { ran = begins s.book.pauses; reported = reported; same = refl };
   front = ([], append-nil s.pair.recording.text);
   filed = λ l. sym (ap (λ (b : Book). b.filed) book);
@@ -286,6 +313,8 @@ new_kept before s book reported = record {
   safe = subst (λ (b : Book). IsSafe s.pair b.settled s.pair.recording.text) (sym book) (record {
     moment = s.pair;
     pauses = s.book.pauses;
+    begun = s.talk;
+    talk = s.talk;
     ran = begins s.book.pauses;
     rest = [];
     text = append-nil s.pair.recording.text;
@@ -294,30 +323,40 @@ new_kept before s book reported = record {
 }
 
 -- acts get their lines, or memory runs out for them
-pub told_acts_keep : {A E : Type 0} (r : Result A E) (ps : List ℕ) (e : ClientEnd) (g h : Growth)
-    → OnOk r (h ≡ with_acts e.client.program.features e.client.table.tally.counted g) → OnErr r (h ≡ g) → Tells ps e g h
-told_acts_keep (Ok a) ps e g h done same = acts_keep ps e g h done
-told_acts_keep (Err why) ps e g h done same =
-    λ b first ran. subst (λ (x : Growth). Ran b first ps (record { end = e; recording = x })) (sym same) ran
+pub told_acts_keep : {A E : Type 0} (r : Result A E) (ps : List ℕ) (e : ClientEnd) (g h : Growth) (t : Talk)
+    → OnOk r (h ≡ with_acts e.client.program.features e.client.table.tally.counted g) → OnErr r (h ≡ g) → Tells ps e g h t t
+told_acts_keep (Ok a) ps e g h t done same = acts_keep ps e g h t done
+told_acts_keep (Err why) ps e g h t done same =
+    λ b first v ran. subst (λ (x : Growth). Ran b first v ps (record { end = e; recording = x }) t) (sym same) ran
 
 -- likewise errors, of which the first get theirs
-pub told_errors_keep : {A E : Type 0} (r : Result A E) (ps : List ℕ) (e : ClientEnd) (g h : Growth) (errors : List (List ℕ)) → HaveLines errors
-    → OnOk r (h ≡ with_notes (map error_note errors) g) → OnErr r ((n : ℕ) × AddsErrors errors g h n) → Tells ps e g h
-told_errors_keep (Ok a) ps e g h errors lines done some = notes_keep ps e g h (map error_note errors) lines done
-told_errors_keep (Err why) ps e g h errors lines done some =
-    notes_keep ps e g h (map error_note (take some.0 errors)) (first_lines some.0 errors lines) some.1.added
+pub told_errors_keep : {A E : Type 0} (r : Result A E) (ps : List ℕ) (e : ClientEnd) (g h : Growth) (t : Talk) → HaveLines t.errors
+    → OnOk r (h ≡ with_notes (map error_note t.errors) g) → OnErr r ((n : ℕ) × AddsErrors t.errors g h n)
+    → Tells ps e g h t (record t { errors = []; lost = t.lost || is_err r })
+told_errors_keep (Ok a) ps e g h t lines done some = λ b first v ran.
+    subst (λ (x : Bool). Ran b first v ps (record { end = e; recording = h }) (record t { errors = []; lost = x })) (sym (or_false t.lost))
+    (errors_keep ps e g h t lines done b first v ran)
+told_errors_keep (Err why) ps e g h t lines done some =
+    let u : Talk = record t { errors = take some.0 t.errors; lost = t.lost || true } in λ b first v ran.
+    errors_keep ps e g h u (first_lines some.0 t.errors lines) some.1.added b first v
+    (forgets ps (record { end = e; recording = g }) t u ran (or_true t.lost))
 
 -- and a note
-pub told_note_keeps : {A E : Type 0} (r : Result A E) (ps : List ℕ) (e : ClientEnd) (g h : Growth) (said : Says) → IsNoteText said.0 said.1
-    → OnOk r (h ≡ with_notes (said ∷ []) g) → OnErr r (h ≡ g) → Tells ps e g h
-told_note_keeps (Ok a) ps e g h said can done same = notes_keep ps e g h (said ∷ []) (can, tt) done
-told_note_keeps (Err why) ps e g h said can done same =
-    λ b first ran. subst (λ (x : Growth). Ran b first ps (record { end = e; recording = x })) (sym same) ran
+pub told_note_keeps : {A E : Type 0} (r : Result A E) (ps : List ℕ) (e : ClientEnd) (g h : Growth) (t : Talk) (said : Says)
+    → IsNoteText said.0 said.1 → is_error said.0 ≡ false → OnOk r (h ≡ with_notes (said ∷ []) g) → OnErr r (h ≡ g) → Tells ps e g h t t
+told_note_keeps (Ok a) ps e g h t said can other done same = λ b first v ran.
+    subst (λ (x : Growth). Ran b first v ps (record { end = e; recording = x }) t) (sym done)
+    (says ps (record { end = e; recording = g }) t said ran can other)
+told_note_keeps (Err why) ps e g h t said can other done same =
+    λ b first v ran. subst (λ (x : Growth). Ran b first v ps (record { end = e; recording = x }) t) (sym same) ran
 
-pub filed_goes : (s t : State) → is_record (writes s.stage) ≡ true → s.book.lost ≡ false → t.pair ≡ s.pair → t.reports ≡ s.reports
-    → t.book ≡ filed s → GoesOn s Done t
-filed_goes s t is sound same reports book =
-    let w = record_of (writes s.stage) is in filed_on s t w.0 w.1 sound same reports book
+pub told_on : (ps : List ℕ) (e : ClientEnd) (g h : Growth) (t u v : Talk) → Tells ps e g h t u → v ≡ u → Tells ps e g h t v
+told_on ps e g h t u v keeps is = λ b first w ran.
+    subst (λ (x : Talk). Ran b first w ps (record { end = e; recording = h }) x) (sym is) (keeps b first w ran)
+
+pub filed_goes : (s t : State) → is_record (writes s.stage) ≡ true → s.book.lost ≡ false → IsSame s t → t.book ≡ filed s → GoesOn s Done t
+filed_goes s t is sound same book =
+    let w = record_of (writes s.stage) is in filed_on s t w.0 w.1 sound same book
 
 -- ---- the stages that write nothing
 
@@ -365,6 +404,7 @@ noted_goes v s t reply is other keeps same = λ first before o n k.
     moved first before (answered s reply) t (outcome n s reply o) keeps same
     (subst (λ (p : Outside). IsKept first before (answered s reply) (record p { marks = marked_at s reply o.marks }))
     (sym (other_file (writes s.stage) (ap (λ (x : State). is_record (writes x.stage)) (sym is) ∙ other) n (lacking s) reply o)) (record {
+      begun = k.begun;
       ran = record { ran = k.ran.ran; reported = k.ran.reported; same = ap (marked_at s reply) k.ran.same };
       front = k.front;
       filed = k.filed;

@@ -1,18 +1,17 @@
 -- What comes of bytes of a server, with errors among them or without.
-use Rattle.run_session.proofs.Names.{[], ◌++◌, ◌-◌, ◌==◌, ◌∙◌, ◌∷◌, ◌≡◌, ◌⊎◌, ap, append-nil, ap₂, AllByRecursion, arith, Bool, cond, drop, false, false≢true}
-use Rattle.run_session.proofs.Names.{Err, get_or, inl, inr, length, List, map, not, Ok, OnOk, refl, Result, Some, subst, suc, sym, take, true, zero, ℕ}
+use Rattle.run_session.proofs.Names.{[], ◌++◌, ◌-◌, ◌==◌, ◌∙◌, ◌∷◌, ◌≡◌, ap, append-nil, ap₂, AllByRecursion, arith, Bool, cond, drop, false, false≢true}
+use Rattle.run_session.proofs.Names.{get_or, inl, inr, length, List, map, not, refl, Some, subst, suc, sym, take, true, zero, ℕ}
 use Rattle.std.specs.Prelude.{◌||◌, slice_get}
 use Rattle.std.specs.List.{flat_map, list_any}
 use Rattle.std.proofs.lemmas.Bool.{eqb-true}
-use Rattle.dme_line.specs.Responses.{IsMarkText, IsResponseLine}
+use Rattle.dme_line.specs.Responses.{IsMarkText}
 use Rattle.dme_line.specs.Tags.{IsTag, written_tag}
 use Rattle.dme_line.specs.declared.responses.Mark.TheVariants as mark
-use Rattle.dme_line.specs.declared.tags.Tag.{Tag}
 use Rattle.dmis_program.specs.declared.features.Wanted.{Wanted}
 use Rattle.run_session.specs.Errors.{AddsAll, error_kept, error_line, Hears, Talk, with_about}
 use Rattle.session_telling.specs.Dialogues.{AllReport, AreCut, content, Dialogue, ended, Hears as HearsLines, IsUnended, Reported}
 use Rattle.session_telling.specs.Dialogues.AllReport.{ends, passes, reports}
-use Rattle.session_telling.specs.Sessions.{Reports, ReportsNothing}
+use Rattle.session_telling.specs.Sessions.{ReportsNothing}
 use Rattle.session_telling.specs.declared.sessions.Sent.{Sent}
 
 or_parts : (x y : Bool) → (x || y) ≡ false → (x ≡ false) × (y ≡ false)
@@ -181,26 +180,23 @@ same_kept sent [] = refl
 same_kept sent (r ∷ rs) = ap (λ (l : List (List ℕ)). error_kept r ∷ l) (same_kept sent rs)
 
 -- bytes that may have errors: what the dialogue hears, and then is shown and kept
-pub all_heard : (program : List Wanted) (bytes : List ℕ) (c d : Dialogue) (rs : List Reported) (t u v : Talk) (before after : List ℕ)
-    → t.hearing ≡ c.hearing → HearsLines bytes c d rs → u ≡ record t { hearing = d.hearing }
-    → AddsAll program rs u v before after → Hears program bytes t v before after
-all_heard program bytes c d rs t u v before after at h is adds = record {
+pub all_heard : (program : List Wanted) (bytes : List ℕ) (c d : Dialogue) (rs : List Reported) (t u v w : Talk) (before after : List ℕ)
+    → t.hearing ≡ c.hearing → HearsLines bytes c d rs → u ≡ record t { hearing = d.hearing; lost = true }
+    → AddsAll program rs u v before after → w ≡ record v { lost = t.lost } → Hears program bytes t w before after
+all_heard program bytes c d rs t u v w before after at h is adds final = record {
   lines = h.lines;
   reports = map (with_about t.sent) rs;
-  cut = subst (λ (x : List ℕ). AreCut (x ++ bytes) h.lines v.hearing) (sym at)
-      (subst (AreCut (c.hearing ++ bytes) h.lines) (sym (ap (λ (x : Talk). x.hearing) (adds.1 ∙ same))) h.cut);
+  cut = subst (λ (x : List ℕ). AreCut (x ++ bytes) h.lines w.hearing) (sym at)
+      (subst (AreCut (c.hearing ++ bytes) h.lines) (sym (ap (λ (x : Talk). x.hearing) all)) h.cut);
   reported = about_all c.sent t.sent h.lines rs h.reported;
   shown = adds.0 ∙ ap (λ (x : Talk). before ++ flat_map (error_line (drop x.kept program) x.lines) (map (with_about x.sent) rs)) is;
-  kept = ap (λ (x : Talk). x.errors) (adds.1 ∙ same) ∙ ap (λ (l : List (List ℕ)). t.errors ++ l) (same_kept t.sent rs);
-  same = (adds.1 ∙ same) ∙ sym (ap (λ (x : Talk). record t { hearing = x.hearing; errors = x.errors }) (adds.1 ∙ same));
+  kept = ap (λ (x : Talk). x.errors) all ∙ ap (λ (l : List (List ℕ)). t.errors ++ l) (same_kept t.sent rs);
+  same = all ∙ sym (ap (λ (x : Talk). record t { hearing = x.hearing; errors = x.errors }) all);
 }
   where
-    same : record u { errors = u.errors ++ map error_kept rs } ≡ record t { hearing = d.hearing; errors = t.errors ++ map error_kept rs }
-    same = ap (λ (x : Talk). record x { errors = x.errors ++ map error_kept rs }) is
-
-pub on_heard : {A E : Type 0} (r : Result A E) {P Q : Type 0} → (P → Q) → OnOk r P → OnOk r Q
-on_heard (Ok a) f h = f h
-on_heard (Err e) f h = tt
+    all : w ≡ record t { hearing = d.hearing; errors = t.errors ++ map error_kept rs }
+    all = final ∙ ap (λ (x : Talk). record x { lost = t.lost })
+        (adds.1 ∙ ap (λ (x : Talk). record x { errors = x.errors ++ map error_kept rs }) is)
 
 pub is_true : (b : Bool) → not b ≡ false → b ≡ true
 is_true true h = refl

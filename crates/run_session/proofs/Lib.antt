@@ -12,3 +12,4 @@ pub mod Stops
 pub mod Noting
 pub mod Hearing
 pub mod Touches
+pub mod ErrorRows

@@ -1,6 +1,6 @@
 -- A run is a list of moments, whose record's file is what a killed run leaves.
 use Rattle.run_session.proofs.Names.{HasFollowed, HasReported, HasTold, IsAt, pace, Pace, Filed}
-use Rattle.run_session.proofs.Names.{[], ◌++◌, ◌+◌, ◌∙◌, ◌∷◌, ◌≡◌, ◌≤◌, Abort, Act, ap, append-nil, append_assoc, AreAsked, AreNotes, AreFit}
+use Rattle.run_session.proofs.Names.{[], ◌++◌, ◌+◌, ◌∙◌, ◌∷◌, ◌≡◌, ◌≤◌, Abort, Act, ap, append-nil, append_assoc, AreAsked, AreNotes, AreFit, error_note}
 use Rattle.run_session.proofs.Names.{AreWritten, arith, begins, behind_call, behind_calls, behind_moments, Bool, Call, Calls, calls, calls_in}
 use Rattle.run_session.proofs.Names.{ClientEnd, cond, confirms, Connected, done_by, drop, drop-length, end_connected, entry_line, false, false≢true}
 use Rattle.run_session.proofs.Names.{Feed, Fits, AreSaid, Growth, inl, Says, inr, IsKept, IsPartGiven, IsRunCall, Leave, length, length-append, List, map}
@@ -17,7 +17,9 @@ use Rattle.record_text.specs.declared.opening.Beginning.{Beginning}
 use Rattle.record_laws.proofs.Killed.{says_what_was_told}
 use Rattle.record_laws.specs.Runs.{IsKilledRun, IsRecordOf, run_begun}
 use Rattle.record_text.specs.Tellings.{entries_of}
+use Rattle.run_session.specs.Errors.{Talk}
 use Rattle.run_session.specs.Killed.{IsBegun, IsLeft}
+use Rattle.run_session.specs.Records.{forgets, says}
 use Rattle.run_session.proofs.Filing.{grows, has_all}
 use Rattle.run_session.proofs.Kept.{call_keeps, Stays, Reports, call_reports}
 use Rattle.run_session.proofs.Reporting.{all_reported}
@@ -54,11 +56,13 @@ are_notes [] last h some = tt
 are_notes ((note, text) ∷ notes) last h some = (h.0, some, are_notes notes last h.1 some)
 
 -- a run keeps the number of its connection
-ran_last : {b : Bool} (first : Pair) (ps : List ℕ) (p : Pair) → Ran b first ps p → p.end.client.last ≡ first.end.client.last
-ran_last first _ _ (begins ps) = refl
-ran_last first _ _ (calls ps p call r is free) = Stays.last (call_keeps call p.end is) ∙ ran_last first ps p r
-ran_last first _ _ (tells ps p lacks notes r said) = ran_last first ps p r
-ran_last first _ _ (confirms n ps p r counted) = ran_last first (n ∷ ps) p r
+ran_last : {b : Bool} (first : Pair) (v : Talk) (ps : List ℕ) (p : Pair) (t : Talk) → Ran b first v ps p t → p.end.client.last ≡ first.end.client.last
+ran_last first v _ _ _ (begins ps) = refl
+ran_last first v _ _ _ (calls ps p t u call r is free talks) = Stays.last (call_keeps call p.end is) ∙ ran_last first v ps p t r
+ran_last first v _ _ _ (tells ps p t u lacks errors r records lines) = ran_last first v ps p t r
+ran_last first v _ _ _ (says ps p t said r can other) = ran_last first v ps p t r
+ran_last first v _ _ _ (forgets ps p t u r lost) = ran_last first v ps p t r
+ran_last first v _ _ _ (confirms n ps p t r counted) = ran_last first v (n ∷ ps) p t r
 
 -- the moments from one pair to another
 record Moments (n : ℕ) (p q : Pair) : Type 0 where
@@ -67,25 +71,33 @@ record Moments (n : ℕ) (p q : Pair) : Type 0 where
   fit : AreFit n moments p.end
   reports : Reports p.end (calls_in moments)
 
-before : {b : Bool} (n : ℕ) (first : Pair) (ps : List ℕ) (p q : Pair) → 1 ≤ first.end.client.last → Ran b first ps p → Moments n p q → Moments n first q
-before n first _ _ q some (begins ps) s = s
-before n first _ _ q some (confirms k ps p r counted) s = before n first (k ∷ ps) p q some r s
-before n first _ _ q some (calls ps p call r is free) s = before n first ps p q some r (record {
+before : {b : Bool} (n : ℕ) (first : Pair) (v : Talk) (ps : List ℕ) (p q : Pair) (t : Talk) → 1 ≤ first.end.client.last → Ran b first v ps p t
+    → Moments n p q → Moments n first q
+before n first v _ _ q _ some (begins ps) s = s
+before n first v _ _ q _ some (confirms k ps p t r counted) s = before n first v (k ∷ ps) p q t some r s
+before n first v _ _ q _ some (forgets ps p t u r lost) s = before n first v ps p q t some r s
+before n first v _ _ q _ some (calls ps p t u call r is free talks) s = before n first v ps p q t some r (record {
   moments = Calls call ∷ s.moments;
   leads = ap (λ (g : Growth). behind_moments s.moments (record { end = behind_call call p.end; recording = g }))
       (same_growth call p.end p.recording is) ∙ s.leads;
   fit = (run_fits n call p.end is, s.fit);
   reports = call_reports call (calls_in s.moments) p.end is s.reports;
 })
-before n first _ _ q some (tells ps p lacks notes r said) s = before n first ps p q some r (record {
-  moments = Tell lacks notes ∷ s.moments;
+before n first v _ _ q _ some (says ps p t said r can other) s = before n first v ps p q t some r (record {
+  moments = Tell true (said ∷ []) ∷ s.moments;
   leads = s.leads;
-  fit = (are_notes notes p.end.client.last said (subst (λ (k : ℕ). 1 ≤ k) (sym (ran_last first ps p r)) some), s.fit);
+  fit = (are_notes (said ∷ []) p.end.client.last (can, tt) (subst (λ (k : ℕ). 1 ≤ k) (sym (ran_last first v ps p t r)) some), s.fit);
+  reports = s.reports;
+})
+before n first v _ _ q _ some (tells ps p t u lacks errors r records lines) s = before n first v ps p q t some r (record {
+  moments = Tell lacks (map error_note errors) ∷ s.moments;
+  leads = s.leads;
+  fit = (are_notes (map error_note errors) p.end.client.last lines (subst (λ (k : ℕ). 1 ≤ k) (sym (ran_last first v ps p t r)) some), s.fit);
   reports = s.reports;
 })
 
-moments_of : {b : Bool} (n : ℕ) (ps : List ℕ) (first p : Pair) → 1 ≤ first.end.client.last → Ran b first ps p → Moments n first p
-moments_of n ps first p some r = before n first ps p p some r (record {
+moments_of : {b : Bool} (n : ℕ) (ps : List ℕ) (first p : Pair) (v t : Talk) → 1 ≤ first.end.client.last → Ran b first v ps p t → Moments n first p
+moments_of n ps first p v t some r = before n first v ps p p t some r (record {
   moments = [];
   leads = refl;
   fit = tt;
@@ -129,8 +141,8 @@ ends (Calls call ∷ ms) q = ends ms _
 ends (Tell lacks errors ∷ ms) q = ends ms _
 
 led : {x : Bool} (p : Meaning) (part : Option (List ℕ)) (bytes : List ℕ) (b : Beginning) (window : ℕ) (ps : List ℕ) (first q : Pair)
-    → IsBegun p part bytes b window first → Ran x first ps q → Led p b window q
-led p part bytes b window ps first q h ran = record {
+    (v t : Talk) → IsBegun p part bytes b window first → Ran x first v ps q t → Led p b window q
+led p part bytes b window ps first q v t h ran = record {
   moments = Calls (Connected b.connection) ∷ m.moments;
   fit = (least b.connection, subst (λ (e : ClientEnd). AreFit b.connection m.moments e) joined m.fit);
   leads = ap (λ (x : Pair). behind_moments m.moments x) begun_is ∙ m.leads;
@@ -154,7 +166,7 @@ led p part bytes b window ps first q h ran = record {
     some = subst (λ (x : Pair). 1 ≤ x.end.client.last) (sym h.start) (has_number part p.features bytes b h.begins)
 
     m : Moments b.connection first q
-    m = moments_of b.connection ps first q some ran
+    m = moments_of b.connection ps first q v t some ran
 
     begun_is : behind_moments (Calls (Connected b.connection) ∷ []) (run_begun p window b) ≡ first
     begun_is = ap (λ (g : Growth). record { end = behind_call (Connected b.connection) start; recording = g })
@@ -178,8 +190,8 @@ pub killed : (p : Meaning) (part : Option (List ℕ)) (bytes : List ℕ) (b : Be
     (left : List ℕ) → IsBegun p part bytes b window first → IsKept first before s o
     → AreWritten (numbered b.connection s.pair.end.client.table.tally.counted) → IsLeft o left → IsKilledRun p part bytes left
 killed p part bytes b window first before s o left h k written is =
-    let l : Led p b window s.pair = led p part bytes b window s.book.pauses first s.pair h k.ran.ran in
-    let at = grows first k.safe.pauses k.safe.moment k.safe.ran in
+    let l : Led p b window s.pair = led p part bytes b window s.book.pauses first s.pair k.begun s.talk h k.ran.ran in
+    let at = grows first k.safe.begun k.safe.pauses k.safe.moment k.safe.talk k.safe.ran in
     record {
       begun = b;
       begins = h.begins;
@@ -217,9 +229,9 @@ whole p part bytes b window first before s o program given asked h k written fol
     let at : IsAt Filed s = subst (λ (x : Pace). IsAt x s) filed (followed long) in
     let all : s.pair.recording.told ≡ length s.pair.end.client.table.tally.counted = at.0.recorded keeps in
     let file : o.file ≡ s.pair.recording.text = has_all first before s o k sound at.1 in
-    let l : Led p b window s.pair = led p part bytes b window s.book.pauses first s.pair h k.ran.ran in
+    let l : Led p b window s.pair = led p part bytes b window s.book.pauses first s.pair k.begun s.talk h k.ran.ran in
     let start : ClientEnd = new_client_end p b.features window in
-    let says = says_what_was_told p part bytes b window l.moments program given asked h.begins l.fit (subst AreWritten (sym l.told) written) in
+    let said = says_what_was_told p part bytes b window l.moments program given asked h.begins l.fit (subst AreWritten (sym l.told) written) in
     let end : behind_calls (calls_in l.moments) start ≡ s.pair.end =
     sym (ends l.moments (run_begun p window b)) ∙ ap (λ (x : Pair). x.end) l.leads in
     subst (λ (t : List ℕ). IsRecordOf part p.features s.pair.end.client.table.tally.features
@@ -230,7 +242,7 @@ whole p part bytes b window first before s o program given asked h k written fol
     (told_now (behind_moments l.moments (run_begun p window b)).end (behind_moments l.moments (run_begun p window b)).recording).text) end
     (subst (λ (told : List (ℕ × Act)). IsRecordOf part p.features (behind_calls (calls_in l.moments) start).client.table.tally.features
     (b.told ++ told)
-    (told_now (behind_moments l.moments (run_begun p window b)).end (behind_moments l.moments (run_begun p window b)).recording).text) l.told says))
+    (told_now (behind_moments l.moments (run_begun p window b)).end (behind_moments l.moments (run_begun p window b)).recording).text) l.told said))
 
 -- before the client has counted anything, all of it has its line
 pub told : (p : Meaning) (part : Option (List ℕ)) (bytes : List ℕ) (b : Beginning) (window : ℕ) (s : State) → IsBegun p part bytes b window s.pair

@@ -9,7 +9,7 @@ pub use Rattle.record_laws.specs.Recordings.{AreFit, AreNotes, AreWritten, behin
 pub use Rattle.record_laws.specs.Recordings.{told_now, told_unless}
 pub use Rattle.record_laws.specs.Told.{numbered, told_behind, told_by}
 pub use Rattle.record_text.specs.Entries.{entry_line, error_note, fitting, kept_error}
-pub use Rattle.record_text.specs.Notes.{AreSaid, IsNoteText, Says}
+pub use Rattle.record_text.specs.Notes.{AreSaid, IsNoteText, is_error, Says}
 pub use Rattle.record_text.specs.Growths.{AddsErrors, Growth, new_lines, note_lines, with_acts, with_notes}
 pub use Rattle.record_text.specs.Heads.{AreAsked, is_printed, IsPartGiven}
 pub use Rattle.run_session.specs.Records.{begins, Book, calls, confirms, filed, filed_by, GoesOn, HaveLines, held, IsFree, IsKept, IsSafe, Keeps}

@@ -1,6 +1,6 @@
 -- The commands that are written, by their lines.
-use Rattle.run_session.proofs.Names.{[], ◌&&◌, ◌++◌, ◌+◌, ◌-◌, ◌<◌, ◌∙◌, ◌∷◌, ◌≡◌, ◌≤◌, ◌⊎◌, ap, append_assoc, arith, Bool, ClientEnd, cond, drop, drop-append_seam, Err, false}
-use Rattle.run_session.proofs.Names.{false≢true, get_or, length, List, None, not, Ok, OnOk, possible, Option, refl, Result, Some, subst, suc, sym, true, zero, ℕ, Abort, inl, inr, Send}
+use Rattle.run_session.proofs.Names.{[], ◌&&◌, ◌++◌, ◌+◌, ◌-◌, ◌<◌, ◌∙◌, ◌∷◌, ◌≡◌, ◌≤◌, ◌⊎◌, ap, append_assoc, arith, Bool, ClientEnd, cond, drop, drop-append_seam, false}
+use Rattle.run_session.proofs.Names.{false≢true, get_or, is_some, length, List, None, not, OnOk, possible, Option, refl, Result, Some, subst, suc, sym, true, zero, ℕ, Abort, inl, inr, Send}
 use Rattle.client_core.specs.Clients.{is_faulted}
 use Rattle.client_core.specs.Refusals.{IsSendRefused}
 use Rattle.client_core.specs.declared.faults.ClientFault.{ClientFault}
@@ -19,15 +19,15 @@ use Rattle.dme_line.specs.declared.tags.Tag.{Tag}
 use Rattle.dme_line.specs.declared.tags.Tag.TheVariants.{Event, Std}
 use Rattle.protocol_model.specs.Open.{count_open, is_asking, is_held}
 use Rattle.protocol_model.specs.Client.{Client, due, first_due, first_free, is_running, may_abort, may_go, next_number, or_else}
-use Rattle.protocol_model.specs.Client.{sends_abort, sends_next}
+use Rattle.protocol_model.specs.Client.{client_aborted, client_sent, sends_abort, sends_next}
 use Rattle.protocol_model.specs.Ends.{end_aborted, end_sent}
 use Rattle.protocol_model.specs.Lines.{command_bytes}
 use Rattle.protocol_model.specs.declared.held.OpenCommand.{OpenCommand}
 use Rattle.protocol_model.specs.declared.lines.Line.{Line}
 use Rattle.protocol_model.specs.declared.plans.Planned.{Planned}
-use Rattle.run_session.specs.Errors.{lines_by, Talk, talk_by, with_written}
+use Rattle.protocol_model.specs.declared.states.State.{State}
+use Rattle.run_session.specs.Errors.{Talk, noted_by, with_written}
 use Rattle.session_telling.specs.Sessions.{with_command}
-use Rattle.session_telling.specs.declared.sessions.Sent.{Sent}
 
 -- ---- the tag of a line
 
@@ -140,24 +140,24 @@ writes r false t u lines may is = absurd (false≢true may)
 
 pub send_noted : {A E : Type 0} (r : Result A E) (e f : ClientEnd) (before : ℕ) (kind : Kind) (command : Command) (t u : Talk)
     → f ≡ end_sent e → is_faulted f.client.state ≡ false → possible Send e ≡ true → planned_command (due e.client) ≡ Some command
-    → kind ≡ kind_of command → before ≡ length e.out → IsNoted r before f.out kind t u → OnOk r (u ≡ talk_by Send e t)
+    → kind ≡ kind_of command → before ≡ length e.out → IsNoted r before f.out kind t u → OnOk r (u ≡ noted_by Send e t)
 send_noted r e f before kind command t u is sound can due kinds at notes =
     let number : Option ℕ = next_number Std e.client.table.standard e.client.drawn in
     let line = sends_line e.client e.client.table.tally.unsent number command (due_first e.client command due)
     (sym (ap (λ (x : ClientEnd). is_faulted x.client.state) is) ∙ sound) in
-    writes r (possible Send e) t u (lines_by Send e.client) can
-    (line_noted r before e.out f.out kind t u (Std line.0) command (lines_by Send e.client) at
+    writes r (possible Send e) t u (client_sent e.client).lines can
+    (line_noted r before e.out f.out kind t u (Std line.0) command ((client_sent e.client).lines) at
     (wide line.0 (number_below Std e.client.table.standard e.client.drawn line.0 line.1)) kinds line.2
     (ap (λ (x : ClientEnd). x.out) is) notes)
 
 pub abort_noted : {A E : Type 0} (r : Result A E) (e f : ClientEnd) (before : ℕ) (t u : Talk)
     → f ≡ end_aborted e → is_faulted f.client.state ≡ false → possible Abort e ≡ true
-    → before ≡ length e.out → IsNoted r before f.out kind.AbortE t u → OnOk r (u ≡ talk_by Abort e t)
+    → before ≡ length e.out → IsNoted r before f.out kind.AbortE t u → OnOk r (u ≡ noted_by Abort e t)
 abort_noted r e f before t u is sound can at notes =
     let number : Option ℕ = next_number Event e.client.table.event e.client.event_drawn in
     let line = aborts_line e.client number (sym (ap (λ (x : ClientEnd). is_faulted x.client.state) is) ∙ sound) in
-    writes r (possible Abort e) t u (lines_by Abort e.client) can
-    (line_noted r before e.out f.out kind.AbortE t u (Event line.0) AbortE (lines_by Abort e.client) at
+    writes r (possible Abort e) t u ((client_aborted e.client).lines) can
+    (line_noted r before e.out f.out kind.AbortE t u (Event line.0) AbortE ((client_aborted e.client).lines) at
     (number_below Event e.client.table.event e.client.event_drawn line.0 line.1) refl line.2
     (ap (λ (x : ClientEnd). x.out) is) notes)
 
@@ -171,11 +171,42 @@ no_line c None faulted may = refl
 no_line c (Some n) faulted may = absurd cc
 
 pub unwritten : (e f : ClientEnd) (t : Talk) (fault : ClientFault) → IsSendRefused (possible Abort e) e f (end_aborted e) fault
-    → (fault ≡ ClientFault.Memory → ⊥) → t ≡ talk_by Abort e t
-unwritten e f t ClientFault.NotNow refused known = quiet (possible Abort e) t (lines_by Abort e.client) (λ can. absurd (false≢true (sym refused.2 ∙ can)))
+    → (fault ≡ ClientFault.Memory → ⊥) → t ≡ noted_by Abort e t
+unwritten e f t ClientFault.NotNow refused known = quiet (possible Abort e) t ((client_aborted e.client).lines) (λ can. absurd (false≢true (sym refused.2 ∙ can)))
 unwritten e f t (ClientFault.Faulted cause) (inl refused) known =
-    quiet (possible Abort e) t (lines_by Abort e.client) (λ can. absurd (false≢true (sym refused.0 ∙ can)))
-unwritten e f t (ClientFault.Faulted cause) (inr refused) known = quiet (possible Abort e) t (lines_by Abort e.client)
+    quiet (possible Abort e) t ((client_aborted e.client).lines) (λ can. absurd (false≢true (sym refused.0 ∙ can)))
+unwritten e f t (ClientFault.Faulted cause) (inr refused) known = quiet (possible Abort e) t ((client_aborted e.client).lines)
     (no_line e.client (next_number Event e.client.table.event e.client.event_drawn)
     (sym (ap (λ (x : ClientEnd). is_faulted x.client.state) refused.1) ∙ refused.2))
 unwritten e f t ClientFault.Memory refused known = absurd (known refl)
+
+first_true : (x y : Bool) → (x && y) ≡ true → x ≡ true
+first_true true y h = refl
+first_true false y h = h
+
+some_if : (b : Bool) (o : Option Planned) → is_some (cond b o None) ≡ true → b ≡ true
+some_if true o h = refl
+some_if false o h = h
+
+sound : (s : State) → is_running s ≡ true → is_faulted s ≡ false
+sound State.Running h = refl
+sound State.Faulted h = absurd (false≢true h)
+sound State.Apart h = refl
+sound State.Failing h = refl
+sound State.Aborting h = refl
+sound State.Halted h = refl
+sound State.Done h = refl
+
+no_sent : (c : Client) (l : List Planned) (number : Option ℕ) → is_faulted c.state ≡ false → is_faulted (sends_next c l number).client.state ≡ true
+    → (sends_next c l number).lines ≡ []
+no_sent c [] number sound faulted = refl
+no_sent c (p ∷ ps) None sound faulted = refl
+no_sent c (p ∷ ps) (Some n) sound faulted = absurd (false≢true (sym sound ∙ faulted))
+
+-- a client that is Faulted by a command writes none
+pub spent : (e f : ClientEnd) (t : Talk) → possible Send e ≡ true → f ≡ end_sent e → is_faulted f.client.state ≡ true → t ≡ noted_by Send e t
+spent e f t can is faulted = quiet (possible Send e) t (client_sent e.client).lines (λ may. no_sent e.client e.client.table.tally.unsent
+    (next_number Std e.client.table.standard e.client.drawn)
+    (sound e.client.state (first_true _ _ (some_if (is_running e.client.state && not (is_asking e.client.table.standard))
+    (first_due e.client.window (count_open e.client.table.standard) e.client.table.tally.unsent) can)))
+    (sym (ap (λ (x : ClientEnd). is_faulted x.client.state) is) ∙ faulted))

@@ -6,42 +6,46 @@ use Rattle.std.proofs.lemmas.List.{map-append, take-append-le, take_all}
 use Rattle.contact_ledger.proofs.WrittenTexts.{text_more}
 use Rattle.contact_ledger.specs.ContactTexts.{act_line, contact_lines, contacts_text}
 use Rattle.contact_ledger.specs.Lines.{text_of}
-use Rattle.run_session.specs.Records.{Marks, Origin}
+use Rattle.run_session.specs.Errors.{Talk}
+use Rattle.run_session.specs.Records.{forgets, Marks, Origin, says}
 use Rattle.run_session.proofs.Kept.{call_keeps, numbered_more}
 
 -- a run counts more
-more_counted : {b : Bool} (first : Pair) (ps : List ℕ) (p : Pair) → Ran b first ps p
+more_counted : {b : Bool} (first : Pair) (v : Talk) (ps : List ℕ) (p : Pair) (t : Talk) → Ran b first v ps p t
     → (more : List Act) × (p.end.client.table.tally.counted ≡ first.end.client.table.tally.counted ++ more)
-more_counted first _ _ (begins ps) = ([], sym (append-nil first.end.client.table.tally.counted))
-more_counted first _ _ (calls ps p call r is free) =
-    let before = more_counted first ps p r in
+more_counted first v _ _ _ (begins ps) = ([], sym (append-nil first.end.client.table.tally.counted))
+more_counted first v _ _ _ (calls ps p t u call r is free talks) =
+    let before = more_counted first v ps p t r in
     let now = (call_keeps call p.end is).grows in (
       before.0 ++ now.more,
       now.acts ∙ (ap (λ (l : List Act). l ++ now.more) before.1 ∙ append_assoc first.end.client.table.tally.counted before.0 now.more),
     )
-more_counted first _ _ (tells ps p lacks notes r said) = more_counted first ps p r
-more_counted first _ _ (confirms n ps p r counted) = more_counted first (n ∷ ps) p r
+more_counted first v _ _ _ (tells ps p t u lacks errors r records lines) = more_counted first v ps p t r
+more_counted first v _ _ _ (says ps p t said r can other) = more_counted first v ps p t r
+more_counted first v _ _ _ (forgets ps p t u r lost) = more_counted first v ps p t r
+more_counted first v _ _ _ (confirms n ps p t r counted) = more_counted first v (n ∷ ps) p t r
 
 within : (k : ℕ) (xs ys zs : List Act) → zs ≡ xs ++ ys → k ≤ length xs → k ≤ length zs
 within k xs ys zs is few = let long = ap (λ (l : List Act). length l) is ∙ length-append xs ys in omega (arith, long, few)
 
-pub stays_reported : {b : Bool} (before : List (ℕ × Act)) (qs : List ℕ) (p q : Pair) (r : Reports) → Ran b p qs q → HasReported before p r
-    → HasReported before q r
-stays_reported before qs p q r ran has =
-    let now = more_counted p qs q ran in (
+pub stays_reported : {b : Bool} (before : List (ℕ × Act)) (qs : List ℕ) (p q : Pair) (v u : Talk) (r : Reports) → Ran b p v qs q u
+    → HasReported before p r → HasReported before q r
+stays_reported before qs p q v u r ran has =
+    let now = more_counted p v qs q u ran in (
       within r.told p.end.client.table.tally.counted now.0 q.end.client.table.tally.counted now.1 has.0,
       has.1 ∙ ap (λ (l : List Act). contacts_text (before ++ numbered r.number l))
           (sym (take-append-le r.told p.end.client.table.tally.counted now.0 has.0) ∙ ap (λ (l : List Act). take r.told l) (sym now.1)),
     )
 
 -- a client and its record that are later ones than those that a session was opened with, while nothing is reported
-pub keeps_by : (v s : State) (qs : List ℕ) (q : Pair) → v ≡ s → ((b : Bool) (first : Pair) → Ran b first v.book.pauses v.pair → Ran b first qs q)
-    → (w : Origin) → IsRunOf w s → IsRun w qs q v.reports
-keeps_by v s qs q is moves w run =
+pub keeps_by : (v s : State) (qs : List ℕ) (q : Pair) (u : Talk) → v ≡ s
+    → ((b : Bool) (first : Pair) (begun : Talk) → Ran b first begun v.book.pauses v.pair v.talk → Ran b first begun qs q u)
+    → (w : Origin) → IsRunOf w s → IsRun w qs q u v.reports
+keeps_by v s qs q u is moves w run =
     let at : IsRunOf w v = subst (λ (x : State). IsRunOf w x) (sym is) run in
     record {
-      ran = moves w.aborts w.first at.ran;
-      reported = stays_reported w.before qs v.pair q v.reports (moves w.aborts v.pair (begins v.book.pauses)) at.reported;
+      ran = moves w.aborts w.first w.begun at.ran;
+      reported = stays_reported w.before qs v.pair q v.talk u v.reports (moves w.aborts v.pair v.talk (begins v.book.pauses)) at.reported;
       same = at.same;
     }
 
@@ -86,7 +90,7 @@ pub tells_reports : {A E : Type 0} (r : Result A E) (v s : State) (text : List �
     → OnOk r (text ≡ v.reports.text ++ new_reports v.reports v.pair.end.client.table.tally.counted)
     → OnOk r (told ≡ length v.pair.end.client.table.tally.counted) → OnErr r (text ≡ v.reports.text) → OnErr r (told ≡ v.reports.told)
     → k ≡ v.reports.marks → (w : Origin) → IsRunOf w s
-    → IsRun w v.book.pauses v.pair (record (v.reports) { text = text; told = told; marks = k })
+    → IsRun w v.book.pauses v.pair v.talk (record (v.reports) { text = text; told = told; marks = k })
 tells_reports r v s text told k is more all same none marks w run =
     let at : IsRunOf w v = subst (λ (x : State). IsRunOf w x) (sym is) run in
     record { ran = at.ran; reported = either r more all same none at.reported; same = marks ∙ at.same }

@@ -1,6 +1,6 @@
 -- What an answer that stops the run, or any other, makes of the client.
 use Rattle.run_session.proofs.Names.{◌∙◌, ◌≡◌, ◌⊎◌, Abort, ap, begins, behind_call, Bool, calls, ClientEnd, done_by, Err, false, GoesOn, IfErr, inl, inr}
-use Rattle.run_session.proofs.Names.{cond, HasReported, Ran, false≢true, IsKept, IsRun, Option, IsRunOf, Keeps, Leave, List, None, of_file, Ok, OnErr, OnOk, Outside, Pair, possible, refl, Reply}
+use Rattle.run_session.proofs.Names.{cond, HasReported, Ran, Reports, false≢true, IsKept, IsRun, Option, IsRunOf, Keeps, Leave, List, None, of_file, Ok, OnErr, OnOk, Outside, Pair, possible, refl, Reply}
 use Rattle.run_session.proofs.Names.{Result, Stage, State, subst, sym, true, writes, Act, ℕ}
 use Rattle.std.specs.Prelude.{is_err}
 use Rattle.run_session.specs.Records.{answered, is_stop, IsLater, IsShort, left, Origin, stopped, Stops, StopsOn, Write}
@@ -8,6 +8,9 @@ use Rattle.run_session.proofs.Filing.{by_write, moved}
 use Rattle.client_core.specs.Refusals.{IsSendRefused}
 use Rattle.client_core.specs.declared.faults.ClientFault.{ClientFault}
 use Rattle.run_session.proofs.Reporting.{stays_reported}
+use Rattle.run_session.specs.Errors.{Talk, noted_by, with_written}
+use Rattle.protocol_model.specs.Client.{client_aborted, may_abort}
+use Rattle.run_session.specs.Records.{forgets}
 
 -- ---- later ones
 
@@ -23,7 +26,7 @@ left_later : (x m t : State) → IsLater x m → Keeps (left m) t → IsLater x 
 left_later x m t is keeps = λ w run.
     let at = is w run in
     let now = keeps (record w { marks = m.reports.marks })
-    (record { ran = calls m.book.pauses m.pair Leave at.ran tt tt; reported = at.reported; same = refl }) in
+    (record { ran = calls m.book.pauses m.pair m.talk m.talk Leave at.ran tt tt refl; reported = at.reported; same = refl }) in
     record { ran = now.ran; reported = now.reported; same = refl }
 
 -- ---- an answer
@@ -56,6 +59,19 @@ pub ran_on : {A E : Type 0} (r : Result A E) (v s m t : State) → v ≡ s → K
 ran_on (Ok a) v s m t is first more = λ w run. more w (first w (subst (λ (x : State). IsRunOf w (stopped true x)) (sym is) run))
 ran_on (Err e) v s m t is first more = tt
 
+-- it is in a state in which it cannot abort
+pub ran_same : {A E : Type 0} (r : Result A E) (v s t : State) → v ≡ s → may_abort v.pair.end.client.state ≡ false → Keeps v t
+    → OnOk r (Keeps (stopped true s) t)
+ran_same (Ok a) v s t is cannot keeps = λ w run. keeps w (subst (λ (x : State). IsRunOf w x) (unstopped v cannot)
+    (subst (λ (x : State). IsRunOf w (stopped true x)) (sym is) run))
+  where
+    unstopped : (s : State) → may_abort s.pair.end.client.state ≡ false → stopped true s ≡ s
+    unstopped s never = ap (λ (b : Bool). record s {
+      pair = record (s.pair) { end = cond b (done_by Abort s.pair.end) s.pair.end };
+      talk = record (s.talk) { sent = cond b (with_written s.talk.sent (client_aborted s.pair.end.client).lines) s.talk.sent };
+    }) never
+ran_same (Err e) v s t is cannot keeps = tt
+
 pub ran_short : {A E : Type 0} (r : Result A E) (v s m t : State) → v ≡ s → Keeps (stopped true v) m → Keeps m t → OnErr r (IsShort true s t)
 ran_short (Ok a) v s m t is first more = tt
 ran_short (Err e) v s m t is first more = inl (λ w run. more w (first w (subst (λ (x : State). IsRunOf w (stopped true x)) (sym is) run)))
@@ -68,10 +84,11 @@ is_short (Err e) v s t is short = subst (λ (x : State). IsShort true x t) is sh
 kept_stopped : (b : Bool) (first : Pair) (before : List (ℕ × Act)) (s : State) (o : Outside) → IsKept first before s o → IsKept first before (stopped b s) o
 kept_stopped false first before s o k = k
 kept_stopped true first before s o k = record {
+  begun = k.begun;
   ran = record {
-    ran = calls s.book.pauses s.pair Abort k.ran.ran tt refl;
-    reported = stays_reported {b = true} before s.book.pauses s.pair (stopped true s).pair s.reports
-        (calls s.book.pauses s.pair Abort (begins s.book.pauses) tt refl) k.ran.reported;
+    ran = calls s.book.pauses s.pair s.talk (stopped true s).talk Abort k.ran.ran tt refl refl;
+    reported = stays_reported {b = true} before s.book.pauses s.pair (stopped true s).pair s.talk (stopped true s).talk s.reports
+        (calls s.book.pauses s.pair s.talk (stopped true s).talk Abort (begins s.book.pauses) tt refl refl) k.ran.reported;
     same = k.ran.same;
   };
   front = k.front;
@@ -104,14 +121,6 @@ runs_go r b v s t reply is quiet ran short same = go r ran short
 
 -- ---- the client aborts
 
-pub on_ok : {A E : Type 0} (r : Result A E) {P : Type 0} → P → OnOk r P
-on_ok (Ok a) h = h
-on_ok (Err e) h = tt
-
-pub on_err : {A E : Type 0} (r : Result A E) {P : Type 0} → P → OnErr r P
-on_err (Ok a) h = tt
-on_err (Err e) h = h
-
 -- what its call leaves of it
 abbrev pub Aborted : {A : Type 0} → Result A ClientFault → ClientEnd → ClientEnd → Type 0
 Aborted (Ok a) e f = f ≡ behind_call Abort e
@@ -136,15 +145,37 @@ aborted (Err (ClientFault.Faulted cause)) e f done can (inr refused) = made (pos
 aborted (Err ClientFault.Memory) e f done can refused = refused
 
 pub aborted_keeps : (v s : State) (f : ClientEnd) → v ≡ s → f ≡ behind_call Abort v.pair.end → (w : Origin) → IsRunOf w (stopped true s)
-    → IsRun w v.book.pauses (record { end = f; recording = v.pair.recording }) v.reports
+    → IsRun w v.book.pauses (record { end = f; recording = v.pair.recording }) (noted_by Abort v.pair.end v.talk) v.reports
 aborted_keeps v s f is made w run =
-    subst (λ (x : ClientEnd). IsRun w v.book.pauses (record { end = x; recording = v.pair.recording }) v.reports) (sym made)
+    subst (λ (x : ClientEnd). IsRun w v.book.pauses (record { end = x; recording = v.pair.recording }) (noted_by Abort v.pair.end v.talk) v.reports) (sym made)
     (subst (λ (x : State). IsRunOf w (stopped true x)) (sym is) run)
+
+-- what is noted of it, or not
+pub noted_keeps : (w : Origin) (n t : State) (u : Talk) → t ≡ n → n.talk ≡ u → IsRun w n.book.pauses n.pair u n.reports → IsRunOf w t
+noted_keeps w n t u same is run = subst (λ (x : State). IsRunOf w x) (sym same)
+    (subst (λ (x : Talk). IsRun w n.book.pauses n.pair x n.reports) (sym is) run)
+
+pub forgot_keeps : (w : Origin) (n t : State) (u : Talk) → t ≡ n → n.talk.lost ≡ true → IsRun w n.book.pauses n.pair u n.reports → IsRunOf w t
+forgot_keeps w n t u same lost run = subst (λ (x : State). IsRunOf w x) (sym same)
+    (record { ran = forgets n.book.pauses n.pair u n.talk run.ran lost; reported = run.reported; same = run.same })
+
+pub aborted_noted : {A E : Type 0} (r : Result A E) (s n t : State) (u : Talk) → t ≡ n → OnOk r (n.talk ≡ u)
+    → ((w : Origin) → IsRunOf w (stopped true s) → IsRun w n.book.pauses n.pair u n.reports) → OnOk r (Keeps (stopped true s) t)
+aborted_noted (Ok a) s n t u same is keeps = λ w run. noted_keeps w n t u same is (keeps w run)
+aborted_noted (Err e) s n t u same is keeps = tt
+
+pub aborted_short : {A E : Type 0} (r : Result A E) (s n t : State) (u : Talk) → t ≡ n → OnErr r (n.talk.lost ≡ true)
+    → ((w : Origin) → IsRunOf w (stopped true s) → IsRun w n.book.pauses n.pair u n.reports) → OnErr r (IsShort true s t)
+aborted_short (Ok a) s n t u same lost keeps = tt
+aborted_short (Err e) s n t u same lost keeps = inl (λ w run. forgot_keeps w n t u same lost (keeps w run))
+
+pub same_talk : (w : Origin) (ps : List ℕ) (p : Pair) (t u : Talk) (r : Reports) → t ≡ u → IsRun w ps p u r → IsRun w ps p t r
+same_talk w ps p t u r is run = subst (λ (x : Talk). IsRun w ps p x r) (sym is) run
 
 -- ---- what that says
 
-pub calm : (before : List (ℕ × Act)) (s t : State) → HasReported before s.pair s.reports → IsLater s t → Ran false s.pair t.book.pauses t.pair
-calm before s t has is = (is (record { aborts = false; first = s.pair; before = before; marks = s.reports.marks })
+pub calm : (before : List (ℕ × Act)) (s t : State) → HasReported before s.pair s.reports → IsLater s t → Ran false s.pair s.talk t.book.pauses t.pair t.talk
+calm before s t has is = (is (record { aborts = false; first = s.pair; begun = s.talk; before = before; marks = s.reports.marks })
     (record { ran = begins s.book.pauses; reported = has; same = refl })).ran
 
 pub with_memory : (b : Bool) (s t : State) (reply : Reply) → is_stop s.stage reply ≡ b → t.book.spent ≡ false → Stops s reply t → IsLater (stopped b s) t
@@ -154,7 +185,7 @@ with_memory b s t reply at enough (inr is) = absurd (false≢true (sym enough �
 -- ---- memory runs out
 
 pub keeps_left : (s t : State) → Keeps (left s) t → Keeps s t
-keeps_left s t keeps = λ w run. keeps w (record { ran = calls s.book.pauses s.pair Leave run.ran tt tt; reported = run.reported; same = run.same })
+keeps_left s t keeps = λ w run. keeps w (record { ran = calls s.book.pauses s.pair s.talk s.talk Leave run.ran tt tt refl; reported = run.reported; same = run.same })
 
 pub left_stops : {A E : Type 0} (r : Result A E) (s m t : State) (reply : Reply) → StopsOn r s reply m → Keeps (left m) t → t.book.spent ≡ true
     → Stops s reply t

@@ -1,12 +1,11 @@
 -- Which touch of which feature a touch is.
-use Rattle.run_session.proofs.Names.{[], ◌++◌, ◌+◌, ◌-◌, ◌<◌, ◌∙◌, ◌∷◌, ◌≡◌, ◌≤◌, ◌⊎◌, ap, arith, Bool, codes, cond, drop, false, get_or, inl, inr, length, List, map, refl}
-use Rattle.run_session.proofs.Names.{subst, suc, sym, take, true, zero, ℕ}
+use Rattle.run_session.proofs.Names.{[], ◌++◌, ◌+◌, ◌-◌, ◌<◌, ◌∙◌, ◌∷◌, ◌≡◌, ◌≤◌, ap, arith, Bool, codes, cond, drop, false, get_or, inl, inr, length, List, map, refl}
+use Rattle.run_session.proofs.Names.{suc, sym, take, true, zero, ℕ}
 use Rattle.std.proofs.lemmas.Bool.Decides.{nat_tests}
-use Rattle.std.proofs.lemmas.List.{drop_all}
 use Rattle.std.proofs.lemmas.List.Sums.{sum_by-cons}
 use Rattle.std.specs.Fmt.{decimal}
 use Rattle.std.specs.List.{sum}
-use Rattle.std.specs.Prelude.{nat_lt}
+use Rattle.std.specs.Prelude.{min, nat_lt}
 use Rattle.dmis_program.specs.declared.features.Wanted.{Wanted}
 use Rattle.run_session.specs.Errors.{touch_named, touch_of, touch_text}
 use Rattle.session_telling.specs.Places.{IsBeyond, IsPlace}
@@ -19,9 +18,12 @@ counts fs = map (λ f. length f.touches) fs
 one_more : (x : ℕ) (xs : List ℕ) → sum (x ∷ xs) ≡ x + sum xs
 one_more x xs = sum_by-cons (λ y. y) x xs
 
--- beyond the last
-pub none_left : (fs : List Wanted) (n : ℕ) → length fs < n → [] ≡ drop n fs
-none_left fs n far = sym (drop_all n fs (omega (arith, far)))
+-- what is left after the first of a list, or after all of it
+pub drop_min : (n : ℕ) (fs : List Wanted) → drop (min n (length fs)) fs ≡ drop n fs
+drop_min zero fs = let first : min zero (length fs) ≡ zero = omega arith in ap (λ (k : ℕ). drop k fs) first
+drop_min (suc n) [] = let first : min (suc n) 0 ≡ zero = omega arith in ap (λ (k : ℕ). drop {A = Wanted} k []) first
+drop_min (suc n) (f ∷ fs) =
+    let more : min (suc n) (length (f ∷ fs)) ≡ suc (min n (length fs)) = omega arith in ap (λ (k : ℕ). drop k (f ∷ fs)) more ∙ drop_min n fs
 
 before : (a b : ℕ) → nat_lt a b ≡ true → a < b
 before a b h = grind (arith, nat_tests)

@@ -1,13 +1,13 @@
 -- What is shown of the errors of a server, and kept of them for the record (this profile).
-use Rattle.std.specs.Prelude.{◌≡◌, ℕ, zero, suc, ◌-◌, List, [], ◌∷◌, ◌++◌, Option, Some, None, if◌then◌else◌, nat_lt, map, length, drop, codes, decimal}
+use Rattle.std.specs.Prelude.{◌≡◌, ℕ, zero, suc, ◌-◌, List, [], ◌∷◌, ◌++◌, Option, Some, None, Bool, false, true, if◌then◌else◌, nat_lt, map, length, drop, codes, decimal}
 use Rattle.std.specs.List.{flat_map}
-use Rattle.client_core.specs.Calls.{Call, Abort, Send, possible}
+use Rattle.client_core.specs.Calls.{Call, Abort, Connected, Feed, Leave, ReadOne, Restart, Resume, Send, Sent as Taken, possible}
 use Rattle.dme_line.specs.Kinds.{kind_name, kind_of}
 use Rattle.dme_line.specs.Tags.{written_tag}
 use Rattle.dme_line.specs.declared.commands.Kind.{Kind}
 use Rattle.dme_line.specs.declared.commands.Kind.TheVariants.{PtMeas}
 use Rattle.dmis_program.specs.declared.features.Wanted.{Wanted}
-use Rattle.protocol_model.specs.Client.{Client, client_aborted, client_sent}
+use Rattle.protocol_model.specs.Client.{client_aborted, client_sent}
 use Rattle.protocol_model.specs.Ends.{ClientEnd}
 use Rattle.protocol_model.specs.declared.lines.Line.{Line}
 use Rattle.session_telling.specs.Dialogues.{AllReport, AreCut, Reported}
@@ -17,33 +17,30 @@ use Rattle.session_telling.specs.Visible.{visible}
 use Rattle.session_telling.specs.declared.sessions.Sent.{Sent}
 
 -- what is known of a connection when errors come: how many features of the program were complete before, and the line of each command that
--- carries out a statement; the commands that were written, in order; what has come of a line that has not ended; and the errors that were
--- shown, and are to go into the record
+-- carries out a statement; the commands that were written, in order; what has come of a line that has not ended; the errors that were shown,
+-- and are to go into the record; and whether memory has run out for one of these
 pub record Talk : Type 0 where
   pub kept : ℕ
   pub lines : List (Option ℕ)
   pub sent : List Sent
   pub hearing : List ℕ
   pub errors : List (List ℕ)
+  pub lost : Bool
 
 -- before anything is written or comes
 abbrev pub new_talk : ℕ → List (Option ℕ) → Talk
-new_talk kept lines = record { kept = kept; lines = lines; sent = []; hearing = []; errors = [] }
+new_talk kept lines = record { kept = kept; lines = lines; sent = []; hearing = []; errors = []; lost = false }
 
 -- the commands with those of lines that are written
 abbrev pub with_written : List Sent → List Line → List Sent
 with_written sent [] = sent
 with_written sent (l ∷ ls) = with_written (with_command sent l.tag (kind_of l.command)) ls
 
--- the lines that a call of a client writes
-abbrev pub lines_by : Call → Client → List Line
-lines_by Send c = (client_sent c).lines
-lines_by Abort c = (client_aborted c).lines
-lines_by call c = []
-
--- a call that is possible writes its lines
-abbrev pub talk_by : Call → ClientEnd → Talk → Talk
-talk_by call e t = record t { sent = if possible call e then with_written t.sent (lines_by call e.client) else t.sent }
+-- what a call of a client that writes leaves of it, if it is possible
+abbrev pub noted_by : Call → ClientEnd → Talk → Talk
+noted_by Send e t = record t { sent = if possible Send e then with_written t.sent (client_sent e.client).lines else t.sent }
+noted_by Abort e t = record t { sent = if possible Abort e then with_written t.sent (client_aborted e.client).lines else t.sent }
+noted_by call e t = t
 
 -- a touch of a feature, counted from 1
 abbrev pub touch_named : List ℕ → ℕ → List ℕ
@@ -105,3 +102,20 @@ pub record Hears (program : List Wanted) (bytes : List ℕ) (old new : Talk) (be
   pub shown : after ≡ before ++ flat_map (error_line (drop old.kept program) old.lines) reports
   pub kept : new.errors ≡ old.errors ++ map error_kept reports
   pub same : new ≡ record old { hearing = new.hearing; errors = new.errors }
+
+-- what a call of a client leaves of it: what the client writes is noted, and what it is fed is heard
+abbrev pub Follows : Call → ClientEnd → Talk → Talk → Type 0
+Follows Send e t u = u ≡ noted_by Send e t
+Follows Abort e t u = u ≡ noted_by Abort e t
+Follows (Feed bytes) e t u = (before after : List ℕ) × Hears e.client.program.features bytes t u before after
+Follows (Connected n) e t u = u ≡ t
+Follows ReadOne e t u = u ≡ t
+Follows Resume e t u = u ≡ t
+Follows Leave e t u = u ≡ t
+Follows (Restart k) e t u = u ≡ t
+Follows (Taken k) e t u = u ≡ t
+
+-- errors for which the record gets lines: all that are to go into it, or none
+pub data Records : List (List ℕ) → Talk → Talk → Type 0 where
+  takes_none : (t : Talk) → Records [] t t
+  takes_all : (t : Talk) → Records t.errors t (record t { errors = [] })

@@ -1,3 +1,4 @@
+pub mod ErrorRows
 pub mod Errors
 pub mod Killed
 pub mod Evidence

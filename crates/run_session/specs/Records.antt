@@ -10,7 +10,7 @@ use Rattle.link_world.specs.Showing.{IsRunCall}
 use Rattle.protocol_model.specs.Ends.{ClientEnd}
 use Rattle.protocol_model.specs.declared.states.State.TheVariants as state
 use Rattle.record_text.specs.Entries.{error_note}
-use Rattle.record_text.specs.Notes.{AreSaid, Says}
+use Rattle.record_text.specs.Notes.{AreSaid, IsNoteText, Says, is_error}
 use Rattle.record_text.specs.Growths.{Growth, with_notes}
 use Rattle.record_laws.specs.Recordings.{Pair, told_unless}
 use Rattle.record_laws.specs.Told.{numbered}
@@ -21,7 +21,8 @@ use Rattle.effects.specs.Effects.{Ask, Byte, Exists, Make, Discard, Begin, Appen
 use Rattle.effects.specs.Effects.{Reply, Done, Bytes, Found, Short}
 use Rattle.order_parts.specs.Ends.{end_shown}
 use Rattle.order_parts.specs.Kept.{IsFeaturesText}
-use Rattle.run_session.specs.Errors.{Talk}
+use Rattle.run_session.specs.Errors as errors
+use Rattle.run_session.specs.Errors.{noted_by, Records, Talk}
 use Rattle.run_session.specs.declared.stages.Stage.{Stage}
 use Rattle.run_session.specs.declared.stages.Stage.TheVariants as stage
 
@@ -40,17 +41,29 @@ IsFree aborts count e Sends = count < length e.client.table.tally.unsent
 IsFree aborts count e Abort = aborts ≡ true
 IsFree aborts count e call = ⊤
 
--- a client on its connection and its record, with the pauses that are to come, from what both were at first: the client makes calls of its own,
--- and sends nothing that is held back; the record gets the lines of what the client has counted, unless memory runs out for them, and those of
--- notes; and a pause ends only once all that stands above it is counted
-pub data Ran (aborts : Bool) (first : Pair) : List ℕ → Pair → Type 0 where
-  begins : (pauses : List ℕ) → Ran aborts first pauses first
-  calls : (pauses : List ℕ) (p : Pair) (call : Call) → Ran aborts first pauses p → IsRunCall call → IsFree aborts (held pauses) p.end call
-      → Ran aborts first pauses (record { end = behind_call call p.end; recording = p.recording })
-  tells : (pauses : List ℕ) (p : Pair) (lacks : Bool) (notes : List Says) → Ran aborts first pauses p → AreSaid notes
-      → Ran aborts first pauses (record { end = p.end; recording = with_notes notes (told_unless lacks p.end p.recording) })
-  confirms : (count : ℕ) (pauses : List ℕ) (p : Pair) → Ran aborts first (count ∷ pauses) p → length p.end.client.table.tally.todo ≤ count
-      → Ran aborts first pauses p
+-- a client on its connection and its record, with the pauses that are to come and what is known of its server's errors, from what they were
+-- at first: the client makes calls of its own, and sends nothing that is held back; what it writes is noted, and what it is fed is heard; the
+-- record gets the lines of what the client has counted, unless memory runs out for them, those of the errors that were heard since, and notes
+-- that are no errors; of errors nothing is known once memory has run out for them; and a pause ends only once all that stands above it is
+-- counted
+pub data Ran (aborts : Bool) (first : Pair) (begun : Talk) : List ℕ → Pair → Talk → Type 0 where
+  begins : (pauses : List ℕ) → Ran aborts first begun pauses first begun
+  calls : (pauses : List ℕ) (p : Pair) (t u : Talk) (call : Call) → Ran aborts first begun pauses p t → IsRunCall call
+      → IsFree aborts (held pauses) p.end call → errors.Follows call p.end t u
+      → Ran aborts first begun pauses (record { end = behind_call call p.end; recording = p.recording }) u
+  tells : (pauses : List ℕ) (p : Pair) (t u : Talk) (lacks : Bool) (errors : List (List ℕ)) → Ran aborts first begun pauses p t
+      → Records errors t u → HaveLines errors
+      → Ran aborts first begun pauses (record {
+        end = p.end;
+        recording = with_notes (map error_note errors) (told_unless lacks p.end p.recording);
+      }) u
+  says : (pauses : List ℕ) (p : Pair) (t : Talk) (said : Says) → Ran aborts first begun pauses p t → IsNoteText said.0 said.1
+      → is_error said.0 ≡ false
+      → Ran aborts first begun pauses (record { end = p.end; recording = with_notes (said ∷ []) p.recording }) t
+  forgets : (pauses : List ℕ) (p : Pair) (t u : Talk) → Ran aborts first begun pauses p t → u.lost ≡ true
+      → Ran aborts first begun pauses p u
+  confirms : (count : ℕ) (pauses : List ℕ) (p : Pair) (t : Talk) → Ran aborts first begun (count ∷ pauses) p t
+      → length p.end.client.table.tally.todo ≤ count → Ran aborts first begun pauses p t
 
 -- what is known of the record's file, and the pauses that are to come
 pub record Book : Type 0 where
@@ -120,16 +133,17 @@ first_reports named lists number before = record {
 pub record Origin : Type 0 where
   pub aborts : Bool  -- whether its client may have aborted since
   pub first : Pair
+  pub begun : Talk
   pub before : List (ℕ × Act)
   pub marks : Marks
 
-pub record IsRun (w : Origin) (pauses : List ℕ) (p : Pair) (r : Reports) : Type 0 where
-  pub ran : Ran w.aborts w.first pauses p
+pub record IsRun (w : Origin) (pauses : List ℕ) (p : Pair) (t : Talk) (r : Reports) : Type 0 where
+  pub ran : Ran w.aborts w.first w.begun pauses p t
   pub reported : HasReported w.before p r
   pub same : r.marks ≡ w.marks
 
 abbrev pub IsRunOf : Origin → State → Type 0
-IsRunOf w s = IsRun w s.book.pauses s.pair s.reports
+IsRunOf w s = IsRun w s.book.pauses s.pair s.talk s.reports
 
 -- both are later so, and nothing else is known of the files
 abbrev pub Keeps : State → State → Type 0
@@ -225,7 +239,9 @@ outcome n s reply o = record (outcome_by n (writes s.stage) (lacking s) reply o)
 pub record IsSafe (first : Pair) (count : ℕ) (safe : List ℕ) : Type 0 where
   pub moment : Pair
   pub pauses : List ℕ
-  pub ran : Ran true first pauses moment
+  pub begun : Talk
+  pub talk : Talk
+  pub ran : Ran true first begun pauses moment talk
   pub rest : List ℕ
   pub text : moment.recording.text ++ rest ≡ safe
   pub features : count ≤ moment.recording.telling.counted.features
@@ -233,7 +249,8 @@ pub record IsSafe (first : Pair) (count : ℕ) (safe : List ℕ) : Type 0 where
 -- what holds before each effect: the client and the record are those of a run that has begun; the file has the first bytes of the record's
 -- text, as many as are known unless it could not be kept; and the features that count as settled are safe
 pub record IsKept (first : Pair) (before : List (ℕ × Act)) (s : State) (o : Outside) : Type 0 where
-  pub ran : IsRunOf (record { aborts = true; first = first; before = before; marks = o.marks }) s
+  pub begun : Talk
+  pub ran : IsRunOf (record { aborts = true; first = first; begun = begun; before = before; marks = o.marks }) s
   pub front : (rest : List ℕ) × (o.file ++ rest ≡ s.pair.recording.text)
   pub filed : s.book.lost ≡ false → length o.file ≡ s.book.filed
   pub within : (rest : List ℕ) × (o.safe ++ rest ≡ o.file)
@@ -284,7 +301,7 @@ is_stop st reply = false
 
 -- a client that is stopped aborts, if it is Running or Failing: in another state that call is not possible, and changes nothing
 abbrev pub stopped : Bool → State → State
-stopped true s = record s { pair = record (s.pair) { end = behind_call Abort s.pair.end } }
+stopped true s = record s { pair = record (s.pair) { end = behind_call Abort s.pair.end }; talk = noted_by Abort s.pair.end s.talk }
 stopped false s = s
 
 -- it leaves its connection

@@ -1,11 +1,12 @@
 // What is shown of the errors of a server: the command that each is about, with its line in the program, its feature and its touch, and
 // the error's text.
 
-ghost use Rattle.std.specs.Prelude.{◌≡◌, ◌∷◌, ◌++◌, ◌-◌, ◌==◌, ℕ, List, [], Some, true, false, map, length, drop, slice_get, IfOk, OnOk, MatchOption, string_bytes};
+ghost use Rattle.std.specs.Prelude.{◌≡◌, ◌∷◌, ◌++◌, ◌-◌, ◌==◌, ◌≤◌, ◌||◌, ℕ, List, [], Some, true, false, map, length, drop, slice_get, IfOk, OnOk, OnErr, MatchOption, string_bytes};
 ghost use Rattle.std.specs.List.{AllByRecursion, list_any};
 ghost use Rattle.dme_line.specs.Kinds.{kind_name};
 ghost use Rattle.dme_line.specs.Tags.{written_tag, IsTag};
 ghost use Rattle.dme_line.specs.declared.tags.Tag.{Tag};
+ghost use Rattle.run_session.specs.Records.{HaveLines};
 ghost use Rattle.session_telling.specs.Sessions.{last_under, with_command};
 ghost use Rattle.run_session.specs.Errors as spec;
 
@@ -32,11 +33,14 @@ pub struct Errors {
     is_within_line: bool,
     /// The errors that were shown since they were taken last, each from its tag on.
     errors: Vec<Vec<u8>>,
+    /// Whether memory has run out for one of these.
+    is_lost: bool,
 }
 
 impl Model for Errors {
     ghost use Rattle.std.specs.Prelude.{◌≡◌, [], map, false};
     ghost use Rattle.run_session.specs.Errors.{Talk};
+    ghost use Rattle.run_session.specs.Records.{HaveLines};
 
     ghost Value = { Talk };
 
@@ -46,9 +50,11 @@ impl Model for Errors {
       sent = e.sent.items;
       hearing = e.dialogue.hearing;
       errors = map (λ x. x.items) e.errors.items;
+      lost = e.is_lost;
     } };
 
-    ghost invariant = { λ e. e.is_within_line ≡ false → e.dialogue.hearing ≡ [] };
+    ghost invariant = { λ e. (e.is_within_line ≡ false → e.dialogue.hearing ≡ [])
+        × HaveLines (map (λ x. x.items) e.errors.items) };
 }
 
 fn ends_line(bytes: &[u8]) -> bool
@@ -71,16 +77,24 @@ fn tag_of(line: &[u8]) -> Option<Tag>
     }
 }
 
+/// What is kept of an error has a line in a record. Does nothing.
+fn has_line(error: &[u8])
+    requires { 1 ≤ length error.now }
+    ensures { HaveLines (error.now ∷ []) }
+{}
+
 /// The text of an error from its tag on.
 fn from_tag(alloc: Global, report: &Report) -> Result<Vec<u8>, AllocError>
     requires { IsTag report.now.tag }
-    ensures { IfOk result (λ text. text.items ≡ spec.error_kept report.now) }
+    ensures text { IfOk result (λ text. text.items ≡ spec.error_kept report.now) }
+    ensures line { IfOk result (λ text. HaveLines (text.items ∷ [])) }
 {
     let mut text = Vec::new(alloc);
     text.reserve(7)?;
     write_received_reserved(&mut text, report.tag());
     text.pop();
     text.extend_from_slice(report.text())?;
+    has_line(text.as_slice());
     Ok(text)
 }
 
@@ -144,7 +158,15 @@ impl Errors {
             dialogue: Dialogue::new(alloc),
             is_within_line: false,
             errors: Vec::new(alloc),
+            is_lost: false,
         }
+    }
+
+    /// If memory has run out, nothing more is known of errors.
+    pub fn lose_if(&mut self, is_short: bool)
+        ensures { self.new ≡ record (self.old) { lost = self.old.lost || is_short } }
+    {
+        self.is_lost = self.is_lost || is_short;
     }
 
     /// A command of this kind was written on this line. Fails only if out of memory.
@@ -152,11 +174,14 @@ impl Errors {
         ensures noted { (tag : Tag) (text : List ℕ) → IsTag tag
             → line.now ≡ written_tag tag ++ (32 ∷ text) → OnOk result
             (self.new ≡ record (self.old) { sent = with_command self.old.sent tag kind }) }
+        ensures lost { OnErr result (self.new.lost ≡ true) }
     {
         let Some(tag) = tag_of(line) else {
             return Ok(());
         };
-        self.push(tag, kind)
+        let pushed = self.push(tag, kind);
+        self.lose_if(pushed.is_err());
+        pushed
     }
 
     fn push(&mut self, tag: Tag, kind: Kind) -> Result<(), AllocError>
@@ -196,17 +221,6 @@ impl Errors {
         self.sent.iter().rev().copied().find(|sent| sent.tag == tag)
     }
 
-    /// The features of a program that were to be measured.
-    #[tactic(auto, using(crate::proofs::Touches::none_left))]
-    fn asked<'a>(&self, program: &'a [Wanted]) -> &'a [Wanted]
-        ensures { result.now ≡ drop self.now.kept program.now }
-    {
-        match program.split_at_checked(self.kept) {
-            Some((_, asked)) => asked,
-            None => &[],
-        }
-    }
-
     /// Which command an error is about.
     fn command(&self, program: &[Wanted], about: Option<Sent>) -> Result<String, AllocError>
         ensures { IfOk result (λ text. string_bytes text ≡ spec.command_text
@@ -219,7 +233,8 @@ impl Errors {
         let Some(line) = line_of(self.lines.as_slice(), sent) else {
             return format!(in self.alloc; "{kind} refused: ");
         };
-        let touch = touch(self.alloc, self.asked(program), sent)?;
+        let (_, asked) = program.split_at(self.kept.min(program.len()));
+        let touch = touch(self.alloc, asked, sent)?;
         format!(in self.alloc; "line {line}{touch}: {kind} refused: ")
     }
 
@@ -231,8 +246,9 @@ impl Errors {
         shown: &mut String,
     ) -> Result<(), AllocError>
         requires { IsTag report.now.tag }
-        ensures { OnOk result (spec.Adds program.now report.now self.old self.new
+        ensures added { OnOk result (spec.Adds program.now report.now self.old self.new
             (string_bytes shown.old) (string_bytes shown.new)) }
+        ensures lost { self.new.lost ≡ self.old.lost }
     {
         let command = self.command(program, self.about(report.tag()))?;
         let text = visible(self.alloc, report.text())?;
@@ -250,8 +266,9 @@ impl Errors {
         shown: &mut String,
     ) -> Result<(), AllocError>
         requires { AllByRecursion (λ r. IsTag r.tag) reports.now }
-        ensures { OnOk result (spec.AddsAll program.now reports.now self.old self.new
+        ensures added { OnOk result (spec.AddsAll program.now reports.now self.old self.new
             (string_bytes shown.old) (string_bytes shown.new)) }
+        ensures lost { self.new.lost ≡ self.old.lost }
     {
         for report in reports {
             self.add(program, report, shown)?;
@@ -266,21 +283,27 @@ impl Errors {
         bytes: &[u8],
         shown: &mut String,
     ) -> Result<(), AllocError>
-        ensures { OnOk result (spec.Hears program.now bytes.now self.old self.new
+        ensures heard { OnOk result (spec.Hears program.now bytes.now self.old self.new
             (string_bytes shown.old) (string_bytes shown.new)) }
+        ensures lost { OnErr result (self.new.lost ≡ true) }
     {
         if self.are_no_errors(bytes) {
             return Ok(());
         }
+        let was_lost = self.is_lost;
+        self.is_lost = true;
         self.is_within_line = true;
         let reports = self.dialogue.hear(self.alloc, bytes)?;
         self.is_within_line = !ends_line(bytes);
-        self.add_all(program, reports.as_slice(), shown)
+        self.add_all(program, reports.as_slice(), shown)?;
+        self.is_lost = was_lost;
+        Ok(())
     }
 
     /// The errors that were shown since this was called last, each from its tag on.
     pub fn take(&mut self) -> Vec<Vec<u8>>
         ensures errors { map (λ e. e.items) result.items ≡ self.old.errors }
+        ensures lines { HaveLines self.old.errors }
         ensures rest { self.new ≡ record (self.old) { errors = [] } }
     {
         std::mem::replace(&mut self.errors, Vec::new(self.alloc))

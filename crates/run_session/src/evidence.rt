@@ -1,6 +1,7 @@
 // What the record notes of the run: who ran it, with what, and when.
 
-ghost use Rattle.std.specs.Prelude.{◌≡◌, ◌∷◌, ◌++◌, [], false, IfOk, OnOk, map, option_map};
+ghost use Rattle.std.specs.Prelude.{◌≡◌, ◌∷◌, ◌++◌, [], true, false, IfOk, OnOk, map, option_map};
+ghost use Rattle.record_text.specs.Notes.{IsNoteText, is_error};
 ghost use Rattle.run_session.specs.Evidence.{dating, due, has_due, leaving, opening};
 ghost use Rattle.run_session.specs.Records as spec;
 
@@ -152,6 +153,14 @@ impl Noting {
     }
 }
 
+/// Whether the record can note this: it is no error of the server, and can be said.
+fn can_note(note: Note, text: &[u8]) -> bool
+    ensures said { result ≡ true → IsNoteText note text.now }
+    ensures other { result ≡ true → is_error note ≡ false }
+{
+    !matches!(note, Note::Refused) && can_say(note, text)
+}
+
 impl Session {
     /// Whether there is something to note, with its time.
     pub(crate) fn has_to_note(&self) -> bool {
@@ -177,7 +186,7 @@ impl Session {
         ensures told { spec.StaysTold self.old self.new }
     {
         let text = noted.text.as_slice();
-        if !can_say(noted.note, text) {
+        if !can_note(noted.note, text) {
             return Ok(());
         }
         self.growth.tell_note(noted.note, text)

@@ -1,6 +1,6 @@
 // Examples: what is asked and what comes of it. Each function has laws for its contract and does nothing.
 
-ghost use Rattle.std.specs.Prelude.{◌≡◌, ℕ, [], ◌∷◌, List, ◌++◌, true, false, length, None, Some};
+ghost use Rattle.std.specs.Prelude.{◌≡◌, ℕ, [], ◌∷◌, List, ◌++◌, true, false, length, None, Some, codes};
 ghost use Rattle.record_text.specs.declared.notes.Note.TheVariants.{Operator, Opened, Dated, Left};
 ghost use Rattle.run_session.specs.Evidence.{due, has_due, noted_open};
 ghost use Rattle.client_core.specs.Calls.{Abort};
@@ -14,6 +14,14 @@ ghost use Rattle.effects.specs.declared.vocabulary.Peer.TheVariants.{Server};
 ghost use Rattle.protocol_model.specs.declared.states.State.TheVariants.{Running, Failing, Aborting, Halted, Done as Completed};
 ghost use Rattle.effects.specs.declared.vocabulary.Growth.TheVariants.{Record, Features, Contacts};
 ghost use Rattle.run_session.specs.Records.{State, Outside, Marks, AsksAt, IsDue, IsDueBy, Unforced, HasTold, HasFollowed, appended, kept, filed_by, lacking, confirms_pause, Reports, HasReported, reported_text, marked_at, is_stop, stopped, IsFree, IsLater, Ran, Stops};
+ghost use Rattle.dme_line.specs.declared.commands.Command.TheVariants.{AbortE as Aborts};
+ghost use Rattle.dme_line.specs.declared.commands.Kind.TheVariants.{AbortE, GoTo, PtMeas};
+ghost use Rattle.dme_line.specs.declared.tags.Tag.TheVariants.{Event, Std};
+ghost use Rattle.dmis_program.specs.declared.features.Touch.{Touch};
+ghost use Rattle.dmis_program.specs.declared.features.Wanted.{Wanted};
+ghost use Rattle.run_session.specs.ErrorRows.{row, two};
+ghost use Rattle.run_session.specs.Errors.{Hears, Records, Talk, error_kept, error_line, new_talk, touch_text, with_about, with_written};
+ghost use Rattle.session_telling.specs.Dialogues.{Reported};
 ghost use Rattle.run_session.specs.declared.stages.Stage.TheVariants.{Checking, Peeking, Recording, Settling, Reporting, ReplacingContacts, Listing, Showing, Sending, Receiving, Awaiting, Returning, Closing, Leaving, Ending, Telling, Exiting};
 
 /// What was added is in the file, and on the device only if it was forced there; of what was not written the file has the first bytes, and
@@ -136,7 +144,7 @@ pub fn stop_rows()
     ensures calm { (e : ClientEnd) → IsFree false 0 e Abort → ⊥ }
     ensures since { (before : List (ℕ × Act)) (s t : State)
         → HasReported before s.pair s.reports → IsLater s t
-        → Ran false s.pair t.book.pauses t.pair }
+        → Ran false s.pair s.talk t.book.pauses t.pair t.talk }
     ensures stop { (s t : State) → s.stage ≡ Checking → t.book.spent ≡ false → Stops s Found t
         → IsLater (stopped true s) t }
     ensures unstopped { (s t : State) → s.stage ≡ Sending → t.book.spent ≡ false
@@ -161,4 +169,42 @@ pub fn note_rows()
     ensures ends { has_due noted_open 2 true ≡ true }
     ensures grows { has_due noted_open 3 false ≡ true }
     ensures nothing { has_due (record noted_open { given = None }) 3 true ≡ false }
+{}
+
+/// What is shown of an error: the command that was written last under its tag, with the line of its statement, and with the feature and the touch
+/// if it is one; its text, each byte as it can be read; and what the record keeps of it. An error is shown if and only if it is kept for the
+/// record, once its line has ended; and the record gets a line of no other.
+pub fn error_rows()
+    ensures touched { (t : Touch) → error_line (two t) (Some 7 ∷ Some 9 ∷ [])
+        (record { tag = Std 5; about = Some (row PtMeas 3 2); text = codes "1 x" })
+        ≡ codes "dme: line 9, B, touch 2: PtMeas refused: 1 x\n" }
+    ensures first { (t : Touch) → touch_text (two t) 1 ≡ codes ", A, touch 1" }
+    ensures beyond { (t : Touch) → touch_text (two t) 4 ≡ [] }
+    ensures moved { (t : Touch) → error_line (two t) (Some 7 ∷ Some 9 ∷ [])
+        (record { tag = Std 5; about = Some (row GoTo 3 1); text = [] })
+        ≡ codes "dme: line 7: GoTo refused: \n" }
+    ensures unlined { error_line [] [] (record { tag = Event 1; about = Some (row AbortE 3 2); text = 7 ∷ [] })
+        ≡ codes "dme: AbortE refused: \\x07\n" }
+    ensures unasked { error_line [] [] (record { tag = Event 0; about = None; text = codes "x" })
+        ≡ codes "dme: the server reports: x\n" }
+    ensures kept { error_kept (record { tag = Std 12; about = None; text = codes "1 x" })
+        ≡ codes "00012 1 x" }
+    ensures event { error_kept (record { tag = Event 12; about = None; text = [] }) ≡ codes "E0012 " }
+    ensures last { (r : Reported) → r.tag ≡ Std 5
+        → (with_about (row GoTo 0 1 ∷ row PtMeas 1 2 ∷ []) r).about ≡ Some (row PtMeas 1 2) }
+    ensures other { (r : Reported) → r.tag ≡ Std 6
+        → (with_about (row GoTo 0 1 ∷ []) r).about ≡ None }
+    ensures written { with_written (row PtMeas 3 2 ∷ []) (record { tag = Std 6; command = Aborts } ∷ [])
+        ≡ row PtMeas 3 2 ∷ record { tag = Std 6; kind = AbortE; touches = 3; tasks = 2 } ∷ [] }
+    ensures heard { Hears [] (codes "00005 ! 1 x\n") (new_talk 0 [])
+        (record (new_talk 0 []) { errors = codes "00005 1 x" ∷ [] })
+        [] (codes "dme: the server reports: 1 x\n") }
+    ensures shown { (fs : List Wanted) (bytes : List ℕ) (t u : Talk) (before after : List ℕ)
+        → Hears fs bytes t u before after → u.errors ≡ t.errors → after ≡ before }
+    ensures unshown { (fs : List Wanted) (bytes : List ℕ) (t u : Talk) (before after : List ℕ)
+        → Hears fs bytes t u before after → after ≡ before → u.errors ≡ t.errors }
+    ensures unended { (fs : List Wanted) (t u : Talk) (before after : List ℕ) → t.hearing ≡ []
+        → Hears fs (codes "00005 ! 1 x") t u before after → after ≡ before }
+    ensures recorded { (t u : Talk) (error : List ℕ) → t.errors ≡ []
+        → Records (error ∷ []) t u → ⊥ }
 {}

@@ -10,33 +10,6 @@ use effects::{Answer, Cause};
 use session_telling::{cause_of, stamped, why_unwritten};
 use std::alloc::AllocError;
 
-fn has_line(error: &[u8]) -> bool
-    ensures { result ≡ true → spec.HaveLines (error.now ∷ []) }
-{
-    !error.is_empty()
-}
-
-fn first_without(errors: &[Vec<u8>]) -> Option<usize>
-    ensures within { IfSome result (λ at. at < length errors.now) }
-    ensures all { IsNone result → spec.HaveLines (map (λ e. e.items) errors.now) }
-{
-    for at in 0..errors.len() {
-        if !has_line(errors[at].as_slice()) {
-            return Some(at);
-        }
-    }
-    None
-}
-
-fn with_lines(mut errors: Vec<Vec<u8>>) -> Vec<Vec<u8>>
-    ensures { spec.HaveLines (map (λ e. e.items) result.items) }
-{
-    while let Some(at) = first_without(errors.as_slice()) {
-        errors.remove(at);
-    }
-    errors
-}
-
 impl Session {
     /// The record gets the lines of what the client has counted since. Fails only if out of memory.
     fn tell_acts(&mut self) -> Result<(), AllocError>
@@ -53,8 +26,10 @@ impl Session {
         ensures book { self.new.book ≡ self.old.book }
         ensures told { spec.HasLines self.old → spec.HasLines self.new }
     {
-        let errors = with_lines(self.errors.take());
-        self.growth.tell_errors(errors.as_slice())
+        let errors = self.errors.take();
+        let told = self.growth.tell_errors(errors.as_slice());
+        self.errors.lose_if(told.is_err());
+        told
     }
 
     /// The file of contacts is to have what the client has counted since. Fails only if out of memory.
@@ -186,6 +161,7 @@ impl Session {
         ensures book { self.new.book ≡ spec.filed self.old }
         ensures pauses { self.new.book.pauses ≡ self.old.book.pauses }
         ensures short { self.new.book.short ≡ self.old.book.short }
+        ensures talk { self.new.talk ≡ self.old.talk }
         ensures reports { self.new.reports ≡ self.old.reports }
         ensures told { spec.StaysTold self.old self.new }
         ensures whole { spec.HasFiled self.new }
@@ -200,6 +176,7 @@ impl Session {
     fn lose_record(&mut self)
         ensures pair { self.new.pair ≡ self.old.pair }
         ensures book { self.new.book ≡ record (self.old.book) { lost = true } }
+        ensures talk { self.new.talk ≡ self.old.talk }
         ensures reports { self.new.reports ≡ self.old.reports }
         ensures told { spec.StaysTold self.old self.new }
         ensures whole { spec.HasFiled self.new }
@@ -333,11 +310,14 @@ impl Session {
         }
     }
 
-    /// The lines of the features up to this one that were not shown.
+    /// The lines of the features up to this one that were not shown, if asked.
     fn feature_lines(&self, count: usize) -> Result<String, AllocError>
         requires { count ≤ spec.complete self.now }
     {
         let mut lines = String::new(self.alloc);
+        if !self.run.progress {
+            return Ok(lines);
+        }
         for at in self.told..count {
             let line = self.feature_line(at)?;
             lines.push_str(line.as_str())?;
@@ -366,10 +346,8 @@ impl Session {
         ensures followed { OnOk result (spec.Follows self.old self.new) }
     {
         let count = self.complete();
-        if self.run.progress {
-            let lines = self.feature_lines(count)?;
-            self.shown.push_str(lines.as_str())?;
-        }
+        let lines = self.feature_lines(count)?;
+        self.shown.push_str(lines.as_str())?;
         self.told = count;
         self.show_texts()?;
         if self.shown.is_empty() {

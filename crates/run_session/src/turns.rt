@@ -1,12 +1,10 @@
 // On the connection: commands are sent, and lines are heard.
 
 ghost use Rattle.std.specs.Prelude.{◌≡◌, ◌<◌, ◌∷◌, ◌++◌, ℕ, List, true, length, drop, OnOk, OnErr, None};
-ghost use Rattle.client_core.specs.Calls.{Abort, Send};
 ghost use Rattle.dme_line.specs.Tags.{written_tag, IsTag};
 ghost use Rattle.dme_line.specs.declared.tags.Tag.{Tag};
 ghost use Rattle.effects.specs.Effects.{the_reply};
 ghost use Rattle.protocol_model.specs.Client.{may_abort};
-ghost use Rattle.run_session.specs.Errors.{talk_by};
 ghost use Rattle.run_session.specs.Records as spec;
 ghost use Rattle.session_telling.specs.Sessions.{with_command};
 
@@ -45,8 +43,6 @@ impl Session {
         ensures book { self.new.book ≡ self.old.book }
         ensures told { spec.StaysTold self.old self.new }
         ensures lacks { spec.lacking self.new ≡ spec.lacking self.old }
-        ensures noted { OnOk result (self.new.talk
-            ≡ talk_by Send self.old.pair.end self.old.talk) }
     {
         let Some(command) = self.client.due() else {
             return Err(ClientFault::NotNow);
@@ -65,6 +61,7 @@ impl Session {
             → OnOk result (self.new.talk ≡ record (self.old.talk) {
               sent = with_command self.old.talk.sent tag kind;
             }) }
+        ensures lost { OnErr result (self.new.talk.lost ≡ true) }
         ensures rest { self.new ≡ record (self.old) { talk = self.new.talk } }
     {
         match self.client.out().split_at_checked(before) {
@@ -80,8 +77,6 @@ impl Session {
         ensures book { self.new.book ≡ self.old.book }
         ensures told { spec.StaysTold self.old self.new }
         ensures lacks { spec.lacking self.new ≡ spec.lacking self.old }
-        ensures noted { OnOk result (self.new.talk
-            ≡ talk_by Abort self.old.pair.end self.old.talk) }
     {
         let before = self.client.out().len();
         match self.client.abort() {
@@ -95,11 +90,16 @@ impl Session {
         }
     }
 
+    /// The client gets bytes of the server, whose errors are to be shown, and to go into the record.
     fn feed(&mut self, bytes: &[u8]) -> Result<(), ClientFault>
         ensures ran { spec.Keeps self.old self.new }
         ensures book { self.new.book ≡ self.old.book }
     {
-        self.client.feed(bytes)
+        let program = self.client.program().features();
+        self.errors.hear(program, bytes, &mut self.shown)?;
+        let fed = self.client.feed(bytes);
+        self.errors.lose_if(fed.is_err());
+        fed
     }
 
     fn read(&mut self) -> Result<bool, ClientFault>
@@ -336,24 +336,15 @@ impl Session {
         Ok(())
     }
 
-    /// Errors of bytes of the server are to be shown, and to go into the record.
-    fn listen(&mut self, bytes: &[u8]) -> Result<(), AllocError>
-        ensures ran { spec.Keeps self.old self.new }
-        ensures rest { self.new ≡ record (self.old) { talk = self.new.talk } }
-    {
-        let program = self.client.program().features();
-        self.errors.hear(program, bytes, &mut self.shown)
-    }
-
     /// Bytes of one line of the server, perhaps its last: its error is to be shown, and the client reads it.
     fn hear(&mut self, line: &[u8]) -> Result<(), AllocError>
         ensures ran { spec.Keeps self.old self.new }
         ensures book { self.new.book ≡ self.old.book }
     {
         self.remember(line)?;
-        self.listen(line)?;
+        let fed = self.feed(line);
         self.go_by(Side::Server, line)?;
-        if let Err(fault) = self.feed(line) {
+        if let Err(fault) = fed {
             return self.refuse_core(fault);
         }
         match self.read() {

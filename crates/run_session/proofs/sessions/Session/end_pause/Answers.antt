@@ -9,6 +9,6 @@ returns-then-uncounted-held-clause-ran c =
     let counted = c.uncounted.ensures in
     let held = c.held.ensures in
     let all : length c.self.inside.client.client.table.tally.todo ≤ held_of c.args.self.now.book.pauses = omega (arith, few, counted, held) in
-    keeps_by _ _ _ _ c.self.view_is (pause_ends c.self.inside.pauses.items c.remove.new.self.items (record { end = c.self.inside.client; recording = c.self.inside.growth })
+    keeps_by _ _ _ _ _ c.self.view_is (pause_ends c.self.inside.pauses.items c.remove.new.self.items (record { end = c.self.inside.client; recording = c.self.inside.growth }) c.self.inside.errors
     c.remove.ensures.by_index.2
     (subst (λ (s : State). length c.self.inside.client.client.table.tally.todo ≤ held_of s.book.pauses) (sym c.self.view_is) all))

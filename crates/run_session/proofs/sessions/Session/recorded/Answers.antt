@@ -7,18 +7,18 @@ pub returns-in-Done-clause-goes : goal.returns-in-Done-clause-goes
 returns-in-Done-clause-goes c = subst (λ (r : Reply). GoesOn c.args.self.now r c.report.new.self) (sym (ap the_reply c.in-Done.is))
     (goes_further c.args.self.now c.file.new.self c.report.new.self Done
     (filed_goes c.args.self.now c.file.new.self c.requires
-    (sym (ap (λ (s : State). s.book.lost) c.self.view_is) ∙ c.if-not-self.true) c.file.ensures.pair c.file.ensures.reports c.file.ensures.book)
+    (sym (ap (λ (s : State). s.book.lost) c.self.view_is) ∙ c.if-not-self.true) (record { pair = c.file.ensures.pair; talk = c.file.ensures.talk; reports = c.file.ensures.reports }) c.file.ensures.book)
     c.report.ensures.ran (ap of_file c.report.ensures.book))
 
 pub returns-in_err-lose-clause-goes : goal.returns-in_err-lose-clause-goes
 returns-in_err-lose-clause-goes c =
     subst (λ (t : State). GoesOn c.args.self.now (the_reply c.args.answer) t) (sym (c.in_err-lose.ensures))
-    (lost_goes c.args.self.now c.lose_record.new.self (the_reply c.args.answer) c.requires c.lose_record.ensures.pair c.lose_record.ensures.reports c.lose_record.ensures.book)
+    (lost_goes c.args.self.now c.lose_record.new.self (the_reply c.args.answer) c.requires (record { pair = c.lose_record.ensures.pair; talk = c.lose_record.ensures.talk; reports = c.lose_record.ensures.reports }) c.lose_record.ensures.book)
 
 pub returns-clause-goes : goal.returns-clause-goes
 returns-clause-goes c = goes_further c.args.self.now c.lose.new.self c.report-2.new.self (the_reply c.args.answer)
     (subst (λ (t : State). GoesOn c.args.self.now (the_reply c.args.answer) t) (sym (c.in_ok-lose.ensures))
-    (lost_goes c.args.self.now c.lose_record.new.self (the_reply c.args.answer) c.requires c.lose_record.ensures.pair c.lose_record.ensures.reports c.lose_record.ensures.book))
+    (lost_goes c.args.self.now c.lose_record.new.self (the_reply c.args.answer) c.requires (record { pair = c.lose_record.ensures.pair; talk = c.lose_record.ensures.talk; reports = c.lose_record.ensures.reports }) c.lose_record.ensures.book))
     c.report-2.ensures.ran (ap of_file c.report-2.ensures.book)
 
 -- what follows once the file is lost
