@@ -7,13 +7,13 @@ use Rattle.run_session.proofs.ClientCalls.{or_false, or_true}
 use Rattle.run_session.specs.Errors.{Talk}
 use Rattle.run_session.specs.Errors.Records.{takes_all, takes_none}
 use Rattle.run_session.specs.Records.{forgets, says}
-use Rattle.run_session.specs.Records.{answered, Grown, is_done, is_record, Listed, marked, marked_at, Origin, Record, Report, Whole, with_marks, Write}
+use Rattle.run_session.specs.Records.{answered, Grown, KeepsNoted, noted_on, is_done, is_record, Listed, marked, marked_at, Origin, Record, Report, Whole, with_marks, Write}
 use Rattle.run_session.proofs.Names.{[], ◌++◌, ◌∙◌, ◌∷◌, ◌≡◌, ◌≤◌, ◌⊎◌, Act, AddsErrors, ap, append-nil, append_assoc, arith, At, begins, Book, Bool}
 use Rattle.run_session.proofs.Names.{Bytes, calls, ClientEnd, cond, confirms, Done, drop, drop-append_seam, End, Err, error_note, Failed, false}
 use Rattle.run_session.proofs.Names.{false≢true, filed, filed_by, Found, GoesOn, Growth, HasReported, HaveLines, inl, inr, IsKept, IsQuiet, IsRun, IsRunOf, IsSafe, Keeps, lacking}
 use Rattle.run_session.proofs.Names.{length, List, Missing, new_lines, None, Nothing, of_file, Ok, OnErr, OnOk, Option, outcome, outcome_by, Outside}
 use Rattle.run_session.proofs.Names.{Pair, Ran, refl, Reply, Reports, Result, Short, Some, Stage, State, subst, suc, sym, take, take-append-drop, tells}
-use Rattle.run_session.proofs.Names.{the_reply, told_now, told_unless, Took, true, is_error, IsNoteText, map, note_lines, Says, with_acts, with_notes, writes, zero, ℕ}
+use Rattle.run_session.proofs.Names.{the_reply, told_now, told_unless, Took, true, map, note_lines, Says, with_acts, with_notes, writes, zero, ℕ}
 
 -- lines are added at the end
 grown_by : (lacks : Bool) (e : ClientEnd) (notes : List Says) (g : Growth)
@@ -24,44 +24,69 @@ grown_by false e notes g =
     let lines : List ℕ = note_lines g.telling.connection notes in
     (acts ++ lines, append_assoc g.text acts lines)
 
-pub grows : {b : Bool} (first : Pair) (v : Talk) (ps : List ℕ) (p : Pair) (t : Talk) → Ran b first v ps p t → (more : List ℕ) × (p.recording.text ≡ first.recording.text ++ more)
-grows first v _ _ _ (begins ps) = ([], sym (append-nil first.recording.text))
-grows first v _ _ _ (calls ps p t u call r run free talks) = grows first v ps p t r
-grows first v _ _ _ (forgets ps p t u r lost) = grows first v ps p t r
-grows first v _ _ _ (confirms n ps p t r counted) = grows first v (n ∷ ps) p t r
-grows first v _ _ _ (says ps p t said r can other) =
-    let before = grows first v ps p t r in
-    let added = grown_by true p.end (said ∷ []) p.recording in
+pub grows : {b : Bool} (first : Pair) (v : Talk) (ns : List Says) (ps : List ℕ) (p : Pair) (t : Talk) → Ran b first v ns ps p t
+    → (more : List ℕ) × (p.recording.text ≡ first.recording.text ++ more)
+grows first v _ _ _ _ (begins ps) = ([], sym (append-nil first.recording.text))
+grows first v _ _ _ _ (calls ns ps p t u call r run free talks) = grows first v ns ps p t r
+grows first v _ _ _ _ (forgets ns ps p t u r lost) = grows first v ns ps p t r
+grows first v _ _ _ _ (confirms ns n ps p t r counted) = grows first v ns (n ∷ ps) p t r
+grows first v _ _ _ _ (says ns ps p t said r can) =
+    let before = grows first v ns ps p t r in
+    let added = grown_by true p.end said p.recording in
     (before.0 ++ added.0, added.1 ∙ (ap (λ (t : List ℕ). t ++ added.0) before.1 ∙ append_assoc first.recording.text before.0 added.0))
-grows first v _ _ _ (tells ps p t u lacks errors r records lines) =
-    let before = grows first v ps p t r in
+grows first v _ _ _ _ (tells ns ps p t u lacks errors r records lines) =
+    let before = grows first v ns ps p t r in
     let added = grown_by lacks p.end (map error_note errors) p.recording in
     (before.0 ++ added.0, added.1 ∙ (ap (λ (t : List ℕ). t ++ added.0) before.1 ∙ append_assoc first.recording.text before.0 added.0))
 
--- the client and the record are later ones, and nothing is written
-pub moved : (first : Pair) (before : List (ℕ × Act)) (s t : State) (o : Outside) → Keeps s t → of_file t.book ≡ of_file s.book
-    → IsKept first before s o → IsKept first before t o
-moved first before s t o keeps same k =
-    let w : Origin = record { aborts = true; first = s.pair; begun = s.talk; before = before; marks = o.marks } in
-    let more = grows s.pair s.talk t.book.pauses t.pair t.talk
+-- the same is known of the file
+pub record IsSameFile (s t : State) : Type 0 where
+  pub lost : t.book.lost ≡ s.book.lost
+  pub filed : t.book.filed ≡ s.book.filed
+  pub settled : t.book.settled ≡ s.book.settled
+
+pub same_file : (s t : State) → of_file t.book ≡ of_file s.book → IsSameFile s t
+same_file s t same = record {
+  lost = ap (λ (b : Book). b.lost) same;
+  filed = ap (λ (b : Book). b.filed) same;
+  settled = ap (λ (b : Book). b.settled) same;
+}
+
+-- the client and the record are later ones, with this noted, and nothing is written
+pub moved_noted : (said : List Says) (first : Pair) (before : List (ℕ × Act)) (s t : State) (o : Outside) → KeepsNoted said s t
+    → IsSameFile s t → IsKept first before s o → IsKept first before t o
+moved_noted said first before s t o keeps same k =
+    let w : Origin = record { aborts = true; first = s.pair; begun = s.talk; noted = []; before = before; marks = o.marks } in
+    let more = grows s.pair s.talk (noted_on said []) t.book.pauses t.pair t.talk
     (keeps w (record { ran = begins s.book.pauses; reported = k.ran.reported; same = k.ran.same })).ran in
     record {
       begun = k.begun;
-      ran = keeps (record { aborts = true; first = first; begun = k.begun; before = before; marks = o.marks }) k.ran;
+      noted = noted_on said k.noted;
+      ran = keeps (record { aborts = true; first = first; begun = k.begun; noted = k.noted; before = before; marks = o.marks }) k.ran;
       front = (
         k.front.0 ++ more.0,
         sym (append_assoc o.file k.front.0 more.0)
             ∙ (ap (λ (x : List ℕ). x ++ more.0) k.front.1 ∙ sym more.1),
       );
-      filed = λ l. k.filed (sym (ap (λ (b : Book). b.lost) same) ∙ l) ∙ sym (ap (λ (b : Book). b.filed) same);
+      filed = λ l. k.filed (sym same.lost ∙ l) ∙ sym same.filed;
       within = k.within;
-      safe = subst (λ (b : Book). IsSafe first b.settled o.safe) (sym same) k.safe;
+      safe = subst (λ (n : ℕ). IsSafe first n o.safe) (sym same.settled) k.safe;
     }
+
+pub moved : (first : Pair) (before : List (ℕ × Act)) (s t : State) (o : Outside) → Keeps s t → of_file t.book ≡ of_file s.book
+    → IsKept first before s o → IsKept first before t o
+moved first before s t o keeps same k = moved_noted [] first before s t o
+    (λ w run. let now = keeps w run in record { ran = now.ran; reported = now.reported; same = now.same }) (same_file s t same) k
 
 -- what is outside after an answer at a stage that writes this
 abbrev pub by_write : Option Write → ℕ → State → Reply → Outside → Outside
 by_write w n s reply o =
     record (outcome_by n w (lacking s) reply o) { marks = marked w (is_done reply) s o.marks }
+
+pub noting_on : (said : List Says) (s t : State) (reply : Reply) → writes s.stage ≡ None → KeepsNoted said s t → IsSameFile s t
+    → GoesOn s reply t
+noting_on said s t reply quiet keeps same = λ first before o n k.
+    subst (λ (w : Option Write). IsKept first before t (by_write w n s reply o)) (sym quiet) (moved_noted said first before s t o keeps same k)
 
 pub moved_on : (s t : State) (reply : Reply) → writes s.stage ≡ None → Keeps s t → of_file t.book ≡ of_file s.book → GoesOn s reply t
 moved_on s t reply quiet keeps same = λ first before o n k.
@@ -140,7 +165,8 @@ pub filed_on : (s t : State) (forced : Bool) → writes s.stage ≡ Some (Record
 filed_on s t false w sound same book = λ first before o n k.
     subst (λ (x : Option Write). IsKept first before t (by_write x n s Done o)) (sym w) (record {
       begun = k.begun;
-      ran = same_ran (record { aborts = true; first = first; begun = k.begun; before = before; marks = o.marks }) s t same (ap (λ (b : Book). b.pauses) (book ∙ ap (λ (x : Option Write). filed_by x s) w)) k.ran;
+      noted = k.noted;
+      ran = same_ran (record { aborts = true; first = first; begun = k.begun; noted = k.noted; before = before; marks = o.marks }) s t same (ap (λ (b : Book). b.pauses) (book ∙ ap (λ (x : Option Write). filed_by x s) w)) k.ran;
       front = ([], (filed_file first before s t o sound same.pair k).0);
       filed = λ l. (filed_file first before s t o sound same.pair k).1
           ∙ sym (ap (λ (b : Book). b.filed) (book ∙ ap (λ (x : Option Write). filed_by x s) w));
@@ -150,7 +176,8 @@ filed_on s t false w sound same book = λ first before o n k.
 filed_on s t true w sound same book = λ first before o n k.
     subst (λ (x : Option Write). IsKept first before t (by_write x n s Done o)) (sym w) (record {
       begun = k.begun;
-      ran = same_ran (record { aborts = true; first = first; begun = k.begun; before = before; marks = o.marks }) s t same (ap (λ (b : Book). b.pauses) (book ∙ ap (λ (x : Option Write). filed_by x s) w)) k.ran;
+      noted = k.noted;
+      ran = same_ran (record { aborts = true; first = first; begun = k.begun; noted = k.noted; before = before; marks = o.marks }) s t same (ap (λ (b : Book). b.pauses) (book ∙ ap (λ (x : Option Write). filed_by x s) w)) k.ran;
       front = ([], (filed_file first before s t o sound same.pair k).0);
       filed = λ l. (filed_file first before s t o sound same.pair k).1
           ∙ sym (ap (λ (b : Book). b.filed) (book ∙ ap (λ (x : Option Write). filed_by x s) w));
@@ -158,6 +185,7 @@ filed_on s t true w sound same book = λ first before o n k.
       safe = subst (λ (b : Book). IsSafe first b.settled (o.file ++ lacking s))
           (sym (book ∙ ap (λ (x : Option Write). filed_by x s) w)) (record {
             moment = s.pair;
+            noted = k.noted;
             pauses = s.book.pauses;
             begun = k.begun;
             talk = s.talk;
@@ -183,6 +211,7 @@ some_of first before s o n k =
 safe_more : (first : Pair) (count : ℕ) (safe more : List ℕ) → IsSafe first count safe → IsSafe first count (safe ++ more)
 safe_more first count safe more h = record {
   moment = h.moment;
+  noted = h.noted;
   pauses = h.pauses;
   begun = h.begun;
   talk = h.talk;
@@ -192,13 +221,14 @@ safe_more first count safe more h = record {
   features = h.features;
 }
 
-lost_kept : (first : Pair) (begun : Talk) (before : List (ℕ × Act)) (s t : State) (p : Outside)
-    → IsRunOf (record { aborts = true; first = first; begun = begun; before = before; marks = p.marks }) s → IsSame s t → t.book ≡ record (s.book) { lost = true }
+lost_kept : (first : Pair) (begun : Talk) (noted : List Says) (before : List (ℕ × Act)) (s t : State) (p : Outside)
+    → IsRunOf (record { aborts = true; first = first; begun = begun; noted = noted; before = before; marks = p.marks }) s → IsSame s t → t.book ≡ record (s.book) { lost = true }
     → (rest : List ℕ) × (p.file ++ rest ≡ s.pair.recording.text) → (rest : List ℕ) × (p.safe ++ rest ≡ p.file)
     → IsSafe first s.book.settled p.safe → IsKept first before t p
-lost_kept first begun before s t p ran same book front within safe = record {
+lost_kept first begun noted before s t p ran same book front within safe = record {
   begun = begun;
-  ran = same_ran (record { aborts = true; first = first; begun = begun; before = before; marks = p.marks }) s t same (ap (λ (b : Book). b.pauses) book) ran;
+  noted = noted;
+  ran = same_ran (record { aborts = true; first = first; begun = begun; noted = noted; before = before; marks = p.marks }) s t same (ap (λ (b : Book). b.pauses) book) ran;
   front = (front.0, front.1 ∙ ap (λ (x : Pair). x.recording.text) (sym same.pair));
   filed = λ l. absurd (false≢true (sym l ∙ ap (λ (b : Book). b.lost) book));
   within = within;
@@ -209,47 +239,47 @@ lost_kept first begun before s t p ran same book front within safe = record {
 lost_on : (first : Pair) (before : List (ℕ × Act)) (s t : State) (o : Outside) (n : ℕ) (forced : Bool) (reply : Reply) → IsSame s t → t.book ≡ record (s.book) { lost = true } → IsKept first before s o
     → IsKept first before t (by_write (Some (Record forced)) n s reply o)
 lost_on first before s t o n false Done same book k =
-    lost_kept first k.begun before s t _ k.ran same book (left_of first before s o k s.book.lost refl) (within_more o (lacking s) k.within) k.safe
+    lost_kept first k.begun k.noted before s t _ k.ran same book (left_of first before s o k s.book.lost refl) (within_more o (lacking s) k.within) k.safe
 lost_on first before s t o n true Done same book k =
-    lost_kept first k.begun before s t _ k.ran same book (left_of first before s o k s.book.lost refl) ([], append-nil (o.file ++ lacking s))
+    lost_kept first k.begun k.noted before s t _ k.ran same book (left_of first before s o k s.book.lost refl) ([], append-nil (o.file ++ lacking s))
     (subst (λ (x : List ℕ). IsSafe first s.book.settled x) (within_more o (lacking s) k.within).1
     (safe_more first s.book.settled o.safe (within_more o (lacking s) k.within).0 k.safe))
 lost_on first before s t o n false (Bytes bytes) same book k =
-    lost_kept first k.begun before s t _ k.ran same book (some_of first before s o n k) (within_more o (take n (lacking s)) k.within) k.safe
+    lost_kept first k.begun k.noted before s t _ k.ran same book (some_of first before s o n k) (within_more o (take n (lacking s)) k.within) k.safe
 lost_on first before s t o n false End same book k =
-    lost_kept first k.begun before s t _ k.ran same book (some_of first before s o n k) (within_more o (take n (lacking s)) k.within) k.safe
+    lost_kept first k.begun k.noted before s t _ k.ran same book (some_of first before s o n k) (within_more o (take n (lacking s)) k.within) k.safe
 lost_on first before s t o n false Missing same book k =
-    lost_kept first k.begun before s t _ k.ran same book (some_of first before s o n k) (within_more o (take n (lacking s)) k.within) k.safe
+    lost_kept first k.begun k.noted before s t _ k.ran same book (some_of first before s o n k) (within_more o (take n (lacking s)) k.within) k.safe
 lost_on first before s t o n false Found same book k =
-    lost_kept first k.begun before s t _ k.ran same book (some_of first before s o n k) (within_more o (take n (lacking s)) k.within) k.safe
+    lost_kept first k.begun k.noted before s t _ k.ran same book (some_of first before s o n k) (within_more o (take n (lacking s)) k.within) k.safe
 lost_on first before s t o n false Nothing same book k =
-    lost_kept first k.begun before s t _ k.ran same book (some_of first before s o n k) (within_more o (take n (lacking s)) k.within) k.safe
+    lost_kept first k.begun k.noted before s t _ k.ran same book (some_of first before s o n k) (within_more o (take n (lacking s)) k.within) k.safe
 lost_on first before s t o n false (At ms) same book k =
-    lost_kept first k.begun before s t _ k.ran same book (some_of first before s o n k) (within_more o (take n (lacking s)) k.within) k.safe
+    lost_kept first k.begun k.noted before s t _ k.ran same book (some_of first before s o n k) (within_more o (take n (lacking s)) k.within) k.safe
 lost_on first before s t o n false (Took count) same book k =
-    lost_kept first k.begun before s t _ k.ran same book (some_of first before s o n k) (within_more o (take n (lacking s)) k.within) k.safe
+    lost_kept first k.begun k.noted before s t _ k.ran same book (some_of first before s o n k) (within_more o (take n (lacking s)) k.within) k.safe
 lost_on first before s t o n false (Failed why) same book k =
-    lost_kept first k.begun before s t _ k.ran same book (some_of first before s o n k) (within_more o (take n (lacking s)) k.within) k.safe
+    lost_kept first k.begun k.noted before s t _ k.ran same book (some_of first before s o n k) (within_more o (take n (lacking s)) k.within) k.safe
 lost_on first before s t o n false Short same book k =
-    lost_kept first k.begun before s t _ k.ran same book (some_of first before s o n k) (within_more o (take n (lacking s)) k.within) k.safe
+    lost_kept first k.begun k.noted before s t _ k.ran same book (some_of first before s o n k) (within_more o (take n (lacking s)) k.within) k.safe
 lost_on first before s t o n true (Bytes bytes) same book k =
-    lost_kept first k.begun before s t _ k.ran same book (some_of first before s o n k) (within_more o (take n (lacking s)) k.within) k.safe
+    lost_kept first k.begun k.noted before s t _ k.ran same book (some_of first before s o n k) (within_more o (take n (lacking s)) k.within) k.safe
 lost_on first before s t o n true End same book k =
-    lost_kept first k.begun before s t _ k.ran same book (some_of first before s o n k) (within_more o (take n (lacking s)) k.within) k.safe
+    lost_kept first k.begun k.noted before s t _ k.ran same book (some_of first before s o n k) (within_more o (take n (lacking s)) k.within) k.safe
 lost_on first before s t o n true Missing same book k =
-    lost_kept first k.begun before s t _ k.ran same book (some_of first before s o n k) (within_more o (take n (lacking s)) k.within) k.safe
+    lost_kept first k.begun k.noted before s t _ k.ran same book (some_of first before s o n k) (within_more o (take n (lacking s)) k.within) k.safe
 lost_on first before s t o n true Found same book k =
-    lost_kept first k.begun before s t _ k.ran same book (some_of first before s o n k) (within_more o (take n (lacking s)) k.within) k.safe
+    lost_kept first k.begun k.noted before s t _ k.ran same book (some_of first before s o n k) (within_more o (take n (lacking s)) k.within) k.safe
 lost_on first before s t o n true Nothing same book k =
-    lost_kept first k.begun before s t _ k.ran same book (some_of first before s o n k) (within_more o (take n (lacking s)) k.within) k.safe
+    lost_kept first k.begun k.noted before s t _ k.ran same book (some_of first before s o n k) (within_more o (take n (lacking s)) k.within) k.safe
 lost_on first before s t o n true (At ms) same book k =
-    lost_kept first k.begun before s t _ k.ran same book (some_of first before s o n k) (within_more o (take n (lacking s)) k.within) k.safe
+    lost_kept first k.begun k.noted before s t _ k.ran same book (some_of first before s o n k) (within_more o (take n (lacking s)) k.within) k.safe
 lost_on first before s t o n true (Took count) same book k =
-    lost_kept first k.begun before s t _ k.ran same book (some_of first before s o n k) (within_more o (take n (lacking s)) k.within) k.safe
+    lost_kept first k.begun k.noted before s t _ k.ran same book (some_of first before s o n k) (within_more o (take n (lacking s)) k.within) k.safe
 lost_on first before s t o n true (Failed why) same book k =
-    lost_kept first k.begun before s t _ k.ran same book (some_of first before s o n k) (within_more o (take n (lacking s)) k.within) k.safe
+    lost_kept first k.begun k.noted before s t _ k.ran same book (some_of first before s o n k) (within_more o (take n (lacking s)) k.within) k.safe
 lost_on first before s t o n true Short same book k =
-    lost_kept first k.begun before s t _ k.ran same book (some_of first before s o n k) (within_more o (take n (lacking s)) k.within) k.safe
+    lost_kept first k.begun k.noted before s t _ k.ran same book (some_of first before s o n k) (within_more o (take n (lacking s)) k.within) k.safe
 
 record_of : (w : Option Write) → is_record w ≡ true → (forced : Bool) × (w ≡ Some (Record forced))
 record_of None is = absurd (false≢true is)
@@ -271,20 +301,20 @@ same_text g = ap (λ (t : List ℕ). record g { text = t }) (append-nil g.text)
 
 -- from one record to another, with these pauses that are to come
 abbrev Tells : List ℕ → ClientEnd → Growth → Growth → Talk → Talk → Type 0
-Tells ps e g h t u = (b : Bool) (first : Pair) (v : Talk) → Ran b first v ps (record { end = e; recording = g }) t
-    → Ran b first v ps (record { end = e; recording = h }) u
+Tells ps e g h t u = (b : Bool) (first : Pair) (v : Talk) (ns : List Says) → Ran b first v ns ps (record { end = e; recording = g }) t
+    → Ran b first v ns ps (record { end = e; recording = h }) u
 
 acts_keep : (ps : List ℕ) (e : ClientEnd) (g h : Growth) (t : Talk) → h ≡ with_acts e.client.program.features e.client.table.tally.counted g
     → Tells ps e g h t t
-acts_keep ps e g h t is = λ b first v ran.
-    subst (λ (x : Growth). Ran b first v ps (record { end = e; recording = x }) t) (same_text (told_now e g) ∙ sym is)
-    (tells ps (record { end = e; recording = g }) t t false [] ran (takes_none t) tt)
+acts_keep ps e g h t is = λ b first v ns ran.
+    subst (λ (x : Growth). Ran b first v ns ps (record { end = e; recording = x }) t) (same_text (told_now e g) ∙ sym is)
+    (tells ns ps (record { end = e; recording = g }) t t false [] ran (takes_none t) tt)
 
 errors_keep : (ps : List ℕ) (e : ClientEnd) (g h : Growth) (t : Talk) → HaveLines t.errors → h ≡ with_notes (map error_note t.errors) g
     → Tells ps e g h t (record t { errors = [] })
-errors_keep ps e g h t lines is = λ b first v ran.
-    subst (λ (x : Growth). Ran b first v ps (record { end = e; recording = x }) (record t { errors = [] })) (sym is)
-    (tells ps (record { end = e; recording = g }) t (record t { errors = [] }) true t.errors ran (takes_all t) lines)
+errors_keep ps e g h t lines is = λ b first v ns ran.
+    subst (λ (x : Growth). Ran b first v ns ps (record { end = e; recording = x }) (record t { errors = [] })) (sym is)
+    (tells ns ps (record { end = e; recording = g }) t (record t { errors = [] }) true t.errors ran (takes_all t) lines)
 
 pub first_lines : (n : ℕ) (errors : List (List ℕ)) → HaveLines errors → HaveLines (take n errors)
 first_lines zero [] h = tt
@@ -302,16 +332,19 @@ pub new_kept : (before : List (ℕ × Act)) (s : State) → s.book ≡ record {
   keeps = s.book.keeps;
   short = s.book.short;
   spent = s.book.spent;
+  noted = s.book.noted;
 }
     → HasReported before s.pair s.reports → IsKept s.pair before s (record { file = s.pair.recording.text; safe = s.pair.recording.text; marks = s.reports.marks })
 new_kept before s book reported = record {
   begun = s.talk;
+  noted = [];
   ran = record { ran = begins s.book.pauses; reported = reported; same = refl };
   front = ([], append-nil s.pair.recording.text);
   filed = λ l. sym (ap (λ (b : Book). b.filed) book);
   within = ([], append-nil s.pair.recording.text);
   safe = subst (λ (b : Book). IsSafe s.pair b.settled s.pair.recording.text) (sym book) (record {
     moment = s.pair;
+    noted = [];
     pauses = s.book.pauses;
     begun = s.talk;
     talk = s.talk;
@@ -327,32 +360,23 @@ pub told_acts_keep : {A E : Type 0} (r : Result A E) (ps : List ℕ) (e : Client
     → OnOk r (h ≡ with_acts e.client.program.features e.client.table.tally.counted g) → OnErr r (h ≡ g) → Tells ps e g h t t
 told_acts_keep (Ok a) ps e g h t done same = acts_keep ps e g h t done
 told_acts_keep (Err why) ps e g h t done same =
-    λ b first v ran. subst (λ (x : Growth). Ran b first v ps (record { end = e; recording = x }) t) (sym same) ran
+    λ b first v ns ran. subst (λ (x : Growth). Ran b first v ns ps (record { end = e; recording = x }) t) (sym same) ran
 
 -- likewise errors, of which the first get theirs
 pub told_errors_keep : {A E : Type 0} (r : Result A E) (ps : List ℕ) (e : ClientEnd) (g h : Growth) (t : Talk) → HaveLines t.errors
     → OnOk r (h ≡ with_notes (map error_note t.errors) g) → OnErr r ((n : ℕ) × AddsErrors t.errors g h n)
     → Tells ps e g h t (record t { errors = []; lost = t.lost || is_err r })
-told_errors_keep (Ok a) ps e g h t lines done some = λ b first v ran.
-    subst (λ (x : Bool). Ran b first v ps (record { end = e; recording = h }) (record t { errors = []; lost = x })) (sym (or_false t.lost))
-    (errors_keep ps e g h t lines done b first v ran)
+told_errors_keep (Ok a) ps e g h t lines done some = λ b first v ns ran.
+    subst (λ (x : Bool). Ran b first v ns ps (record { end = e; recording = h }) (record t { errors = []; lost = x })) (sym (or_false t.lost))
+    (errors_keep ps e g h t lines done b first v ns ran)
 told_errors_keep (Err why) ps e g h t lines done some =
-    let u : Talk = record t { errors = take some.0 t.errors; lost = t.lost || true } in λ b first v ran.
-    errors_keep ps e g h u (first_lines some.0 t.errors lines) some.1.added b first v
-    (forgets ps (record { end = e; recording = g }) t u ran (or_true t.lost))
-
--- and a note
-pub told_note_keeps : {A E : Type 0} (r : Result A E) (ps : List ℕ) (e : ClientEnd) (g h : Growth) (t : Talk) (said : Says)
-    → IsNoteText said.0 said.1 → is_error said.0 ≡ false → OnOk r (h ≡ with_notes (said ∷ []) g) → OnErr r (h ≡ g) → Tells ps e g h t t
-told_note_keeps (Ok a) ps e g h t said can other done same = λ b first v ran.
-    subst (λ (x : Growth). Ran b first v ps (record { end = e; recording = x }) t) (sym done)
-    (says ps (record { end = e; recording = g }) t said ran can other)
-told_note_keeps (Err why) ps e g h t said can other done same =
-    λ b first v ran. subst (λ (x : Growth). Ran b first v ps (record { end = e; recording = x }) t) (sym same) ran
+    let u : Talk = record t { errors = take some.0 t.errors; lost = t.lost || true } in λ b first v ns ran.
+    errors_keep ps e g h u (first_lines some.0 t.errors lines) some.1.added b first v ns
+    (forgets ns ps (record { end = e; recording = g }) t u ran (or_true t.lost))
 
 pub told_on : (ps : List ℕ) (e : ClientEnd) (g h : Growth) (t u v : Talk) → Tells ps e g h t u → v ≡ u → Tells ps e g h t v
-told_on ps e g h t u v keeps is = λ b first w ran.
-    subst (λ (x : Talk). Ran b first w ps (record { end = e; recording = h }) x) (sym is) (keeps b first w ran)
+told_on ps e g h t u v keeps is = λ b first w ns ran.
+    subst (λ (x : Talk). Ran b first w ns ps (record { end = e; recording = h }) x) (sym is) (keeps b first w ns ran)
 
 pub filed_goes : (s t : State) → is_record (writes s.stage) ≡ true → s.book.lost ≡ false → IsSame s t → t.book ≡ filed s → GoesOn s Done t
 filed_goes s t is sound same book =
@@ -405,6 +429,7 @@ noted_goes v s t reply is other keeps same = λ first before o n k.
     (subst (λ (p : Outside). IsKept first before (answered s reply) (record p { marks = marked_at s reply o.marks }))
     (sym (other_file (writes s.stage) (ap (λ (x : State). is_record (writes x.stage)) (sym is) ∙ other) n (lacking s) reply o)) (record {
       begun = k.begun;
+      noted = k.noted;
       ran = record { ran = k.ran.ran; reported = k.ran.reported; same = ap (marked_at s reply) k.ran.same };
       front = k.front;
       filed = k.filed;

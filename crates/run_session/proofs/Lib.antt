@@ -13,3 +13,4 @@ pub mod Noting
 pub mod Hearing
 pub mod Touches
 pub mod ErrorRows
+pub mod Dues

@@ -12,7 +12,7 @@ pub use Rattle.record_text.specs.Entries.{entry_line, error_note, fitting, kept_
 pub use Rattle.record_text.specs.Notes.{AreSaid, IsNoteText, is_error, Says}
 pub use Rattle.record_text.specs.Growths.{AddsErrors, Growth, new_lines, note_lines, with_acts, with_notes}
 pub use Rattle.record_text.specs.Heads.{AreAsked, is_printed, IsPartGiven}
-pub use Rattle.run_session.specs.Records.{begins, Book, calls, confirms, filed, filed_by, GoesOn, HaveLines, held, IsFree, IsKept, IsSafe, Keeps}
+pub use Rattle.run_session.specs.Records.{begins, Book, calls, confirms, filed, filed_by, GoesOn, HaveLines, held, IsFree, IsKept, IsSafe, Keeps, KeepsNoted, KeepsSome}
 pub use Rattle.run_session.specs.Records.{lacking, of_file, outcome, outcome_by, Outside, Ran, State, tells, writes}
 pub use Rattle.run_session.specs.Records.{Filed, Follows, FollowsTold, HasFiled, HasFollowed, HasLines, HasTold, IsAt, IsQuiet, IsTold, pace, Pace, StaysTold, Told}
 pub use Rattle.run_session.specs.Records.{HasReported, IsRun, IsRunOf, Reports}

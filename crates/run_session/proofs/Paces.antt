@@ -3,6 +3,10 @@ use Rattle.run_session.proofs.Names.{[], ◌∙◌, ◌≡◌, ◌≤◌, ◌⊎
 use Rattle.run_session.proofs.Names.{HasFollowed, HasTold, IsTold, IfErr, inl, inr, IsAt, lacking, length, List, of_file, Ok, OnErr, OnOk, pace, Pace, Told}
 use Rattle.run_session.proofs.Names.{FollowsTold, refl, Result, Send, Stage, State, StaysTold, subst, sym, true, ℕ}
 use Rattle.std.proofs.lemmas.List.{drop_all}
+use Rattle.std.proofs.lemmas.Bool.{false≢true}
+use Rattle.std.specs.Prelude.{◌&&◌, ◌||◌, is_some, nat_lt, not}
+use Rattle.run_session.specs.Evidence.{has_due, Notes}
+use Rattle.run_session.specs.Records.{Early, FollowsEarly, FollowsNoted, FollowsOver, is_filed, Noted, Over, Unknown}
 use Rattle.client_core.specs.Refusals.{IsSendRefused}
 use Rattle.client_core.specs.declared.faults.ClientFault.{ClientFault}
 use Rattle.dme_line.specs.declared.tags.Tag.{Tag}
@@ -52,27 +56,67 @@ pub stays : (v s : State) (f : ClientEnd) → v ≡ s → CountsNone v.pair.end 
 stays v s f is none has = subst (IsTold v.book.keeps v.reports.named v.pair.recording.told v.reports.told)
     (sym (ap (λ (l : List Act). length l) none)) (subst HasTold (sym is) has)
 
+-- ---- what is due
+
+-- nothing is due at an end, so nothing is due before
+pub undue : (n : Notes) (complete : ℕ) (over : Bool) → has_due n complete over ≡ false → has_due n complete false ≡ false
+undue n complete over none = without (is_some n.given) (not n.opened) (nat_lt n.dated complete) (over && not n.left) none
+  where
+    without : (g o d e : Bool) → (g && (o || (d || e))) ≡ false → (g && (o || (d || (false && not n.left)))) ≡ false
+    without false o d e is = refl
+    without true true d e is = absurd (false≢true (sym is))
+    without true false true e is = absurd (false≢true (sym is))
+    without true false false e is = refl
+
 -- ---- after an answer
 
-further : (s t : State) → pace s.stage ≡ Filed → t.book.short ≡ s.book.short → Follows s t → HasFollowed s → HasFollowed t
-further s t filed short follows has = λ long.
-    let at : IsAt Filed s = subst (λ (x : Pace). IsAt x s) filed (has (sym short ∙ long)) in follows at.0 at.1 long
+further : (p : Pace) (s t : State) → pace s.stage ≡ p → t.book.short ≡ s.book.short → (IsAt p s → HasFollowed t) → HasFollowed s → HasFollowed t
+further p s t at short follows has = λ long. follows (subst (λ (x : Pace). IsAt x s) at (has (sym short ∙ long))) long
 
-further_told : (s t : State) → pace s.stage ≡ Told → t.book.short ≡ s.book.short → FollowsTold s t → HasFollowed s → HasFollowed t
-further_told s t told short follows has = λ long. follows (subst (λ (x : Pace). IsAt x s) told (has (sym short ∙ long))) long
+onward : {A E : Type 0} (r : Result A E) (p : Pace) (v s t : State) → v ≡ s → pace v.stage ≡ p → t.book.short ≡ s.book.short
+    → OnOk r (IsAt p s → HasFollowed t) → OnOk r (HasFollowed s → HasFollowed t)
+onward (Ok a) p v s t is at short f = further p s t (ap (λ (x : State). pace x.stage) (sym is) ∙ at) short f
+onward (Err e) p v s t is at short f = tt
+
+if_ok : {A E X Y : Type 0} (r : Result A E) → (X → Y) → OnOk r X → OnOk r Y
+if_ok (Ok a) f x = f x
+if_ok (Err e) f x = tt
 
 pub on_filed : {A E : Type 0} (r : Result A E) (v s t : State) → v ≡ s → pace v.stage ≡ Filed → t.book.short ≡ s.book.short → OnOk r (Follows s t)
     → OnOk r (HasFollowed s → HasFollowed t)
-on_filed (Ok a) v s t is filed short f = further s t (ap (λ (x : State). pace x.stage) (sym is) ∙ filed) short f
-on_filed (Err e) v s t is filed short f = tt
+on_filed r v s t is at short f =
+    onward r Filed v s t is at short (if_ok r (λ (g : Follows s t) (has : IsAt Filed s). g has.0 has.1.0 has.1.1) f)
+
+pub on_early : {A E : Type 0} (r : Result A E) (v s t : State) → v ≡ s → pace v.stage ≡ Early → t.book.short ≡ s.book.short
+    → OnOk r (FollowsEarly s t) → OnOk r (HasFollowed s → HasFollowed t)
+on_early r v s t is at short f =
+    onward r Early v s t is at short (if_ok r (λ (g : FollowsEarly s t) (has : IsAt Early s). g has.0 has.1.0 has.1.1) f)
+
+pub on_over : {A E : Type 0} (r : Result A E) (v s t : State) → v ≡ s → pace v.stage ≡ Over → t.book.short ≡ s.book.short
+    → OnOk r (FollowsOver s t) → OnOk r (HasFollowed s → HasFollowed t)
+on_over r v s t is at short f =
+    onward r Over v s t is at short (if_ok r (λ (g : FollowsOver s t) (has : IsAt Over s). g has.0 has.1.0 has.1.1) f)
 
 pub on_told : {A E : Type 0} (r : Result A E) (v s t : State) → v ≡ s → pace v.stage ≡ Told → t.book.short ≡ s.book.short → OnOk r (FollowsTold s t)
     → OnOk r (HasFollowed s → HasFollowed t)
-on_told (Ok a) v s t is told short f = further_told s t (ap (λ (x : State). pace x.stage) (sym is) ∙ told) short f
-on_told (Err e) v s t is told short f = tt
+on_told r v s t is at short f = onward r Told v s t is at short f
+
+pub on_noted : {A E : Type 0} (r : Result A E) (v s t : State) → v ≡ s → pace v.stage ≡ Noted → t.book.short ≡ s.book.short
+    → OnOk r (FollowsNoted s t) → OnOk r (HasFollowed s → HasFollowed t)
+on_noted r v s t is at short f =
+    onward r Noted v s t is at short (if_ok r (λ (g : FollowsNoted s t) (has : IsAt Noted s). g has.0 has.1) f)
+
+-- its file has it at each of these paces
+pub filed_at : (p : Pace) (s : State) → is_filed p ≡ true → IsAt p s → HasTold s × HasFiled s
+filed_at Unknown s filed at = absurd (false≢true filed)
+filed_at Early s filed at = (at.0, at.1.0)
+filed_at Told s filed at = absurd (false≢true filed)
+filed_at Noted s filed at = absurd (false≢true filed)
+filed_at Filed s filed at = (at.0, at.1.0)
+filed_at Over s filed at = (at.0, at.1.0)
 
 pub also_filed : {A E : Type 0} (r : Result A E) (s t : State) → OnOk r (FollowsTold s t) → OnOk r (Follows s t)
-also_filed (Ok a) s t f = λ told filed. f told
+also_filed (Ok a) s t f = λ told filed dated. f told
 also_filed (Err e) s t f = tt
 
 -- ---- the pace of a stage

@@ -1,53 +1,59 @@
 -- What is to be in the file of contacts is what was reported.
 use Rattle.run_session.proofs.Names.{◌++◌, ◌∙◌, ◌∷◌, ◌≡◌, ◌≤◌, Act, ap, Bool, append_assoc, arith, begins, calls, confirms, Err, HasReported, IsRun, IsRunOf}
-use Rattle.run_session.proofs.Names.{length, length-append, List, map, numbered, Ok, OnErr, OnOk, Pair, Ran, refl, Reports, Result, State}
+use Rattle.run_session.proofs.Names.{length, length-append, List, map, numbered, Ok, OnErr, OnOk, Pair, Ran, refl, Reports, Result, Says, State}
 use Rattle.run_session.proofs.Names.{subst, sym, take, take-append-drop, tells, ℕ, [], append-nil, drop, codes}
 use Rattle.std.proofs.lemmas.List.{map-append, take-append-le, take_all}
 use Rattle.contact_ledger.proofs.WrittenTexts.{text_more}
 use Rattle.contact_ledger.specs.ContactTexts.{act_line, contact_lines, contacts_text}
 use Rattle.contact_ledger.specs.Lines.{text_of}
 use Rattle.run_session.specs.Errors.{Talk}
-use Rattle.run_session.specs.Records.{forgets, Marks, Origin, says}
+use Rattle.run_session.specs.Records.{forgets, Marks, noted_on, Origin, says, with_noted}
 use Rattle.run_session.proofs.Kept.{call_keeps, numbered_more}
 
 -- a run counts more
-more_counted : {b : Bool} (first : Pair) (v : Talk) (ps : List ℕ) (p : Pair) (t : Talk) → Ran b first v ps p t
+more_counted : {b : Bool} (first : Pair) (v : Talk) (ns : List Says) (ps : List ℕ) (p : Pair) (t : Talk) → Ran b first v ns ps p t
     → (more : List Act) × (p.end.client.table.tally.counted ≡ first.end.client.table.tally.counted ++ more)
-more_counted first v _ _ _ (begins ps) = ([], sym (append-nil first.end.client.table.tally.counted))
-more_counted first v _ _ _ (calls ps p t u call r is free talks) =
-    let before = more_counted first v ps p t r in
+more_counted first v _ _ _ _ (begins ps) = ([], sym (append-nil first.end.client.table.tally.counted))
+more_counted first v _ _ _ _ (calls ns ps p t u call r is free talks) =
+    let before = more_counted first v ns ps p t r in
     let now = (call_keeps call p.end is).grows in (
       before.0 ++ now.more,
       now.acts ∙ (ap (λ (l : List Act). l ++ now.more) before.1 ∙ append_assoc first.end.client.table.tally.counted before.0 now.more),
     )
-more_counted first v _ _ _ (tells ps p t u lacks errors r records lines) = more_counted first v ps p t r
-more_counted first v _ _ _ (says ps p t said r can other) = more_counted first v ps p t r
-more_counted first v _ _ _ (forgets ps p t u r lost) = more_counted first v ps p t r
-more_counted first v _ _ _ (confirms n ps p t r counted) = more_counted first v (n ∷ ps) p t r
+more_counted first v _ _ _ _ (tells ns ps p t u lacks errors r records lines) = more_counted first v ns ps p t r
+more_counted first v _ _ _ _ (says ns ps p t said r can) = more_counted first v ns ps p t r
+more_counted first v _ _ _ _ (forgets ns ps p t u r lost) = more_counted first v ns ps p t r
+more_counted first v _ _ _ _ (confirms ns n ps p t r counted) = more_counted first v ns (n ∷ ps) p t r
 
 within : (k : ℕ) (xs ys zs : List Act) → zs ≡ xs ++ ys → k ≤ length xs → k ≤ length zs
 within k xs ys zs is few = let long = ap (λ (l : List Act). length l) is ∙ length-append xs ys in omega (arith, long, few)
 
-pub stays_reported : {b : Bool} (before : List (ℕ × Act)) (qs : List ℕ) (p q : Pair) (v u : Talk) (r : Reports) → Ran b p v qs q u
+pub stays_reported : {b : Bool} (before : List (ℕ × Act)) (ns : List Says) (qs : List ℕ) (p q : Pair) (v u : Talk) (r : Reports) → Ran b p v ns qs q u
     → HasReported before p r → HasReported before q r
-stays_reported before qs p q v u r ran has =
-    let now = more_counted p v qs q u ran in (
+stays_reported before ns qs p q v u r ran has =
+    let now = more_counted p v ns qs q u ran in (
       within r.told p.end.client.table.tally.counted now.0 q.end.client.table.tally.counted now.1 has.0,
       has.1 ∙ ap (λ (l : List Act). contacts_text (before ++ numbered r.number l))
           (sym (take-append-le r.told p.end.client.table.tally.counted now.0 has.0) ∙ ap (λ (l : List Act). take r.told l) (sym now.1)),
     )
 
--- a client and its record that are later ones than those that a session was opened with, while nothing is reported
-pub keeps_by : (v s : State) (qs : List ℕ) (q : Pair) (u : Talk) → v ≡ s
-    → ((b : Bool) (first : Pair) (begun : Talk) → Ran b first begun v.book.pauses v.pair v.talk → Ran b first begun qs q u)
-    → (w : Origin) → IsRunOf w s → IsRun w qs q u v.reports
-keeps_by v s qs q u is moves w run =
+-- a client and its record that are later ones than those that a session was opened with, while nothing is reported, and this is noted
+pub noted_keeps : (said : List Says) (v s : State) (qs : List ℕ) (q : Pair) (u : Talk) → v ≡ s
+    → ((b : Bool) (first : Pair) (begun : Talk) (ns : List Says) → Ran b first begun ns v.book.pauses v.pair v.talk → Ran b first begun (noted_on said ns) qs q u)
+    → (w : Origin) → IsRunOf w s → IsRun (with_noted said w) qs q u v.reports
+noted_keeps said v s qs q u is moves w run =
     let at : IsRunOf w v = subst (λ (x : State). IsRunOf w x) (sym is) run in
     record {
-      ran = moves w.aborts w.first w.begun at.ran;
-      reported = stays_reported w.before qs v.pair q v.talk u v.reports (moves w.aborts v.pair v.talk (begins v.book.pauses)) at.reported;
+      ran = moves w.aborts w.first w.begun w.noted at.ran;
+      reported = stays_reported w.before (noted_on said []) qs v.pair q v.talk u v.reports (moves w.aborts v.pair v.talk [] (begins v.book.pauses)) at.reported;
       same = at.same;
     }
+
+pub keeps_by : (v s : State) (qs : List ℕ) (q : Pair) (u : Talk) → v ≡ s
+    → ((b : Bool) (first : Pair) (begun : Talk) (ns : List Says) → Ran b first begun ns v.book.pauses v.pair v.talk → Ran b first begun ns qs q u)
+    → (w : Origin) → IsRunOf w s → IsRun w qs q u v.reports
+keeps_by v s qs q u is moves w run =
+    let now = noted_keeps [] v s qs q u is moves w run in record { ran = now.ran; reported = now.reported; same = now.same }
 
 more_text : (front more : List (ℕ × Act)) → contacts_text (front ++ more) ≡ contacts_text front ++ text_of (map act_line more)
 more_text front more = ap (λ (lines : List (List ℕ)). text_of (codes "DME-CONTACTS 1" ∷ lines)) (map-append act_line front more)

@@ -3,8 +3,11 @@ use Rattle.run_session.proofs.Names.{◌∙◌, ◌≡◌, ◌⊎◌, Abort, ap,
 use Rattle.run_session.proofs.Names.{cond, HasReported, Ran, Reports, false≢true, IsKept, IsRun, Option, IsRunOf, Keeps, Leave, List, None, of_file, Ok, OnErr, OnOk, Outside, Pair, possible, refl, Reply}
 use Rattle.run_session.proofs.Names.{Result, Stage, State, subst, sym, true, writes, Act, ℕ}
 use Rattle.std.specs.Prelude.{is_err}
-use Rattle.run_session.specs.Records.{answered, is_stop, IsLater, IsShort, left, Origin, stopped, Stops, StopsOn, Write}
-use Rattle.run_session.proofs.Filing.{by_write, moved}
+use Rattle.run_session.specs.Records.{answered, is_noting, is_stop, IsLater, IsShort, left, notes_at, notes_by, noted_on, NotesSome, Origin, passed_by, passed_now, time_of}
+use Rattle.run_session.specs.Records.{stopped, Stops, StopsOn, Turns, with_noted, with_passed, Write}
+use Rattle.run_session.specs.Evidence.{Notes}
+use Rattle.run_session.proofs.Filing.{by_write, IsSameFile, moved, noting_on, same_file}
+use Rattle.run_session.proofs.Names.{[], Book, Bytes, KeepsNoted, KeepsSome, Says, Some}
 use Rattle.client_core.specs.Refusals.{IsSendRefused}
 use Rattle.client_core.specs.declared.faults.ClientFault.{ClientFault}
 use Rattle.run_session.proofs.Reporting.{stays_reported}
@@ -14,45 +17,141 @@ use Rattle.run_session.specs.Records.{forgets}
 
 -- ---- later ones
 
-pub later : (s t : State) → Keeps s t → IsLater s t
+pub later : (s t : State) → Keeps s t → IsLater [] s t
 later s t keeps = λ w run. let now = keeps w run in record { ran = now.ran; reported = now.reported; same = refl }
 
-pub answered_later : (s t : State) (reply : Reply) → Keeps (answered s reply) t → IsLater s t
+later_noted : (said : List Says) (s t : State) → KeepsNoted said s t → IsLater said s t
+later_noted said s t keeps = λ w run. let now = keeps w run in record { ran = now.ran; reported = now.reported; same = refl }
+
+pub answered_later : (s t : State) (reply : Reply) → Keeps (answered s reply) t → IsLater [] s t
 answered_later s t reply keeps = λ w run.
     let now = keeps (record w { marks = (answered s reply).reports.marks }) (record { ran = run.ran; reported = run.reported; same = refl }) in
     record { ran = now.ran; reported = now.reported; same = refl }
 
-left_later : (x m t : State) → IsLater x m → Keeps (left m) t → IsLater x t
-left_later x m t is keeps = λ w run.
+left_later : (said : List Says) (x m t : State) → IsLater said x m → Keeps (left m) t → IsLater said x t
+left_later said x m t is keeps = λ w run.
     let at = is w run in
-    let now = keeps (record w { marks = m.reports.marks })
-    (record { ran = calls m.book.pauses m.pair m.talk m.talk Leave at.ran tt tt refl; reported = at.reported; same = refl }) in
+    let now = keeps (record (with_noted said w) { marks = m.reports.marks })
+    (record { ran = calls (noted_on said w.noted) m.book.pauses m.pair m.talk m.talk Leave at.ran tt tt refl; reported = at.reported; same = refl }) in
     record { ran = now.ran; reported = now.reported; same = refl }
 
 -- ---- an answer
 
--- one that does not stop the run
-pub still : {A E : Type 0} (r : Result A E) (v s t : State) (reply : Reply) → v ≡ s → is_stop v.stage reply ≡ false → IsLater s t → StopsOn r s reply t
-still (Ok a) v s t reply is other after = subst (λ (b : Bool). IsLater (stopped b s) t) (sym (ap (λ (x : State). is_stop x.stage reply) (sym is) ∙ other)) after
-still (Err e) v s t reply is other after =
-    inl (subst (λ (b : Bool). IsLater (stopped b s) t) (sym (ap (λ (x : State). is_stop x.stage reply) (sym is) ∙ other)) after)
+unnoted : (s : State) (reply : Reply) → is_noting s.stage ≡ false → notes_by s reply ≡ []
+unnoted s reply quiet = ap (λ (b : Bool). cond b (notes_at s (time_of reply)) []) quiet
 
-pub is_still : (reply : Reply) (st a : Stage) → is_stop a reply ≡ false → st ≡ a → is_stop st reply ≡ false
-is_still reply st a h e = ap (λ (x : Stage). is_stop x reply) e ∙ h
+unpassed : (s : State) → is_noting s.stage ≡ false → passed_by s ≡ s.book.noted
+unpassed s quiet = ap (λ (b : Bool). cond b (passed_now s) s.book.noted) quiet
 
-pub or_still : {X : Type 0} (reply : Reply) (st a : Stage) → is_stop a reply ≡ false → (X → is_stop st reply ≡ false) → (st ≡ a) ⊎ X
-    → is_stop st reply ≡ false
+none_of : (says : List Says) (s t : State) → IsLater [] s t → NotesSome says s t
+none_of says s t is = record { said = []; rest = says; some = refl; later = is }
+
+-- an answer that is no time of what is noted
+turns : {A E : Type 0} (r : Result A E) (b : Bool) (s t : State) (reply : Reply) → is_stop s.stage reply ≡ b → is_noting s.stage ≡ false
+    → OnOk r (IsLater [] (stopped b s) t) → OnErr r (IsLater [] (stopped b s) t ⊎ (t ≡ s)) → t.book.noted ≡ s.book.noted → StopsOn r s reply t
+turns (Ok a) b s t reply at quiet after short same = (
+  subst (λ (says : List Says). IsLater says (stopped (is_stop s.stage reply) s) t) (sym (unnoted s reply quiet))
+      (subst (λ (b : Bool). IsLater [] (stopped b s) t) (sym at) after),
+  same ∙ sym (unpassed s quiet),
+)
+turns (Err e) b s t reply at quiet after (inl is) same = (
+  inl (none_of (notes_by s reply) _ t (subst (λ (b : Bool). IsLater [] (stopped b s) t) (sym at) is)),
+  inr same,
+)
+turns (Err e) b s t reply at quiet after (inr is) same = (inr is, inr same)
+
+pub on_ok : {A E X : Type 0} (r : Result A E) → X → OnOk r X
+on_ok (Ok a) x = x
+on_ok (Err e) x = tt
+
+pub on_err : {A E X : Type 0} (r : Result A E) → X → OnErr r X
+on_err (Ok a) x = tt
+on_err (Err e) x = x
+
+-- a stage at which this answer does not stop the run, and nothing is noted
+abbrev pub IsStill : Reply → Stage → Type 0
+IsStill reply st = (is_stop st reply ≡ false) × (is_noting st ≡ false)
+
+pub still : {A E : Type 0} (r : Result A E) (v s t : State) (reply : Reply) → v ≡ s → IsStill reply v.stage → IsLater [] s t → t.book.noted ≡ s.book.noted
+    → StopsOn r s reply t
+still r v s t reply is other after same =
+    turns r false s t reply (ap (λ (x : State). is_stop x.stage reply) (sym is) ∙ other.0) (ap (λ (x : State). is_noting x.stage) (sym is) ∙ other.1)
+    (on_ok r after) (on_err r (inl after)) same
+
+pub is_still : (reply : Reply) (st a : Stage) → IsStill reply a → st ≡ a → IsStill reply st
+is_still reply st a h e = (ap (λ (x : Stage). is_stop x reply) e ∙ h.0, ap is_noting e ∙ h.1)
+
+pub or_still : {X : Type 0} (reply : Reply) (st a : Stage) → IsStill reply a → (X → IsStill reply st) → (st ≡ a) ⊎ X → IsStill reply st
 or_still reply st a h f (inl e) = is_still reply st a h e
 or_still reply st a h f (inr x) = f x
 
 -- one that may stop it
-pub may_stop : {A E : Type 0} (r : Result A E) (b : Bool) (v s t : State) (reply : Reply) → v ≡ s → is_stop v.stage reply ≡ b
-    → OnOk r (Keeps (stopped b s) t) → OnErr r (IsShort b s t) → StopsOn r s reply t
-may_stop (Ok a) b v s t reply is at ran short =
-    subst (λ (b : Bool). IsLater (stopped b s) t) (sym (ap (λ (x : State). is_stop x.stage reply) (sym is) ∙ at)) (later (stopped b s) t ran)
-may_stop (Err e) b v s t reply is at ran (inl runs) =
-    inl (subst (λ (b : Bool). IsLater (stopped b s) t) (sym (ap (λ (x : State). is_stop x.stage reply) (sym is) ∙ at)) (later (stopped b s) t runs))
-may_stop (Err e) b v s t reply is at ran (inr same) = inr same
+pub may_stop : {A E : Type 0} (r : Result A E) (b : Bool) (v s t : State) (reply : Reply) → v ≡ s → is_stop v.stage reply ≡ b → is_noting v.stage ≡ false
+    → OnOk r (Keeps (stopped b s) t) → OnErr r (IsShort b s t) → t.book.noted ≡ s.book.noted → StopsOn r s reply t
+may_stop r b v s t reply is at quiet ran short same =
+    turns r b s t reply (ap (λ (x : State). is_stop x.stage reply) (sym is) ∙ at) (ap (λ (x : State). is_noting x.stage) (sym is) ∙ quiet)
+    (later_ok r ran) (later_err r short) same
+  where
+    later_ok : {A E : Type 0} (r : Result A E) → OnOk r (Keeps (stopped b s) t) → OnOk r (IsLater [] (stopped b s) t)
+    later_ok (Ok a) ran = later (stopped b s) t ran
+    later_ok (Err e) ran = tt
+
+    later_err : {A E : Type 0} (r : Result A E) → OnErr r (IsShort b s t) → OnErr r (IsLater [] (stopped b s) t ⊎ (t ≡ s))
+    later_err (Ok a) short = tt
+    later_err (Err e) (inl runs) = inl (later (stopped b s) t runs)
+    later_err (Err e) (inr same) = inr same
+
+-- the time of what is noted
+pub notes : {A E : Type 0} (r : Result A E) (v s t : State) (reply : Reply) → v ≡ s → v.stage ≡ Stage.Noting
+    → OnOk r (KeepsNoted (notes_by s reply) s t) → OnErr r (KeepsSome (notes_by s reply) s t) → OnOk r (t.book ≡ with_passed s)
+    → OnErr r ((t.book ≡ with_passed s) ⊎ (t.book ≡ s.book)) → StopsOn r s reply t
+notes r v s t reply is at ran some passed broke = go r ran some passed broke
+  where
+    here : s.stage ≡ Stage.Noting
+    here = ap (λ (x : State). x.stage) (sym is) ∙ at
+
+    goes : false ≡ is_stop s.stage reply
+    goes = sym (ap (λ (x : Stage). is_stop x reply) here)
+
+    now : with_passed s ≡ record (s.book) { noted = passed_by s }
+    now = ap (λ (b : Bool). record (s.book) { noted = cond b (passed_now s) s.book.noted }) (sym (ap is_noting here))
+
+    on_either : (t.book ≡ with_passed s) ⊎ (t.book ≡ s.book) → (t.book.noted ≡ passed_by s) ⊎ (t.book.noted ≡ s.book.noted)
+    on_either (inl is) = inl (ap (λ (b : Book). b.noted) (is ∙ now))
+    on_either (inr is) = inr (ap (λ (b : Book). b.noted) is)
+
+    go : {A E : Type 0} (r : Result A E) → OnOk r (KeepsNoted (notes_by s reply) s t) → OnErr r (KeepsSome (notes_by s reply) s t)
+        → OnOk r (t.book ≡ with_passed s) → OnErr r ((t.book ≡ with_passed s) ⊎ (t.book ≡ s.book)) → StopsOn r s reply t
+    go (Ok a) ran some passed broke = (
+      subst (λ (b : Bool). IsLater (notes_by s reply) (stopped b s) t) goes (later_noted (notes_by s reply) s t ran),
+      ap (λ (b : Book). b.noted) (passed ∙ now),
+    )
+    go (Err e) ran some passed broke = (
+      inl (subst (λ (b : Bool). NotesSome (notes_by s reply) (stopped b s) t) goes
+          (record { said = some.said; rest = some.rest; some = some.some; later = later_noted some.said s t some.keeps })),
+      on_either broke,
+    )
+
+passed_file : (s t : State) → t.book ≡ with_passed s → IsSameFile s t
+passed_file s t is = record {
+  lost = ap (λ (b : Book). b.lost) is;
+  filed = ap (λ (b : Book). b.filed) is;
+  settled = ap (λ (b : Book). b.settled) is;
+}
+
+pub notes_go : {A E : Type 0} (r : Result A E) (v s t : State) (reply : Reply) → v ≡ s → v.stage ≡ Stage.Noting
+    → OnOk r (KeepsNoted (notes_by s reply) s t) → OnErr r (KeepsSome (notes_by s reply) s t) → OnOk r (t.book ≡ with_passed s)
+    → OnErr r ((t.book ≡ with_passed s) ⊎ (t.book ≡ s.book)) → GoesOn s reply t
+notes_go r v s t reply is at ran some passed broke = go r ran some passed broke
+  where
+    quiet : writes s.stage ≡ None
+    quiet = ap (λ (x : State). writes x.stage) (sym is) ∙ ap writes at
+
+    go : {A E : Type 0} (r : Result A E) → OnOk r (KeepsNoted (notes_by s reply) s t) → OnErr r (KeepsSome (notes_by s reply) s t)
+        → OnOk r (t.book ≡ with_passed s) → OnErr r ((t.book ≡ with_passed s) ⊎ (t.book ≡ s.book)) → GoesOn s reply t
+    go (Ok a) ran some passed broke = noting_on (notes_by s reply) s t reply quiet ran (passed_file s t passed)
+    go (Err e) ran some passed (inl broke) = noting_on some.said s t reply quiet some.keeps (passed_file s t broke)
+    go (Err e) ran some passed (inr broke) = noting_on some.said s t reply quiet some.keeps (same_file s t (ap of_file broke))
 
 -- a run that continues after the client could abort
 pub ran_on : {A E : Type 0} (r : Result A E) (v s m t : State) → v ≡ s → Keeps (stopped true v) m → Keeps m t → OnOk r (Keeps (stopped true s) t)
@@ -85,10 +184,11 @@ kept_stopped : (b : Bool) (first : Pair) (before : List (ℕ × Act)) (s : State
 kept_stopped false first before s o k = k
 kept_stopped true first before s o k = record {
   begun = k.begun;
+  noted = k.noted;
   ran = record {
-    ran = calls s.book.pauses s.pair s.talk (stopped true s).talk Abort k.ran.ran tt refl refl;
-    reported = stays_reported {b = true} before s.book.pauses s.pair (stopped true s).pair s.talk (stopped true s).talk s.reports
-        (calls s.book.pauses s.pair s.talk (stopped true s).talk Abort (begins s.book.pauses) tt refl refl) k.ran.reported;
+    ran = calls k.noted s.book.pauses s.pair s.talk (stopped true s).talk Abort k.ran.ran tt refl refl;
+    reported = stays_reported {b = true} before [] s.book.pauses s.pair (stopped true s).pair s.talk (stopped true s).talk s.reports
+        (calls [] s.book.pauses s.pair s.talk (stopped true s).talk Abort (begins s.book.pauses) tt refl refl) k.ran.reported;
     same = k.ran.same;
   };
   front = k.front;
@@ -157,7 +257,7 @@ noted_keeps w n t u same is run = subst (λ (x : State). IsRunOf w x) (sym same)
 
 pub forgot_keeps : (w : Origin) (n t : State) (u : Talk) → t ≡ n → n.talk.lost ≡ true → IsRun w n.book.pauses n.pair u n.reports → IsRunOf w t
 forgot_keeps w n t u same lost run = subst (λ (x : State). IsRunOf w x) (sym same)
-    (record { ran = forgets n.book.pauses n.pair u n.talk run.ran lost; reported = run.reported; same = run.same })
+    (record { ran = forgets w.noted n.book.pauses n.pair u n.talk run.ran lost; reported = run.reported; same = run.same })
 
 pub aborted_noted : {A E : Type 0} (r : Result A E) (s n t : State) (u : Talk) → t ≡ n → OnOk r (n.talk ≡ u)
     → ((w : Origin) → IsRunOf w (stopped true s) → IsRun w n.book.pauses n.pair u n.reports) → OnOk r (Keeps (stopped true s) t)
@@ -174,24 +274,62 @@ same_talk w ps p t u r is run = subst (λ (x : Talk). IsRun w ps p x r) (sym is)
 
 -- ---- what that says
 
-pub calm : (before : List (ℕ × Act)) (s t : State) → HasReported before s.pair s.reports → IsLater s t → Ran false s.pair s.talk t.book.pauses t.pair t.talk
-calm before s t has is = (is (record { aborts = false; first = s.pair; begun = s.talk; before = before; marks = s.reports.marks })
+pub calm : (said : List Says) (before : List (ℕ × Act)) (s t : State) → HasReported before s.pair s.reports → IsLater said s t
+    → Ran false s.pair s.talk (noted_on said []) t.book.pauses t.pair t.talk
+calm said before s t has is = (is (record { aborts = false; first = s.pair; begun = s.talk; noted = []; before = before; marks = s.reports.marks })
     (record { ran = begins s.book.pauses; reported = has; same = refl })).ran
 
-pub with_memory : (b : Bool) (s t : State) (reply : Reply) → is_stop s.stage reply ≡ b → t.book.spent ≡ false → Stops s reply t → IsLater (stopped b s) t
-with_memory b s t reply at enough (inl is) = subst (λ (b : Bool). IsLater (stopped b s) t) at is
-with_memory b s t reply at enough (inr is) = absurd (false≢true (sym enough ∙ is.1))
+pub with_memory : (s t : State) (reply : Reply) → t.book.spent ≡ false → Stops s reply t → Turns s reply t
+with_memory s t reply enough (inl is) = is
+with_memory s t reply enough (inr is) = absurd (false≢true (sym enough ∙ is.1))
+
+pub turned : (b : Bool) (s t : State) (reply : Reply) → is_stop s.stage reply ≡ b → t.book.spent ≡ false → Stops s reply t
+    → IsLater (notes_by s reply) (stopped b s) t
+turned b s t reply at enough stops =
+    subst (λ (b : Bool). IsLater (notes_by s reply) (stopped b s) t) at (with_memory s t reply enough stops).0
+
+pub all_noted : (s t : State) (time : List ℕ) → s.stage ≡ Stage.Noting → t.book.spent ≡ false → Stops s (Bytes time) t
+    → IsLater (notes_at s (Some time)) s t
+all_noted s t time at enough stops =
+    subst (λ (st : Stage). IsLater (cond (is_noting st) (notes_at s (Some time)) []) (stopped (is_stop st (Bytes time)) s) t) at
+    (with_memory s t (Bytes time) enough stops).0
+
+pub passes : (s t : State) (reply : Reply) → s.stage ≡ Stage.Noting → t.book.spent ≡ false → Stops s reply t → t.book.noted ≡ passed_now s
+passes s t reply at enough stops = (with_memory s t reply enough stops).1
+    ∙ ap (λ (st : Stage). cond (is_noting st) (passed_now s) s.book.noted) at
+
+pub unnoting : (s t : State) (reply : Reply) → is_noting s.stage ≡ false → t.book.spent ≡ false → Stops s reply t → t.book.noted ≡ s.book.noted
+unnoting s t reply quiet enough stops = (with_memory s t reply enough stops).1 ∙ unpassed s quiet
 
 -- ---- memory runs out
 
 pub keeps_left : (s t : State) → Keeps (left s) t → Keeps s t
-keeps_left s t keeps = λ w run. keeps w (record { ran = calls s.book.pauses s.pair s.talk s.talk Leave run.ran tt tt refl; reported = run.reported; same = run.same })
+keeps_left s t keeps = λ w run. keeps w (record { ran = calls w.noted s.book.pauses s.pair s.talk s.talk Leave run.ran tt tt refl; reported = run.reported; same = run.same })
 
-pub left_stops : {A E : Type 0} (r : Result A E) (s m t : State) (reply : Reply) → StopsOn r s reply m → Keeps (left m) t → t.book.spent ≡ true
-    → Stops s reply t
-left_stops (Ok a) s m t reply stops keeps spent = inl (left_later (stopped (is_stop s.stage reply) s) m t stops keeps)
-left_stops (Err e) s m t reply (inl stops) keeps spent = inl (left_later (stopped (is_stop s.stage reply) s) m t stops keeps)
-left_stops (Err e) s m t reply (inr same) keeps spent = inr (later (left s) t (subst (λ (x : State). Keeps (left x) t) same keeps), spent)
+left_either : (s m t : State) (reply : Reply) → NotesSome (notes_by s reply) (stopped (is_stop s.stage reply) s) m ⊎ (m ≡ s) → Keeps (left m) t
+    → NotesSome (notes_by s reply) (left s) t ⊎ NotesSome (notes_by s reply) (stopped (is_stop s.stage reply) s) t
+left_either s m t reply (inl some) keeps =
+    inr (record { said = some.said; rest = some.rest; some = some.some; later = left_later some.said _ m t some.later keeps })
+left_either s m t reply (inr same) keeps =
+    inl (none_of (notes_by s reply) (left s) t (later (left s) t (subst (λ (x : State). Keeps (left x) t) same keeps)))
+
+still_passed : (x y z u : Notes) → u ≡ z → (z ≡ x) ⊎ (z ≡ y) → (u ≡ x) ⊎ (u ≡ y)
+still_passed x y z u same (inl is) = inl (same ∙ is)
+still_passed x y z u same (inr is) = inr (same ∙ is)
+
+pub left_stops : {A E : Type 0} (r : Result A E) (s m t : State) (reply : Reply) → StopsOn r s reply m → Keeps (left m) t
+    → of_file t.book ≡ of_file m.book → t.book.spent ≡ true → Stops s reply t
+left_stops (Ok a) s m t reply stops keeps same spent = inl (
+  left_later (notes_by s reply) (stopped (is_stop s.stage reply) s) m t stops.0 keeps,
+  ap (λ (b : Book). b.noted) same ∙ stops.1,
+)
+left_stops (Err e) s m t reply stops keeps same spent = inr (
+  (
+    left_either s m t reply stops.0 keeps,
+    still_passed (passed_by s) s.book.noted m.book.noted t.book.noted (ap (λ (b : Book). b.noted) same) stops.1,
+  ),
+  spent,
+)
 
 pub ok_stops : {A E : Type 0} (r : Result A E) (s t : State) (reply : Reply) → is_err r ≡ false → StopsOn r s reply t → Stops s reply t
 ok_stops (Ok a) s t reply done stops = inl stops

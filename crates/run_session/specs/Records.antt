@@ -10,7 +10,7 @@ use Rattle.link_world.specs.Showing.{IsRunCall}
 use Rattle.protocol_model.specs.Ends.{ClientEnd}
 use Rattle.protocol_model.specs.declared.states.State.TheVariants as state
 use Rattle.record_text.specs.Entries.{error_note}
-use Rattle.record_text.specs.Notes.{AreSaid, IsNoteText, Says, is_error}
+use Rattle.record_text.specs.Notes.{AreSaid, Says}
 use Rattle.record_text.specs.Growths.{Growth, with_notes}
 use Rattle.record_laws.specs.Recordings.{Pair, told_unless}
 use Rattle.record_laws.specs.Told.{numbered}
@@ -23,6 +23,7 @@ use Rattle.order_parts.specs.Ends.{end_shown}
 use Rattle.order_parts.specs.Kept.{IsFeaturesText}
 use Rattle.run_session.specs.Errors as errors
 use Rattle.run_session.specs.Errors.{noted_by, Records, Talk}
+use Rattle.run_session.specs.Evidence.{Course, Notes, can_note, due, ended, has_due, is_over, passed, sayable}
 use Rattle.run_session.specs.declared.stages.Stage.{Stage}
 use Rattle.run_session.specs.declared.stages.Stage.TheVariants as stage
 
@@ -41,31 +42,40 @@ IsFree aborts count e Sends = count < length e.client.table.tally.unsent
 IsFree aborts count e Abort = aborts ≡ true
 IsFree aborts count e call = ⊤
 
--- a client on its connection and its record, with the pauses that are to come and what is known of its server's errors, from what they were
--- at first: the client makes calls of its own, and sends nothing that is held back; what it writes is noted, and what it is fed is heard; the
--- record gets the lines of what the client has counted, unless memory runs out for them, those of the errors that were heard since, and notes
--- that are no errors; of errors nothing is known once memory has run out for them; and a pause ends only once all that stands above it is
--- counted
-pub data Ran (aborts : Bool) (first : Pair) (begun : Talk) : List ℕ → Pair → Talk → Type 0 where
-  begins : (pauses : List ℕ) → Ran aborts first begun pauses first begun
-  calls : (pauses : List ℕ) (p : Pair) (t u : Talk) (call : Call) → Ran aborts first begun pauses p t → IsRunCall call
+-- what is noted comes to what was noted: the newest first
+abbrev pub noted_on : List Says → List Says → List Says
+noted_on [] noted = noted
+noted_on (said ∷ more) noted = noted_on more (said ∷ noted)
+
+-- a record can note each of these
+abbrev pub AreNoted : List Says → Type 0
+AreNoted list = AllByRecursion (λ said. can_note said ≡ true) list
+
+-- a client on its connection and its record, with what was noted of the run, the pauses that are to come and what is known of its server's
+-- errors, from what they were at first: the client makes calls of its own, and sends nothing that is held back; what it writes is noted, and
+-- what it is fed is heard; the record gets the lines of what the client has counted, unless memory runs out for them, those of the errors that
+-- were heard since, and those of what is noted; of errors nothing is known once memory has run out for them; and a pause ends only once all
+-- that stands above it is counted
+pub data Ran (aborts : Bool) (first : Pair) (begun : Talk) : List Says → List ℕ → Pair → Talk → Type 0 where
+  begins : (pauses : List ℕ) → Ran aborts first begun [] pauses first begun
+  calls : (noted : List Says) (pauses : List ℕ) (p : Pair) (t u : Talk) (call : Call) → Ran aborts first begun noted pauses p t → IsRunCall call
       → IsFree aborts (held pauses) p.end call → errors.Follows call p.end t u
-      → Ran aborts first begun pauses (record { end = behind_call call p.end; recording = p.recording }) u
-  tells : (pauses : List ℕ) (p : Pair) (t u : Talk) (lacks : Bool) (errors : List (List ℕ)) → Ran aborts first begun pauses p t
-      → Records errors t u → HaveLines errors
-      → Ran aborts first begun pauses (record {
+      → Ran aborts first begun noted pauses (record { end = behind_call call p.end; recording = p.recording }) u
+  tells : (noted : List Says) (pauses : List ℕ) (p : Pair) (t u : Talk) (lacks : Bool) (errors : List (List ℕ))
+      → Ran aborts first begun noted pauses p t → Records errors t u → HaveLines errors
+      → Ran aborts first begun noted pauses (record {
         end = p.end;
         recording = with_notes (map error_note errors) (told_unless lacks p.end p.recording);
       }) u
-  says : (pauses : List ℕ) (p : Pair) (t : Talk) (said : Says) → Ran aborts first begun pauses p t → IsNoteText said.0 said.1
-      → is_error said.0 ≡ false
-      → Ran aborts first begun pauses (record { end = p.end; recording = with_notes (said ∷ []) p.recording }) t
-  forgets : (pauses : List ℕ) (p : Pair) (t u : Talk) → Ran aborts first begun pauses p t → u.lost ≡ true
-      → Ran aborts first begun pauses p u
-  confirms : (count : ℕ) (pauses : List ℕ) (p : Pair) (t : Talk) → Ran aborts first begun (count ∷ pauses) p t
-      → length p.end.client.table.tally.todo ≤ count → Ran aborts first begun pauses p t
+  says : (noted : List Says) (pauses : List ℕ) (p : Pair) (t : Talk) (said : List Says) → Ran aborts first begun noted pauses p t
+      → AreNoted said
+      → Ran aborts first begun (noted_on said noted) pauses (record { end = p.end; recording = with_notes said p.recording }) t
+  forgets : (noted : List Says) (pauses : List ℕ) (p : Pair) (t u : Talk) → Ran aborts first begun noted pauses p t → u.lost ≡ true
+      → Ran aborts first begun noted pauses p u
+  confirms : (noted : List Says) (count : ℕ) (pauses : List ℕ) (p : Pair) (t : Talk) → Ran aborts first begun noted (count ∷ pauses) p t
+      → length p.end.client.table.tally.todo ≤ count → Ran aborts first begun noted pauses p t
 
--- what is known of the record's file, and the pauses that are to come
+-- what is known of the record's file, the pauses that are to come, and what was noted of the run
 pub record Book : Type 0 where
   pub lost : Bool  -- whether it could not be kept
   pub filed : ℕ  -- how many bytes of the record's text it has
@@ -74,6 +84,7 @@ pub record Book : Type 0 where
   pub keeps : Bool  -- whether there is a record
   pub short : Bool  -- whether memory has run out before the client was on its connection
   pub spent : Bool  -- whether it has run out
+  pub noted : Notes
 
 -- what is known of the files besides the record, and of the report
 pub record Marks : Type 0 where
@@ -98,6 +109,7 @@ pub record State : Type 0 where
   pub book : Book
   pub reports : Reports
   pub talk : Talk
+  pub course : Course
   pub text : List ℕ  -- what is printed at the end
   pub list : List ℕ  -- what the features file is to have
   pub held : ℕ  -- how many features it has then
@@ -129,31 +141,53 @@ first_reports named lists number before = record {
   };
 }
 
--- a client and its record at first, the acts that were reported before, and what is known of the files
+-- a client and its record at first, what was noted since, the acts that were reported before, and what is known of the files
 pub record Origin : Type 0 where
   pub aborts : Bool  -- whether its client may have aborted since
   pub first : Pair
   pub begun : Talk
+  pub noted : List Says  -- what was noted since, the newest first
   pub before : List (ℕ × Act)
   pub marks : Marks
 
 pub record IsRun (w : Origin) (pauses : List ℕ) (p : Pair) (t : Talk) (r : Reports) : Type 0 where
-  pub ran : Ran w.aborts w.first w.begun pauses p t
+  pub ran : Ran w.aborts w.first w.begun w.noted pauses p t
   pub reported : HasReported w.before p r
   pub same : r.marks ≡ w.marks
 
 abbrev pub IsRunOf : Origin → State → Type 0
 IsRunOf w s = IsRun w s.book.pauses s.pair s.talk s.reports
 
--- both are later so, and nothing else is known of the files
+-- both are later so, nothing else is known of the files, and nothing was noted
 abbrev pub Keeps : State → State → Type 0
 Keeps s t = (w : Origin) → IsRunOf w s → IsRunOf w t
+
+-- this was noted
+abbrev pub with_noted : List Says → Origin → Origin
+with_noted said w = record w { noted = noted_on said w.noted }
+
+abbrev pub KeepsNoted : List Says → State → State → Type 0
+KeepsNoted said s t = (w : Origin) → IsRunOf w s → IsRunOf (with_noted said w) t
+
+-- or the first of it, since memory has run out
+pub record KeepsSome (all : List Says) (s t : State) : Type 0 where
+  pub said : List Says
+  pub rest : List Says
+  pub some : said ++ rest ≡ all
+  pub keeps : KeepsNoted said s t
+
+-- both are of one moment
+pub record IsOneMoment (s t : State) : Type 0 where
+  pub telling : t.pair.recording.telling ≡ s.pair.recording.telling
+  pub end : t.pair.end ≡ s.pair.end
+  pub course : t.course ≡ s.course
 
 -- what a run begins with, besides its client
 pub record Start : Type 0 where
   pub growth : Growth
   pub pauses : List ℕ
   pub keeps : Bool
+  pub notes : Option (List Says)
   pub reports : Reports
   pub talk : Talk
 
@@ -238,10 +272,11 @@ outcome n s reply o = record (outcome_by n (writes s.stage) (lacking s) reply o)
 -- what no crash takes away has all that the record had at some moment of the run, when that many features were complete
 pub record IsSafe (first : Pair) (count : ℕ) (safe : List ℕ) : Type 0 where
   pub moment : Pair
+  pub noted : List Says
   pub pauses : List ℕ
   pub begun : Talk
   pub talk : Talk
-  pub ran : Ran true first begun pauses moment talk
+  pub ran : Ran true first begun noted pauses moment talk
   pub rest : List ℕ
   pub text : moment.recording.text ++ rest ≡ safe
   pub features : count ≤ moment.recording.telling.counted.features
@@ -250,7 +285,8 @@ pub record IsSafe (first : Pair) (count : ℕ) (safe : List ℕ) : Type 0 where
 -- text, as many as are known unless it could not be kept; and the features that count as settled are safe
 pub record IsKept (first : Pair) (before : List (ℕ × Act)) (s : State) (o : Outside) : Type 0 where
   pub begun : Talk
-  pub ran : IsRunOf (record { aborts = true; first = first; begun = begun; before = before; marks = o.marks }) s
+  pub noted : List Says
+  pub ran : IsRunOf (record { aborts = true; first = first; begun = begun; noted = noted; before = before; marks = o.marks }) s
   pub front : (rest : List ℕ) × (o.file ++ rest ≡ s.pair.recording.text)
   pub filed : s.book.lost ≡ false → length o.file ≡ s.book.filed
   pub within : (rest : List ℕ) × (o.safe ++ rest ≡ o.file)
@@ -308,14 +344,58 @@ stopped false s = s
 abbrev pub left : State → State
 left s = record s { pair = record (s.pair) { end = done_by Leaves s.pair.end } }
 
--- one comes of the other without an abort: a run that is at the first, with none so far, is at the second with none
-abbrev pub IsLater : State → State → Type 0
-IsLater s t = (w : Origin) → IsRunOf w s → IsRunOf (record w { marks = t.reports.marks }) t
+-- what the record notes after an answer, and what was noted then: at the stage that asks for the time all that is due and can be noted, with
+-- the time that was answered
+abbrev pub due_now : State → (time : List ℕ) → List Says
+due_now s time = due s.book.noted time s.course.server s.pair.recording.telling.counted.features (ended s.course s.pair.end.client.state)
 
--- after an answer that stops the run the client aborts, and then makes other calls; after any other it makes no call but these. If memory
--- runs out before it aborts, it leaves its connection first
+abbrev pub time_of : Reply → Option (List ℕ)
+time_of (Bytes time) = Some time
+time_of reply = None
+
+abbrev pub notes_at : State → (time : Option (List ℕ)) → List Says
+notes_at s None = []
+notes_at s (Some time) = sayable (due_now s time)
+
+abbrev pub is_noting : Stage → Bool
+is_noting stage.Noting = true
+is_noting st = false
+
+abbrev pub notes_by : State → Reply → List Says
+notes_by s reply = if is_noting s.stage then notes_at s (time_of reply) else []
+
+abbrev pub passed_now : State → Notes
+passed_now s = passed s.book.noted s.pair.recording.telling.counted.features (is_over s.course s.pair.end.client.state)
+
+abbrev pub with_passed : State → Book
+with_passed s = record (s.book) { noted = passed_now s }
+
+abbrev pub passed_by : State → Notes
+passed_by s = if is_noting s.stage then passed_now s else s.book.noted
+
+-- one comes of the other without an abort, after this was noted: a run that is at the first, with no abort so far, is at the second with none
+abbrev pub IsLater : List Says → State → State → Type 0
+IsLater said s t = (w : Origin) → IsRunOf w s → IsRunOf (record (with_noted said w) { marks = t.reports.marks }) t
+
+-- after an answer that stops the run the client aborts, and then makes other calls; after any other it makes no call but these. What is due is
+-- noted, once, and nothing else
+abbrev pub Turns : State → Reply → State → Type 0
+Turns s reply t = IsLater (notes_by s reply) (stopped (is_stop s.stage reply) s) t × (t.book.noted ≡ passed_by s)
+
+-- if memory runs out, some of it is noted: the first
+pub record NotesSome (all : List Says) (s t : State) : Type 0 where
+  pub said : List Says
+  pub rest : List Says
+  pub some : said ++ rest ≡ all
+  pub later : IsLater said s t
+
+-- and it may leave its connection before it aborts
+abbrev pub BreaksOff : State → Reply → State → Type 0
+BreaksOff s reply t = (NotesSome (notes_by s reply) (left s) t ⊎ NotesSome (notes_by s reply) (stopped (is_stop s.stage reply) s) t)
+    × ((t.book.noted ≡ passed_by s) ⊎ (t.book.noted ≡ s.book.noted))
+
 abbrev pub Stops : State → Reply → State → Type 0
-Stops s reply t = IsLater (stopped (is_stop s.stage reply) s) t ⊎ (IsLater (left s) t × (t.book.spent ≡ true))
+Stops s reply t = Turns s reply t ⊎ (BreaksOff s reply t × (t.book.spent ≡ true))
 
 -- the stages before the client sends
 abbrev pub is_before : Stage → Bool
@@ -518,51 +598,111 @@ HasTold s = IsTold s.book.keeps s.reports.named s.pair.recording.told s.reports.
 abbrev pub HasFiled : State → Type 0
 HasFiled s = lacking s ≡ []
 
--- how far a record has followed its client before an effect: its text has all that was counted, and then its file has it; or that is not known
+-- all that was due before the connection's end was noted
+abbrev pub HasDated : State → Type 0
+HasDated s = has_due s.book.noted s.pair.recording.telling.counted.features false ≡ false
+
+-- so was its end, if the connection was noted
+abbrev pub HasLeft : State → Type 0
+HasLeft s = s.book.noted.opened ≡ true → has_due s.book.noted s.pair.recording.telling.counted.features true ≡ false
+
+-- how far a record has followed its client before an effect: its text has all that was counted, then what is due is noted, and then its file has
+-- all of it; before the connection nothing is noted, and after it its end; or that is not known
 pub data Pace : Type 0 where
   Unknown : Pace
+  Early : Pace
   Told : Pace
+  Noted : Pace
   Filed : Pace
+  Over : Pace
 
 -- it is not known once memory has run out
 abbrev pub pace : Stage → Pace
+pace stage.Logged = Early
+pace stage.Warning = Early
+pace stage.Beginning = Early
+pace stage.Peeking = Early
+pace stage.Connecting = Early
+pace stage.Elapsing = Early
+pace stage.Pausing = Early
+pace stage.Limiting = Early
+pace stage.MakingFeatures = Early
+pace stage.BeginningFeatures = Early
+pace stage.MakingContacts = Early
+pace stage.BeginningContacts = Early
 pace stage.Tracing = Told
 pace stage.Stamping = Told
 pace stage.Logging = Told
 pace stage.Noting = Told
-pace stage.Recording = Told
-pace stage.Settling = Told
+pace stage.Recording = Noted
+pace stage.Settling = Noted
+pace stage.ReplacingFeatures = Over
+pace stage.Printing = Over
+pace stage.Parting = Over
+pace stage.Closing = Over
+pace stage.Draining = Over
+pace stage.Leaving = Over
+pace stage.DiscardingFeatures = Over
+pace stage.DiscardingContacts = Over
+pace stage.Standing = Over
+pace stage.ReplacingRecord = Over
+pace stage.ReplacingContacts = Over
+pace stage.Ending = Over
 pace stage.Telling = Unknown
 pace stage.Exiting = Unknown
 pace st = Filed
 
 abbrev pub IsAt : Pace → State → Type 0
 IsAt Unknown s = ⊤
+IsAt Early s = HasTold s × (HasFiled s × (s.book.noted.opened ≡ false))
 IsAt Told s = HasTold s
-IsAt Filed s = HasTold s × HasFiled s
+IsAt Noted s = HasTold s × HasDated s
+IsAt Filed s = HasTold s × (HasFiled s × HasDated s)
+IsAt Over s = HasTold s × (HasFiled s × HasLeft s)
 
--- whatever is sent, received, shown as complete or printed, the record's file has all that the client had counted before, or could not be kept
+-- the record's file has it then
+abbrev pub is_filed : Pace → Bool
+is_filed Early = true
+is_filed Filed = true
+is_filed Over = true
+is_filed p = false
+
+-- whatever is sent, received, shown as complete or printed, the record's file has all that the client had counted before, or could not be kept,
+-- and all that was due is noted
 abbrev pub HasFollowed : State → Type 0
 HasFollowed s = s.book.short ≡ false → IsAt (pace s.stage) s
 
 abbrev pub StaysTold : State → State → Type 0
 StaysTold s t = HasTold s → HasTold t
 
+abbrev pub StaysDated : State → State → Type 0
+StaysDated s t = HasDated s → HasDated t
+
 -- a record that has followed its client follows it further
 abbrev pub Follows : State → State → Type 0
-Follows s t = HasTold s → HasFiled s → HasFollowed t
+Follows s t = HasTold s → HasFiled s → HasDated s → HasFollowed t
+
+abbrev pub FollowsEarly : State → State → Type 0
+FollowsEarly s t = HasTold s → HasFiled s → s.book.noted.opened ≡ false → HasFollowed t
 
 abbrev pub FollowsTold : State → State → Type 0
 FollowsTold s t = HasTold s → HasFollowed t
+
+abbrev pub FollowsNoted : State → State → Type 0
+FollowsNoted s t = HasTold s → HasDated s → HasFollowed t
+
+abbrev pub FollowsOver : State → State → Type 0
+FollowsOver s t = HasTold s → HasFiled s → HasLeft s → HasFollowed t
 
 -- memory has run out, perhaps before the client could abort
 abbrev pub IsShort : (stop : Bool) → State → State → Type 0
 IsShort stop s t = Keeps (stopped stop s) t ⊎ (t ≡ s)
 
--- what an answer makes of the client, unless memory runs out before it aborts
+-- what an answer makes of the client and of what is noted, unless memory runs out before that
 abbrev pub StopsOn : {A E : Type 0} → Result A E → State → Reply → State → Type 0
-StopsOn (Ok a) s reply t = IsLater (stopped (is_stop s.stage reply) s) t
-StopsOn (Err e) s reply t = IsLater (stopped (is_stop s.stage reply) s) t ⊎ (t ≡ s)
+StopsOn (Ok a) s reply t = Turns s reply t
+StopsOn (Err e) s reply t = (NotesSome (notes_by s reply) (stopped (is_stop s.stage reply) s) t ⊎ (t ≡ s))
+    × ((t.book.noted ≡ passed_by s) ⊎ (t.book.noted ≡ s.book.noted))
 
 -- what is neither the client's nor the record's changes
 abbrev pub IsQuiet : State → State → Type 0

@@ -21,7 +21,7 @@ impl Session {
         ensures due { OnOk result (spec.IsDue self.new) }
         ensures followed { OnOk result (spec.Follows self.old self.new) }
     {
-        if self.has_to_note() {
+        if self.has_to_note(true) {
             self.stage = Stage::Noting;
             return Ok(());
         }
@@ -38,7 +38,7 @@ impl Session {
     fn print(&mut self) -> Result<(), AllocError>
         ensures quiet { spec.IsQuiet self.old self.new }
         ensures due { OnOk result (spec.IsDue self.new) }
-        ensures followed { OnOk result (spec.Follows self.old self.new) }
+        ensures followed { OnOk result (spec.FollowsOver self.old self.new) }
     {
         self.text = end_report(self.alloc, &self.client)?;
         self.stage = Stage::Printing;
@@ -80,7 +80,7 @@ impl Session {
         requires { spec.writes self.old.stage ≡ Some spec.Whole }
         ensures quiet { spec.IsQuiet (spec.answered self.old (the_reply answer.entry)) self.new }
         ensures due { OnOk result (spec.IsDue self.new) }
-        ensures followed { OnOk result (spec.Follows self.old self.new) }
+        ensures followed { OnOk result (spec.FollowsOver self.old self.new) }
     {
         self.note_replaced(answer)?;
         match self.stage {
@@ -93,7 +93,7 @@ impl Session {
     /// What comes after the report: the server is left in order if it may still end the last command.
     fn after_report(&self) -> Stage
         ensures plain { spec.wants result ≡ None }
-        ensures paced { spec.pace result ≡ spec.Filed }
+        ensures paced { spec.pace result ≡ spec.Over }
     {
         if self.broken.is_none() && self.client.state() == State::Halted {
             Stage::Closing
@@ -108,7 +108,7 @@ impl Session {
         requires { self.old.stage ≡ Stage.Printing }
         ensures quiet { spec.IsQuiet (spec.answered self.old (the_reply answer.entry)) self.new }
         ensures due { OnOk result (spec.IsDue self.new) }
-        ensures followed { OnOk result (spec.Follows self.old self.new) }
+        ensures followed { OnOk result (spec.FollowsOver self.old self.new) }
     {
         if let Answer::Done = answer {
             self.is_printed = true;
@@ -126,7 +126,7 @@ impl Session {
     pub(crate) fn close(&mut self) -> Result<(), AllocError>
         ensures quiet { spec.IsQuiet self.old self.new }
         ensures due { OnOk result (spec.IsDue self.new) }
-        ensures followed { OnOk result (spec.Follows self.old self.new) }
+        ensures followed { OnOk result (spec.FollowsOver self.old self.new) }
     {
         if self.is_short {
             self.tell();
@@ -147,7 +147,7 @@ impl Session {
     fn close_contacts(&mut self) -> Result<(), AllocError>
         ensures quiet { spec.IsQuiet self.old self.new }
         ensures due { OnOk result (spec.IsDue self.new) }
-        ensures followed { OnOk result (spec.Follows self.old self.new) }
+        ensures followed { OnOk result (spec.FollowsOver self.old self.new) }
     {
         if self.has_begun && self.run.contacts.is_some() {
             self.stage = Stage::ReplacingContacts;
@@ -161,7 +161,7 @@ impl Session {
     pub(crate) fn has_stood(&mut self, answer: Answer<'_>) -> Result<(), AllocError>
         ensures quiet { spec.IsQuiet self.old self.new }
         ensures due { OnOk result (spec.IsDue self.new) }
-        ensures followed { OnOk result (spec.Follows self.old self.new) }
+        ensures followed { OnOk result (spec.FollowsOver self.old self.new) }
     {
         if let Answer::Done = answer {
             return self.close_contacts();

@@ -99,7 +99,6 @@ impl Session {
                 self.shown.clear();
                 self.log()
             }
-            (Stage::Noting, _) => self.noted(answer),
             (Stage::Stamping, Answer::Bytes(time)) => {
                 self.text = stamped(self.alloc, time, self.logged.as_str())?;
                 self.stage = Stage::Logging;
@@ -125,7 +124,7 @@ impl Session {
         ensures due { OnOk result (spec.IsDue self.new) }
         ensures followed { OnOk result (spec.FollowsTold self.old self.new) }
     {
-        if self.has_to_note() {
+        if self.has_to_note(self.is_over()) {
             self.stage = Stage::Noting;
             return Ok(());
         }
@@ -164,6 +163,7 @@ impl Session {
         ensures talk { self.new.talk ≡ self.old.talk }
         ensures reports { self.new.reports ≡ self.old.reports }
         ensures told { spec.StaysTold self.old self.new }
+        ensures noted { self.new.book.noted ≡ self.old.book.noted }
         ensures whole { spec.HasFiled self.new }
     {
         self.filed = self.growth.text().len();
@@ -192,7 +192,7 @@ impl Session {
         ensures pauses { self.new.book.pauses ≡ self.old.book.pauses }
         ensures short { self.new.book.short ≡ self.old.book.short }
         ensures due { OnOk result (spec.IsDue self.new) }
-        ensures followed { OnOk result (spec.FollowsTold self.old self.new) }
+        ensures followed { OnOk result (spec.FollowsNoted self.old self.new) }
     {
         match answer {
             Answer::Done if !self.is_lost => {

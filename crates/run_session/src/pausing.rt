@@ -91,6 +91,7 @@ impl Session {
         ensures short { self.new.book.short ≡ self.old.book.short }
         ensures told { spec.StaysTold self.old self.new }
         ensures lacks { spec.lacking self.new ≡ spec.lacking self.old }
+        ensures dated { spec.StaysDated self.old self.new }
         ensures ends { spec.IsPaused self.old
             → self.new.book.pauses ≡ drop 1 self.old.book.pauses }
     {

@@ -1,7 +1,8 @@
 // What a run is to do.
 
-ghost use Rattle.std.specs.Prelude.{◌≡◌, false};
+ghost use Rattle.std.specs.Prelude.{◌≡◌, false, is_some, option_map};
 ghost use Rattle.std.specs.Option.{option_map_or};
+ghost use Rattle.run_session.specs.Evidence.{given_notes};
 
 use crate::evidence::Noted;
 
@@ -97,6 +98,19 @@ impl Run {
         ensures { result ≡ option_map_or (λ file. file.grows) self.now.features false }
     {
         grows(&self.features)
+    }
+
+    /// What is noted in the record, if there is one.
+    pub(crate) fn given(&mut self) -> Option<Vec<Noted>>
+        ensures given { option_map (λ notes. notes.items) result ≡ given_notes
+            (is_some self.old.record) (option_map (λ notes. notes.items) self.old.notes) }
+        ensures rest { self.new ≡ record self.old { notes = self.new.notes } }
+    {
+        if self.record.is_some() {
+            self.notes.take()
+        } else {
+            None
+        }
     }
 
     pub(crate) fn reports(&self) -> bool {

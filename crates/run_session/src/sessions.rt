@@ -1,12 +1,13 @@
 // A session: what it asks, and what it does with an answer.
 
-ghost use Rattle.std.specs.Prelude.{◌≡◌, true, false, length, drop, map, is_some, None, OnOk, IfOk};
+ghost use Rattle.std.specs.Prelude.{◌≡◌, true, false, length, drop, map, is_some, None, OnOk, IfOk, option_map};
 ghost use Rattle.std.specs.Option.{option_map_or};
 ghost use Rattle.effects.specs.Effects.{the_ask, the_reply};
 ghost use Rattle.protocol_model.specs.Ends.{end_connected};
 ghost use Rattle.order_parts.specs.Pauses.{pauses_of, place_seen};
 ghost use Rattle.record_text.specs.Growths.{begun};
 ghost use Rattle.client_core.specs.Clients.{may_connect};
+ghost use Rattle.run_session.specs.Evidence.{given_notes};
 ghost use Rattle.run_session.specs.Records as spec;
 
 use crate::calling::NOT_DONE;
@@ -49,15 +50,18 @@ pub struct Begun {
 
 impl Model for Begun {
     ghost use Rattle.run_session.specs.Records.{Start};
+    ghost use Rattle.run_session.specs.Evidence.{given_notes};
 
     ghost Value = { Start };
 
-    ghost use Rattle.std.specs.Prelude.{is_some, false};
+    ghost use Rattle.std.specs.Prelude.{is_some, false, option_map};
 
     ghost view = { λ b. record {
       growth = b.growth;
       pauses = b.pauses.items;
       keeps = is_some b.run.record;
+      notes = given_notes (is_some b.run.record)
+          (option_map (λ notes. notes.items) b.run.notes);
       reports = record {
         named = is_some b.run.contacts;
         number = b.number;
@@ -96,6 +100,8 @@ impl Begun {
         ensures pauses { IfOk result (λ b. b.pauses
             ≡ pauses_of (map place_seen places.items)) }
         ensures keeps { IfOk result (λ b. b.keeps ≡ is_some run.record) }
+        ensures notes { IfOk result (λ b. b.notes ≡ given_notes (is_some run.record)
+            (option_map (λ notes. notes.items) run.notes)) }
         ensures reports { IfOk result (λ b. b.reports
             ≡ spec.first_reports (is_some run.contacts)
             (option_map_or (λ file. file.grows) run.features false) number told.now) }
@@ -200,7 +206,7 @@ pub struct Session {
 
 impl Model for Session {
     ghost use Rattle.run_session.specs.Records.{State as OneState};
-    ghost use Rattle.std.specs.Prelude.{is_some};
+    ghost use Rattle.std.specs.Prelude.{is_some, string_bytes, ◌++◌, ◌∷◌, decimal};
 
     ghost Value = { OneState };
 
@@ -215,6 +221,7 @@ impl Model for Session {
         keeps = is_some s.run.record;
         short = s.is_short;
         spent = s.is_spent;
+        noted = s.noting;
       };
       reports = record {
         named = is_some s.run.contacts;
@@ -231,6 +238,12 @@ impl Model for Session {
         };
       };
       talk = s.errors;
+      course = record {
+        server = string_bytes s.run.host ++ 32 ∷ decimal s.run.port;
+        broken = s.broken;
+        lapsed = is_some s.lapse;
+        stopped = s.is_stopped;
+      };
       text = s.text.items;
       list = s.listed.text.items;
       held = s.listed.held;
@@ -251,6 +264,12 @@ impl Session {
           keeps = begun.keeps;
           short = false;
           spent = false;
+          noted = record {
+            given = begun.notes;
+            opened = false;
+            left = false;
+            dated = begun.growth.telling.counted.features;
+          };
         } }
         ensures reports { result.reports ≡ begun.reports }
         ensures talk { result.talk ≡ begun.talk }
@@ -275,12 +294,7 @@ impl Session {
         let settled = growth.features();
         let left = u64::from(run.wait.unwrap_or(0)) * 1000;
         let is_logged = run.log.is_some();
-        let given = if run.record.is_some() {
-            run.notes.take()
-        } else {
-            None
-        };
-        let noting = Noting::new(given, settled);
+        let noting = Noting::new(run.given(), settled);
         let mut session = Session {
             alloc,
             run,
@@ -523,9 +537,8 @@ impl Session {
             Stage::Sending => self.sent(answer),
             Stage::Awaiting => self.typed(true, answer),
             Stage::Returning => self.typed(false, answer),
-            Stage::Tracing | Stage::Stamping | Stage::Logging | Stage::Noting => {
-                self.show_on(answer)
-            }
+            Stage::Tracing | Stage::Stamping | Stage::Logging => self.show_on(answer),
+            Stage::Noting => self.noted(answer),
             Stage::Recording | Stage::Settling => self.recorded(answer),
             Stage::Reporting => self.has_reported(answer),
             Stage::Listing => self.has_listed(answer),

@@ -5,6 +5,7 @@ ghost use Rattle.dme_line.specs.Tags.{written_tag, IsTag};
 ghost use Rattle.dme_line.specs.declared.tags.Tag.{Tag};
 ghost use Rattle.effects.specs.Effects.{the_reply};
 ghost use Rattle.protocol_model.specs.Client.{may_abort};
+ghost use Rattle.run_session.specs.Evidence.{is_over};
 ghost use Rattle.run_session.specs.Records as spec;
 ghost use Rattle.session_telling.specs.Sessions.{with_command};
 
@@ -31,7 +32,9 @@ fn add_shown(shown: &mut Vec<u8>, line: &[u8]) -> Result<(), AllocError> {
 
 impl Session {
     /// Whether the run is over: its plan is counted, or nothing is open after a failure or an abort; or its connection was broken off.
-    pub(crate) fn is_over(&self) -> bool {
+    pub(crate) fn is_over(&self) -> bool
+        ensures { result ≡ is_over self.now.course self.now.pair.end.client.state }
+    {
         self.broken.is_some() || matches!(self.client.state(), State::Done | State::Halted)
     }
 
@@ -43,6 +46,7 @@ impl Session {
         ensures book { self.new.book ≡ self.old.book }
         ensures told { spec.StaysTold self.old self.new }
         ensures lacks { spec.lacking self.new ≡ spec.lacking self.old }
+        ensures dated { spec.StaysDated self.old self.new }
     {
         let Some(command) = self.client.due() else {
             return Err(ClientFault::NotNow);
@@ -77,6 +81,7 @@ impl Session {
         ensures book { self.new.book ≡ self.old.book }
         ensures told { spec.StaysTold self.old self.new }
         ensures lacks { spec.lacking self.new ≡ spec.lacking self.old }
+        ensures dated { spec.StaysDated self.old self.new }
     {
         let before = self.client.out().len();
         match self.client.abort() {
@@ -115,6 +120,7 @@ impl Session {
         ensures book { self.new.book ≡ self.old.book }
         ensures told { spec.StaysTold self.old self.new }
         ensures lacks { spec.lacking self.new ≡ spec.lacking self.old }
+        ensures dated { spec.StaysDated self.old self.new }
     {
         let count = self.client.out().len();
         self.client.sent(count);
@@ -122,11 +128,13 @@ impl Session {
 
     /// The connection is broken off: the client leaves it.
     pub(crate) fn break_off(&mut self, why: PumpFault<ClientFault>)
-        ensures left { self.new ≡ spec.left self.old }
+        ensures left { self.new
+            ≡ record (spec.left self.old) { course = self.new.course } }
         ensures ran { spec.Keeps self.old self.new }
         ensures book { self.new.book ≡ self.old.book }
         ensures told { spec.StaysTold self.old self.new }
         ensures lacks { spec.lacking self.new ≡ spec.lacking self.old }
+        ensures dated { spec.StaysDated self.old self.new }
     {
         self.client.leave();
         self.broken = Some(why);
@@ -137,6 +145,7 @@ impl Session {
         ensures book { self.new.book ≡ self.old.book }
         ensures told { spec.StaysTold self.old self.new }
         ensures lacks { spec.lacking self.new ≡ spec.lacking self.old }
+        ensures dated { spec.StaysDated self.old self.new }
     {
         if let ClientFault::Memory = fault {
             return Err(AllocError);
@@ -151,6 +160,7 @@ impl Session {
         ensures book { self.new.book ≡ self.old.book }
         ensures told { spec.StaysTold self.old self.new }
         ensures lacks { spec.lacking self.new ≡ spec.lacking self.old }
+        ensures dated { spec.StaysDated self.old self.new }
     {
         for _command in 0..u64::MAX {
             if self.is_over() || self.client.due().is_none() {

@@ -3,6 +3,7 @@ use Rattle.run_session.proofs.Noting.{abort_noted, unwritten}
 use Rattle.run_session.proofs.Paces.{abort_counts, stays, writes_count}
 use Rattle.run_session.proofs.Stops.{Aborted, aborted, aborted_keeps, aborted_noted, aborted_short, same_talk}
 use Rattle.run_session.specs.Errors.{noted_by}
+use Rattle.run_session.specs.Records.{HasDated}
 use Rattle.client_core.specs.declared.faults.ClientFault.{ClientFault}
 use Rattle.run_session.proofs.sessions.Session.abort.Goals as goal
 
@@ -42,3 +43,9 @@ returns-in-Err-Faulted-clause-ran c = λ w run. c.break_off.ensures.ran w (same_
 pub returns-in-Err-Faulted-clause-told : goal.returns-in-Err-Faulted-clause-told
 returns-in-Err-Faulted-clause-told c = λ has. c.break_off.ensures.told (stays _ _ c.abort.new.self c.self.view_is (writes_count c.abort.result (possible Abort c.self.inside.client) c.self.inside.client c.abort.new.self
     (done_by Abort c.self.inside.client) (abort_counts c.self.inside.client) c.abort.ensures.ok c.abort.ensures.refused) has)
+
+pub returns-in-Ok-clause-dated : goal.returns-in-Ok-clause-dated
+returns-in-Ok-clause-dated c = λ has. subst HasDated (sym c.note.ensures.rest) (subst HasDated (sym c.self.view_is) has)
+
+pub returns-in-Err-Faulted-clause-dated : goal.returns-in-Err-Faulted-clause-dated
+returns-in-Err-Faulted-clause-dated c = λ has. c.break_off.ensures.dated (subst HasDated (sym c.self.view_is) has)

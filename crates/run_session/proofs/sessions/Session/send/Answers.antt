@@ -5,6 +5,7 @@ use Rattle.run_session.proofs.Paces.{send_counts, stays, writes_count}
 use Rattle.run_session.proofs.Reporting.{keeps_by}
 use Rattle.run_session.proofs.Stops.{forgot_keeps, noted_keeps}
 use Rattle.run_session.specs.Errors.{noted_by}
+use Rattle.run_session.specs.Records.{HasDated}
 use Rattle.run_session.proofs.sessions.Session.send.Goals as goal
 
 pub returns-in_err-send-clause-ran : goal.returns-in_err-send-clause-ran
@@ -46,3 +47,9 @@ pub returns-clause-told : goal.returns-clause-told
 returns-clause-told c = λ has. subst HasTold (sym c.note.ensures.rest) (stays _ _ c.send.new.self c.self.view_is
     (writes_count c.send.result (possible Send c.self.inside.client) c.self.inside.client c.send.new.self
     (done_by Send c.self.inside.client) (send_counts c.self.inside.client) c.send.ensures.ok c.send.ensures.refused) has)
+
+pub returns-in_err-note-clause-dated : goal.returns-in_err-note-clause-dated
+returns-in_err-note-clause-dated c = λ has. subst HasDated (sym c.note.ensures.rest) (subst HasDated (sym c.self.view_is) has)
+
+pub returns-clause-dated : goal.returns-clause-dated
+returns-clause-dated c = λ has. subst HasDated (sym c.note.ensures.rest) (subst HasDated (sym c.self.view_is) has)

@@ -1,7 +1,8 @@
 use Rattle.run_session.proofs.Names.{◌≡◌, Keeps, lacking, StaysTold}
+use Rattle.run_session.specs.Records.{StaysDated}
 use Rattle.run_session.proofs.sessions.Session.send_due.Given as goal
 
 -- what was sent so far
 abbrev pub invariant-loop-command : goal.invariant-loop-command
 invariant-loop-command l = Keeps l.fn.self l.self × ((l.self.book ≡ l.fn.self.book)
-    × (StaysTold l.fn.self l.self × (lacking l.self ≡ lacking l.fn.self)))
+    × (StaysTold l.fn.self l.self × (StaysDated l.fn.self l.self × (lacking l.self ≡ lacking l.fn.self))))

@@ -11,7 +11,7 @@ returns-then-is_err-clause-goes c = goes_further c.args.self.now c.step.new.self
 
 pub returns-then-is_err-clause-stops : goal.returns-then-is_err-clause-stops
 returns-then-is_err-clause-stops c = left_stops c.step.result c.args.self.now c.step.new.self c.run_short.new.self (the_reply c.args.answer)
-    c.step.ensures.stops c.run_short.ensures.ran c.run_short.ensures.spent
+    c.step.ensures.stops c.run_short.ensures.ran c.run_short.ensures.book c.run_short.ensures.spent
 
 pub returns-else-is_err-clause-stops : goal.returns-else-is_err-clause-stops
 returns-else-is_err-clause-stops c =
