@@ -1,0 +1,28 @@
+-- How the code holds a turn: no public clause cites it.
+use Rattle.std.specs.Prelude.{List, ◌∷◌, drop}
+use Rattle.dmis_text.specs.declared.elements.Statement.{Statement}
+use Rattle.program_flow.specs.Blocks.{around}
+use Rattle.program_flow.specs.Flow.{Control, Header, Turn, assigns, to}
+use Rattle.program_flow.specs.Flow.Turn.{Stops, Passes, Gives}
+use Rattle.program_flow.specs.declared.blocks.Block.{Block}
+use Rattle.program_flow.specs.declared.blocks.Move.{Move}
+use Rattle.program_flow.specs.declared.blocks.Move.TheVariants.{Stay, Enter, Leave, Jump}
+use Rattle.program_flow.specs.declared.turns.Turned.{Turned}
+use Rattle.program_flow.specs.declared.turns.Turned.TheVariants as code
+use Rattle.program_flow.specs.declared.turns.Header as code_header
+
+-- where a move leads
+abbrev pub moved : List Block → Move → Control
+moved blocks (Stay place) = to place blocks
+moved blocks (Enter place b) = to place (b ∷ blocks)
+moved blocks (Leave place) = to place (drop 1 blocks)
+moved blocks (Jump place) = to place (around place blocks)
+
+abbrev pub turned : List Block → Statement → Turned → Turn
+turned blocks s code.Stops = Stops s
+turned blocks s (code.Passes move) = Passes (moved blocks move)
+turned blocks s (code.Gives move) = Gives s (moved blocks move)
+turned blocks s (code.Assigns text move) = assigns s text.items (moved blocks move)
+
+abbrev pub seen_header : code_header.Header → Header
+seen_header h = record { name = h.name.now; first = h.first.now; limit = h.limit.now; step = h.step.now }
