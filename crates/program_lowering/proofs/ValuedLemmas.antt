@@ -15,7 +15,8 @@ use Rattle.program_values.specs.declared.faults.ValueFault.{ValueFault}
 use Rattle.program_values.specs.declared.faults.ValueFault.TheVariants as value
 use Rattle.program_lowering.specs.Carried.{GivesLine, IsRead, Knows, all_pushed, line_with, pair_of, pushed}
 use Rattle.program_lowering.specs.Lowering.{ended}
-use Rattle.program_lowering.specs.Valued.{assigned_params, carried, commanding, has_variables, held, held_or_none, new_params, valued, valued_param, valued_params, with_params}
+use Rattle.program_flow.specs.Flow.{carried}
+use Rattle.program_lowering.specs.Valued.{assigned_params, commanding, has_variables, held, held_or_none, new_params, valued, valued_param, valued_params, with_params}
 use Rattle.program_lowering.proofs.LineLemmas.{IsHeld, flat_is_line, flat_statement}
 use Rattle.program_lowering.proofs.LineParts.{marked_is}
 use Rattle.program_lowering.proofs.ReadBackLemmas.{line_first}
