@@ -49,15 +49,15 @@ def is_whole(name):
         codes = completed("explain", "")
         small = completed("explain", "p")
         known = all(told("explain", it)[0] == 0 and told("explain", it)[1].startswith(it.upper() + " ") for it in codes | small)
-        return len(codes) == 46 and small == {it.lower() for it in codes if it[0] == "P"} and known
+        return len(codes) == 48 and small == {it.lower() for it in codes if it[0] == "P"} and known
     if name == "forms":
-        return forms_are_whole("export", "--features", "none") and forms_are_whole("review")
+        return forms_are_whole("export", "--features", "none") and forms_are_whole("review") and forms_are_whole("summary", "none")
     return completed(name, "--") == options(name)
 
 
 def check_completion():
     """How many lists are as the program reports, and how many are not."""
-    names = ["commands", "codes", "forms", "check", "simulate", "audit", "loop", "serve", "run", "explain", "export", "report", "review", "lower", "ledger", "judge", "watch"]
+    names = ["commands", "codes", "forms", "check", "simulate", "audit", "loop", "serve", "run", "explain", "export", "report", "summary", "review", "lower", "ledger", "judge", "watch"]
     wrong = [it for it in names if not (PROGRAM.exists() and is_whole(it))]
     for name in wrong:
         print(f"completion of {name}: not as the program says")

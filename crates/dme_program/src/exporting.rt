@@ -1,17 +1,20 @@
-// The orders `export` and `explain`, on files and the standard streams.
+// The orders `export`, `report`, `summary` and `explain`, on files and the standard streams.
 
 use crate::explaining::refused;
 use crate::files::{NamedSource, Sources, file_of};
-use byte_ports::Writing;
+use byte_ports::{Failed, Writing, push_all};
+use deviations::Limits;
 use dme_orders::{
     ExportFiles, Exported, RecordFiles, RecordText, explain, export_files, export_record,
-    report_record,
+    named_limits, named_setup, program_under, report_record,
 };
-use dme_words::{Export, PartReport, RecordExport, RecordForm};
+use dme_words::{BatchSummary, Export, PartReport, RecordExport, RecordForm};
+use dmis_program::Program;
 use order_parts::FilesFault;
+use part_summary::Summary;
 use refusal_guide::{InputFiles, Topic};
 use std::alloc::AllocError;
-use std::io;
+use std::io::{self, Write};
 
 /// The exit status of an export, after which standard error shows what it says besides what it prints, or why it was not carried out.
 fn export_end(
@@ -119,6 +122,86 @@ pub fn report_of_record(rt: HostRuntime, order: PartReport) -> Result<u8, AllocE
         }
         Err(fault) => Ok(refused(rt, fault, files, order.explain)),
     }
+}
+
+/// The limits of a summary, if they are named, and its program under the frames of a setup, if one is named.
+fn summed_program(
+    rt: HostRuntime,
+    limits: &mut Option<NamedSource>,
+    setup: &mut Option<NamedSource>,
+    program: &mut NamedSource,
+) -> Result<(Option<Limits>, Program), FilesFault> {
+    let limits = named_limits(rt.alloc(), limits)?;
+    let setup = named_setup(rt.alloc(), setup)?;
+    let program = program_under(rt.alloc(), &setup, program)?;
+    Ok((limits, program))
+}
+
+/// Counts the record of a file: the exit status, 0 unless it does not count. Standard error then has the file, and why.
+fn add_record(rt: HostRuntime, summary: &mut Summary<'_>, name: &str, source: NamedSource) -> u8 {
+    let mut source = source;
+    let Err(fault) = summary.add(name, &mut source) else {
+        return 0;
+    };
+    let _ = eprint!(rt; "dme: {name} does not count:\n");
+    let files = InputFiles {
+        record: source.into_file(),
+        ..InputFiles::unnamed(rt.alloc())
+    };
+    refused(rt, fault, files, false)
+}
+
+/// Prints a summary of records of which this many were named: the exit status.
+fn print_summary(
+    rt: HostRuntime,
+    summary: &Summary<'_>,
+    is_csv: bool,
+    named: usize,
+) -> Result<u8, AllocError> {
+    let text = if is_csv {
+        let notes = summary.head(rt.alloc(), "dme: ", named)?;
+        let _ = rt.stderr().write_all(notes.as_slice());
+        summary.table(rt.alloc())?
+    } else {
+        summary.text(rt.alloc(), named)?
+    };
+    match push_all(&mut Writing::new(io::writer(&rt)), text.as_slice()) {
+        Ok(()) => Ok(summary.status()),
+        Err(Failed) => {
+            let files = InputFiles::unnamed(rt.alloc());
+            Ok(refused(rt, FilesFault::Write, files, false))
+        }
+    }
+}
+
+/// The order `summary`: its exit status, the greatest of those of its records and its own.
+#[inline(never)]
+pub fn summary_of_records(rt: HostRuntime, order: BatchSummary) -> Result<u8, AllocError> {
+    let mut sources = Sources::new(rt, false);
+    let mut limits = sources.maybe(order.limits);
+    let mut setup = sources.maybe(order.setup);
+    let mut program = sources.file(order.program);
+    let read = summed_program(rt, &mut limits, &mut setup, &mut program);
+    let files = InputFiles {
+        limits: file_of(rt, limits),
+        setup: file_of(rt, setup),
+        program: program.into_file(),
+        ..InputFiles::unnamed(rt.alloc())
+    };
+    let (limits, program) = match read {
+        Ok(read) => read,
+        Err(fault) => return Ok(refused(rt, fault, files, false)),
+    };
+    let mut summary = Summary::new(rt.alloc(), &program, &limits)?;
+    let named = order.records.len();
+    let mut status = 0;
+    for record in order.records {
+        let name = record.clone()?;
+        let source = sources.file(record);
+        status = add_record(rt, &mut summary, name.as_str(), source).max(status);
+    }
+    let end = print_summary(rt, &summary, order.is_csv, named)?;
+    Ok(if status == 0 { end } else { status })
 }
 
 /// The order `explain`: its exit status.

@@ -7,7 +7,9 @@ ghost use Rattle.dme_program.specs.Blamed.{OnSetup};
 
 use crate::connecting::loop_program;
 use crate::explaining::{refused, tell_audit};
-use crate::exporting::{explain_topic, export, export_of_record, report_of_record};
+use crate::exporting::{
+    explain_topic, export, export_of_record, report_of_record, summary_of_records,
+};
 use crate::faults::Fault;
 use crate::files::{NamedSource, Sources, file_of};
 use crate::serving::{read_recordings, run_program, serve, watch};
@@ -15,9 +17,10 @@ use crate::version;
 use byte_ports::Writing;
 use dme_orders::{
     AuditFiles, Judged, JudgedLine, RecordFiles, SimulationFiles, audit_files, audit_record,
-    check_under_setup, review_program, simulate,
+    check_under_setup, read_machine, review_program, simulate,
 };
 use dme_words::{Audit, Check, Lower, Order, RecordAudit, Review, Simulation, read_words};
+use machine_file::{Machine, named_machine, names_option, with_machine};
 use order_parts::{FilesFault, status};
 use program_lowering::{Choices, SourceNames, lower_program};
 use program_review::{FindingForm, FindingStyle};
@@ -43,13 +46,38 @@ fn words_of(alloc: Global, given: &[String]) -> Result<Vec<&str>, AllocError> {
     Ok(words)
 }
 
-/// The order that the command line asks for.
+/// The machine's file of this name; if it is refused, standard error shows why, and this is the exit status.
 #[inline(never)]
-fn read_order(alloc: Global, given: &[String]) -> Result<Order, Fault>
+fn machine_of(rt: HostRuntime, name: String, is_explained: bool) -> Result<Machine, u8> {
+    let mut source = Sources::new(rt, is_explained).file(name);
+    let read = read_machine(rt.alloc(), &mut source);
+    let files = InputFiles {
+        machine: source.into_file(),
+        ..InputFiles::unnamed(rt.alloc())
+    };
+    read.map_err(|fault| refused(rt, fault, files, is_explained))
+}
+
+/// The order that words ask for.
+#[inline(never)]
+fn read_order(alloc: Global, words: &[&str]) -> Result<Order, Fault>
     ensures { IfOk result IsReady }
 {
-    let words = words_of(alloc, given)?;
-    Ok(read_words(alloc, words.as_slice())?)
+    Ok(read_words(alloc, words)?)
+}
+
+/// Carries out the order of words that name a machine's file: its exit status.
+fn run_on(rt: HostRuntime, words: &[&str], name: &str) -> Result<u8, Fault> {
+    let alloc = rt.alloc();
+    let name = String::from_str(alloc, name)?;
+    match machine_of(rt, name, names_option("explain", words)) {
+        Ok(machine) => {
+            let words = with_machine(alloc, words, &machine)?;
+            let order = read_order(alloc, words.as_slice())?;
+            carry_out(rt, order)
+        }
+        Err(status) => Ok(status),
+    }
 }
 
 /// A program is checked under a setup, if one is named, and its plan is printed. A setup is blamed only if there is one.
@@ -283,6 +311,7 @@ fn carry_out(rt: HostRuntime, order: Order) -> Result<u8, Fault>
         Order::Watch(order) => Ok(watch(rt, order)?),
         Order::Lower(order) => Ok(lower(rt, order)?),
         Order::Report(order) => Ok(report_of_record(rt, order)?),
+        Order::Summary(order) => Ok(summary_of_records(rt, order)?),
     }
 }
 
@@ -292,6 +321,10 @@ pub fn run(rt: HostRuntime) -> Result<u8, Fault> {
     if version::is_asked(given.as_slice()) {
         return version::tell(rt);
     }
-    let order = read_order(rt.alloc(), given.as_slice())?;
+    let words = words_of(rt.alloc(), given.as_slice())?;
+    if let Some(name) = named_machine(words.as_slice()) {
+        return run_on(rt, words.as_slice(), name);
+    }
+    let order = read_order(rt.alloc(), words.as_slice())?;
     carry_out(rt, order)
 }

@@ -115,26 +115,29 @@ serves p free = (
       (
         λ answers none. inr (inr (inr (inl (refl, loop p.1 none)))),
         (
-          λ answers none. inr (inr (inr (inr (inl (refl, service p.1 none))))),
+          λ answers none. inr (inr (inr (inr (inr (inl (refl, service p.1 none)))))),
           (
-            λ answers none. inr (inr (inr (inr (inr (inl (refl, driven p.1 none)))))),
+            λ answers none. inr (inr (inr (inr (inr (inr (inl (refl, driven p.1 none))))))),
             (
-              λ answers none. inr (inr (inr (inr (inr (inr (inl (refl, explained p.1 none))))))),
+              λ answers none. inr (inr (inr (inr (inr (inr (inr (inl (refl, explained p.1 none)))))))),
               (
-                λ answers none. inr (inr (inr (inr (inr (inr (inr (inl (refl, export p.1 none)))))))),
+                λ answers none. inr (inr (inr (inr (inr (inr (inr (inr (inl (refl, export p.1 none))))))))),
                 (
-                  λ answers none. inr (inr (inr (inr (inr (inr (inr (inr (inl refl)))))))),
+                  λ answers none. inr (inr (inr (inr (inr (inr (inr (inr (inr (inl refl))))))))),
                   (
-                    λ answers none. inr (inr (inr (inr (inr (inr (inr (inr (inr (inl (refl, witnessed p.1 none)))))))))),
+                    λ answers none. inr (inr (inr (inr (inr (inr (inr (inr (inr (inr (inl (refl, witnessed p.1 none))))))))))),
                     (
-                      λ answers none. inr (inr (inr (inr (inr (inr (inr (inr (inr (inr (inl (refl, judged p.1 none))))))))))),
+                      λ answers none. inr (inr (inr (inr (inr (inr (inr (inr (inr (inr (inr (inl (refl, judged p.1 none)))))))))))),
                       (
-                        λ answers none. inr (inr (inr (inr (inr (inr (inr (inr (inr (inr (inr (inl (refl, relayed p.1 none)))))))))))),
+                        λ answers none. inr (inr (inr (inr (inr (inr (inr (inr (inr (inr (inr (inr (inl (refl, relayed p.1 none))))))))))))),
                         (
-                          λ answers none. inr (inr (inr (inr (inr (inr (inr (inr (inr (inr (inr (inr (inl (refl, lowered p.1 none))))))))))))),
+                          λ answers none. inr (inr (inr (inr (inr (inr (inr (inr (inr (inr (inr (inr (inr (inl (refl, lowered p.1 none)))))))))))))),
                           (
-                            λ answers none. inr (inr (inr (inr (inr (inr (inr (inr (inr (inr (inr (inr (inr (refl, reported p.1 none))))))))))))),
-                            (λ answers none. absurd (no_help p.0 p.1 free answers), tt),
+                            λ answers none. inr (inr (inr (inr (inr (inr (inr (inr (inr (inr (inr (inr (inr (inr (refl, reported p.1 none)))))))))))))),
+                            (
+                              λ answers none. inr (inr (inr (inr (inl refl)))),
+                              (λ answers none. absurd (no_help p.0 p.1 free answers), tt),
+                            ),
                           ),
                         ),
                       ),

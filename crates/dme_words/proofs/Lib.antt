@@ -7,3 +7,4 @@ pub mod LevelLemmas
 pub mod FoundLemmas
 pub mod AskedLemmas
 pub mod LaterLemmas
+pub mod FolderLemmas

@@ -1,5 +1,5 @@
 -- The names of the crates below, and of the definitions of this one, that its proofs use.
-pub use Rattle.clap.proofs.WalkLemmas.{first_value-rows, one_text-rows}
+pub use Rattle.clap.proofs.WalkLemmas.{first_value-rows, one_text-rows, raw_values-rows}
 pub use Rattle.clap.specs.Facts.{explicit_source, parser_of_value, unwrap_or_range}
 pub use Rattle.clap.specs.Faults.{action_fault, bundle_fault, bundle_step_fault, check_fault, default_fault, defaults_fault, entered_fault, fault_of}
 pub use Rattle.clap.specs.Faults.{flag_word_fault, given_default_fault, level_fault, long_fault, option_fault, other_fault, positional_fault}

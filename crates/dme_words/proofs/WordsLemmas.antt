@@ -8,7 +8,7 @@ use Rattle.std.specs.declared.alloc.Global.{Global}
 use Rattle.clap.specs.declared.parser.matches.ArgMatches.{ArgMatches}
 use Rattle.dme_words.specs.declared.orders.Order.{Order}
 use Rattle.dme_words.specs.declared.words.WordsFault.{WordsFault}
-use Rattle.dme_words.specs.declared.words.WordsFault.TheVariants.{Control, Line, Memory, Misfits, NoCode, NoFindingForm, NoForm, NoName, NoSeconds}
+use Rattle.dme_words.specs.declared.words.WordsFault.TheVariants.{Control, Line, Memory, Misfits, NoCode, NoFindingForm, NoForm, NoName, NoSeconds, NoSummaryForm}
 use Rattle.clap.specs.declared.error.Error.{Error}
 use Rattle.clap.specs.declared.error.kind.ErrorKind.TheVariants.{OutOfMemory}
 use Rattle.dme_words.proofs.AskedLemmas.{asked}
@@ -55,7 +55,8 @@ no_line p told (inr (inr (inr (inl (is, inr none))))) = none
 no_line p told (inr (inr (inr (inr (inl (is, none)))))) = none
 no_line p told (inr (inr (inr (inr (inr (inl (is, none))))))) = none
 no_line p told (inr (inr (inr (inr (inr (inr (inl (is, none)))))))) = none
-no_line p told (inr (inr (inr (inr (inr (inr (inr (is, none)))))))) = none
+no_line p told (inr (inr (inr (inr (inr (inr (inr (inl (is, none))))))))) = none
+no_line p told (inr (inr (inr (inr (inr (inr (inr (inr (is, none))))))))) = none
 
 no_control : (p : Text × List Row) (shown : String Global) → IsRefusedOf p (Control shown) → ⊥
 no_control p shown (inl none) = none
@@ -69,7 +70,8 @@ no_control p shown (inr (inr (inr (inl (is, inr none))))) = none
 no_control p shown (inr (inr (inr (inr (inl (is, none)))))) = none
 no_control p shown (inr (inr (inr (inr (inr (inl (is, none))))))) = none
 no_control p shown (inr (inr (inr (inr (inr (inr (inl (is, none)))))))) = none
-no_control p shown (inr (inr (inr (inr (inr (inr (inr (is, none)))))))) = none
+no_control p shown (inr (inr (inr (inr (inr (inr (inr (inl (is, none))))))))) = none
+no_control p shown (inr (inr (inr (inr (inr (inr (inr (inr (is, none))))))))) = none
 
 none_called : (found : Option (Text × List Row)) (told : Error) → AsksForNothing found (Line told) → ⊥
 none_called None told asks = asks
@@ -87,6 +89,7 @@ refused_value a words m Memory is none has asks = tt
 refused_value a words m (NoCode code) is none has asks = has_no_value a words m (NoCode code) is none has asks
 refused_value a words m (NoForm word) is none has asks = has_no_value a words m (NoForm word) is none has asks
 refused_value a words m (NoFindingForm word) is none has asks = has_no_value a words m (NoFindingForm word) is none has asks
+refused_value a words m (NoSummaryForm word) is none has asks = has_no_value a words m (NoSummaryForm word) is none has asks
 refused_value a words m (NoSeconds option text) is none has asks = has_no_value a words m (NoSeconds option text) is none has asks
 refused_value a words m (NoName option text) is none has asks = has_no_value a words m (NoName option text) is none has asks
 refused_value a words m (Misfits why) is none has asks = has_no_value a words m (Misfits why) is none has asks
@@ -115,6 +118,7 @@ asked_or_refused a words (Err error) (Err (Control shown)) is kinds has order_is
 asked_or_refused a words (Err error) (Err (NoCode code)) is kinds has order_is taken called = absurd called
 asked_or_refused a words (Err error) (Err (NoForm word)) is kinds has order_is taken called = absurd called
 asked_or_refused a words (Err error) (Err (NoFindingForm word)) is kinds has order_is taken called = absurd called
+asked_or_refused a words (Err error) (Err (NoSummaryForm word)) is kinds has order_is taken called = absurd called
 asked_or_refused a words (Err error) (Err (NoSeconds option text)) is kinds has order_is taken called = absurd called
 asked_or_refused a words (Err error) (Err (NoName option text)) is kinds has order_is taken called = absurd called
 asked_or_refused a words (Err error) (Err (Misfits why)) is kinds has order_is taken called = absurd called

@@ -1,9 +1,10 @@
 -- What `clap` is given of the rows of the program's table.
-use Rattle.std.specs.Prelude.{◌∷◌, [], fold, true}
+use Rattle.std.specs.Prelude.{◌∷◌, [], fold, Some, true}
+use Rattle.clap.specs.declared.builder.action.ArgAction.TheVariants.{Append}
 use Rattle.clap.specs.Words.{App, Rule, new_app, new_rule, with_rule, with_subcommand}
 use Rattle.dme_words.specs.CommandLine.{text_rule, needed_rule, number_rule, flag_rule}
 use Rattle.dme_words.specs.declared.line.Argument.{Argument}
-use Rattle.dme_words.specs.declared.line.Argument.TheVariants.{Flag, Needed, Number, NumberOr, Text, Word, WordOr}
+use Rattle.dme_words.specs.declared.line.Argument.TheVariants.{Flag, Needed, Number, NumberOr, Text, Word, WordOr, Words}
 use Rattle.dme_words.specs.declared.line.Line.{Line}
 
 -- what `clap` is given of an argument
@@ -15,6 +16,7 @@ argument_rule (NumberOr name value most usual help) = record (number_rule name.n
 argument_rule (Flag name help) = flag_rule name.now
 argument_rule (Word name help) = record (new_rule name.now) { required = true }
 argument_rule (WordOr name usual help) = record (new_rule name.now) { defaults = usual.now ∷ [] }
+argument_rule (Words name help) = record (new_rule name.now) { required = true; action = Some Append }
 
 -- a command that takes this argument more
 abbrev pub with_argument : App → Argument → App

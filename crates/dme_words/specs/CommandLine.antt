@@ -1,7 +1,7 @@
 -- The command line of `dme`, as the crate `clap` reads it: a simple command of its words, with one level of subcommands.
 use Rattle.std.specs.Prelude.{ℕ, List, [], ◌∷◌, Some, codes, fold, pos, true}
 use Rattle.clap.specs.Words.{App, Rule, Text, new_app, new_rule, with_rule, with_subcommand}
-use Rattle.clap.specs.declared.builder.action.ArgAction.TheVariants.{SetTrue}
+use Rattle.clap.specs.declared.builder.action.ArgAction.TheVariants.{Append, SetTrue}
 use Rattle.clap.specs.declared.builder.value_parser.ValueParser.TheVariants.{Signed}
 
 -- the option `--NAME TEXT`, whose text is taken unchanged, as a file's name is
@@ -66,11 +66,11 @@ serve_line = line_of (codes "serve") (needed_rule (codes "setup") ∷ text_rule 
     ∷ flag_rule (codes "endless") ∷ text_rule (codes "contacts") ∷ flag_rule (codes "progress") ∷ flag_rule (codes "trace") ∷ text_rule (codes "log")
     ∷ text_rule (codes "timeout") ∷ text_rule (codes "stop") ∷ flag_rule (codes "explain") ∷ [])
 
--- `run --setup FILE --host H --port N [--window W] [--features FILE] [--record FILE] [--part TEXT] [--operator TEXT] [--contacts FILE]
--- [--progress] [--trace] [--log FILE] [--timeout SECONDS] [--wait SECONDS] [--stop FILE] [--confirm] [--pause] [--explain] [PROGRAM]`
+-- `run [--machine FILE] --setup FILE --host H --port N [--window W] [--features FILE] [--record FILE] [--records FOLDER] [--part TEXT]
+-- [--operator TEXT] [--contacts FILE] [--progress] [--trace] [--log FILE] [--timeout SECONDS] [--wait SECONDS] [--stop FILE] [--confirm] [--pause] [--explain] [PROGRAM]`
 abbrev pub run_line : App
-run_line = line_of (codes "run") (needed_rule (codes "setup") ∷ needed_rule (codes "host") ∷ port_rule ∷ window_rule
-    ∷ text_rule (codes "features") ∷ text_rule (codes "record") ∷ text_rule (codes "part") ∷ text_rule (codes "operator")
+run_line = line_of (codes "run") (text_rule (codes "machine") ∷ needed_rule (codes "setup") ∷ needed_rule (codes "host") ∷ port_rule ∷ window_rule
+    ∷ text_rule (codes "features") ∷ text_rule (codes "record") ∷ text_rule (codes "records") ∷ text_rule (codes "part") ∷ text_rule (codes "operator")
     ∷ text_rule (codes "contacts") ∷ flag_rule (codes "progress") ∷ flag_rule (codes "trace") ∷ text_rule (codes "log") ∷ text_rule (codes "timeout")
     ∷ text_rule (codes "wait") ∷ text_rule (codes "stop") ∷ flag_rule (codes "confirm") ∷ flag_rule (codes "pause")
     ∷ flag_rule (codes "explain") ∷ program_rule ∷ [])
@@ -125,6 +125,15 @@ abbrev pub report_line : App
 report_line = line_of (codes "report") (needed_rule (codes "record") ∷ text_rule (codes "setup") ∷ text_rule (codes "limits")
     ∷ flag_rule (codes "explain") ∷ program_rule ∷ [])
 
+-- the positional `RECORD ..`, of which one must be named
+abbrev pub records_rule : Rule
+records_rule = record (new_rule (codes "RECORD")) { required = true; action = Some Append }
+
+-- `summary [--as FORM] [--setup FILE] [--limits FILE] [--program FILE] RECORD ..`
+abbrev pub summary_line : App
+summary_line = line_of (codes "summary") (text_rule (codes "as") ∷ text_rule (codes "setup") ∷ text_rule (codes "limits")
+    ∷ text_rule (codes "program") ∷ records_rule ∷ [])
+
 -- the command without its subcommands, of which one is required
 abbrev pub bare_line : App
 bare_line = record (new_app (codes "dme")) { top = record (new_app (codes "dme")).top { subcommand_required = true } }
@@ -138,4 +147,4 @@ first_line = fold (λ line order. with_subcommand line order.top) bare_line (che
 abbrev pub whole_line : App
 whole_line = fold (λ line order. with_subcommand line order.top) bare_line (check_line ∷ simulate_line ∷ audit_line ∷ loop_line
     ∷ serve_line ∷ run_line ∷ explain_line ∷ export_line ∷ review_line ∷ ledger_line ∷ judge_line ∷ watch_line ∷ lower_line
-    ∷ report_line ∷ [])
+    ∷ report_line ∷ summary_line ∷ [])

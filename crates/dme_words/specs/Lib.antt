@@ -1,3 +1,4 @@
 pub mod CommandLine
+pub mod Folders
 pub mod Ordered
 pub mod Arguments

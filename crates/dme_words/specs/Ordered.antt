@@ -1,9 +1,9 @@
 -- What the words of a command line ask for.
-use Rattle.std.specs.Prelude.{◌≡◌, ◌≢◌, ◌⊎◌, ◌≤◌, ◌||◌, not, ℕ, ℤ, Bool, List, [], ◌∷◌, Option, Some, None, IsSomeAnd, codes, is_some, pos, true, false, unwrap_or}
+use Rattle.std.specs.Prelude.{◌≡◌, ◌≢◌, ◌⊎◌, ◌≤◌, ◌||◌, not, ℕ, ℤ, Bool, List, [], ◌∷◌, Option, Some, None, IsSomeAnd, codes, is_some, map, pos, true, false, unwrap_or}
 use Rattle.std.specs.Prelude.{string_bytes, nat_le, ◌==◌, ◌&&◌, if◌then◌else◌}
 use Rattle.std.specs.List.{flat_map, list_all}
 use Rattle.session_telling.specs.Visible.{visible}
-use Rattle.std.specs.Option.{option_map}
+use Rattle.std.specs.Option.{option_map, option_or}
 use Rattle.std.specs.Str.Parse.{signed_digits_value}
 use Rattle.clap.specs.declared.error.Error.{Error}
 use Rattle.clap.specs.declared.error.kind.ErrorKind.TheVariants.{OutOfMemory}
@@ -12,14 +12,16 @@ use Rattle.clap.specs.Walk.{Rule}
 use Rattle.clap.specs.Simple.{App, Shape, built_leaf, inherited, marked_built, on_top, with_leaf_noted}
 use Rattle.clap.specs.declared.builder.value_parser.ValueParser.{ValueParser}
 use Rattle.clap.specs.declared.builder.value_parser.ValueParser.TheVariants.{Bool as OfBool, Signed}
-use Rattle.clap.specs.Words.{IsAmong, IsSignedIn, Row, Text, fault_of, first_of, kind_of, one_of, subcommand_of, without_minus}
+use Rattle.clap.specs.Words.{IsAmong, IsSignedIn, Row, Text, all_of, fault_of, first_of, kind_of, one_of, subcommand_of, without_minus}
 use Rattle.client_core.specs.Clients.{is_window}
 use Rattle.refusal_guide.specs.Codes.{is_code_of}
 use Rattle.record_text.specs.Heads.{IsPart, IsPartGiven}
 use Rattle.refusal_guide.specs.declared.topics.Topic.{Topic}
 use Rattle.deviations.specs.declared.forms.Form.TheVariants.{Csv, Json, Svg}
+use Rattle.dme_words.specs.Folders.{part_record}
 use Rattle.dme_words.specs.CommandLine.{audit_line, check_line, explain_line, export_line, judge_line, ledger_line, loop_line, lower_line, report_line, run_line, serve_line, simulate_line, watch_line, whole_line}
 use Rattle.dme_words.specs.declared.orders.Audit.{Audit}
+use Rattle.dme_words.specs.declared.orders.BatchSummary.{BatchSummary}
 use Rattle.dme_words.specs.declared.orders.Check.{Check}
 use Rattle.dme_words.specs.declared.orders.Export.{Export}
 use Rattle.dme_words.specs.declared.orders.Judge.{Judge}
@@ -39,7 +41,7 @@ use Rattle.dme_words.specs.declared.orders.Service.{Service}
 use Rattle.dme_words.specs.declared.orders.Simulation.{Simulation}
 use Rattle.dme_words.specs.declared.orders.Watch.{Watch}
 use Rattle.dme_words.specs.declared.words.WordsFault.{WordsFault}
-use Rattle.dme_words.specs.declared.words.WordsFault.TheVariants.{Control, Line, Memory, Misfits, NoCode, NoFindingForm, NoForm, NoName, NoSeconds}
+use Rattle.dme_words.specs.declared.words.WordsFault.TheVariants.{Control, Line, Memory, Misfits, NoCode, NoFindingForm, NoForm, NoName, NoSeconds, NoSummaryForm}
 use Rattle.dme_words.specs.declared.misfits.Misfit.{Misfit}
 use Rattle.dme_words.specs.declared.misfits.Misfit.TheVariants as misfit
 use Rattle.dme_words.specs.declared.misfits.Lacks.{Lacks}
@@ -55,6 +57,10 @@ IsMaybeOf id rows name = name ≡ first_of id rows
 -- the option with this id has no value
 abbrev pub HasNone : Text → List Row → Type 0
 HasNone id rows = first_of id rows ≡ None
+
+-- the name is the value of the argument with this id, or standard input if none is named
+abbrev pub IsValueOrInput : Text → List Row → Text → Type 0
+IsValueOrInput id rows name = name ≡ unwrap_or (first_of id rows) (codes "-")
 
 -- the program is the named one, or standard input if none is named
 abbrev pub IsProgramOf : List Row → Text → Type 0
@@ -148,13 +154,22 @@ IsServeOf rows o =
 abbrev pub is_lacking : Text → List Row → Bool
 is_lacking id rows = not (is_some (first_of id rows))
 
--- a part is named if a record is, and only then
-abbrev pub NamesItsPart : List Row → Type 0
-NamesItsPart rows = is_lacking (codes "record") rows ≡ is_lacking (codes "part") rows
+-- neither a record nor a folder of records is named
+abbrev pub is_unrecorded : List Row → Bool
+is_unrecorded rows = is_lacking (codes "record") rows && is_lacking (codes "records") rows
 
--- an operator is named only if a record is
+-- a part is named if a record is, or its folder, and only then
+abbrev pub NamesItsPart : List Row → Type 0
+NamesItsPart rows = is_unrecorded rows ≡ is_lacking (codes "part") rows
+
+-- an operator is named only if a record is, or its folder
 abbrev pub KeepsItsOperator : List Row → Type 0
-KeepsItsOperator rows = is_lacking (codes "record") rows ≡ true → is_lacking (codes "operator") rows ≡ true
+KeepsItsOperator rows = is_unrecorded rows ≡ true → is_lacking (codes "operator") rows ≡ true
+
+-- the record is the named file; if none is named, that of the part in the named folder
+abbrev pub IsRecordOf : List Row → Option Text → Type 0
+IsRecordOf rows name = name ≡ option_or (first_of (codes "record") rows)
+    (part_record (first_of (codes "records") rows) (first_of (codes "part") rows))
 
 -- the value of the option with this id, if there is one, and it may be the name of a part
 abbrev pub IsGivenOf : Text → List Row → Option Text → Type 0
@@ -166,7 +181,7 @@ abbrev pub IsRunOf : List Row → Run → Type 0
 IsRunOf rows o =
     IsValueOf (codes "setup") rows (string_bytes o.setup) × IsValueOf (codes "host") rows (string_bytes o.host) × IsNumberOf (codes "port") 65535 rows o.port
     × IsWindowOf rows o.window × IsMaybeOf (codes "features") rows (option_map string_bytes o.features)
-    × IsMaybeOf (codes "record") rows (option_map string_bytes o.record) × IsGivenOf (codes "part") rows (option_map string_bytes o.part)
+    × IsRecordOf rows (option_map string_bytes o.record) × IsGivenOf (codes "part") rows (option_map string_bytes o.part)
     × IsGivenOf (codes "operator") rows (option_map string_bytes o.operator)
     × IsMaybeOf (codes "contacts") rows (option_map string_bytes o.contacts)
     × IsFlagOf (codes "progress") rows o.progress × IsFlagOf (codes "trace") rows o.trace
@@ -261,6 +276,18 @@ IsReportOf rows o =
     × IsMaybeOf (codes "limits") rows (option_map string_bytes o.limits) × IsExplainedOf rows o.explain
     × IsProgramOf rows (string_bytes o.program)
 
+-- a summary is printed as comma-separated values if that is the named form, as text if it is that or none is named
+abbrev pub IsSummaryFormOf : List Row → Bool → Type 0
+IsSummaryFormOf rows true = IsValueOf (codes "as") rows (codes "csv")
+IsSummaryFormOf rows false = HasNone (codes "as") rows ⊎ IsValueOf (codes "as") rows (codes "text")
+
+-- a summary of the named records, in their order, under the named program and the named setup and limits, each if one is named
+abbrev pub IsSummaryOf : List Row → BatchSummary → Type 0
+IsSummaryOf rows o =
+    IsSummaryFormOf rows o.is_csv × IsMaybeOf (codes "setup") rows (option_map string_bytes o.setup)
+    × IsMaybeOf (codes "limits") rows (option_map string_bytes o.limits) × IsValueOrInput (codes "program") rows (string_bytes o.program)
+    × (map string_bytes o.records.items ≡ unwrap_or (all_of (codes "RECORD") rows) [])
+
 -- the order of a subcommand with its values, by its name
 abbrev pub IsNamedOrderOf : Text × List Row → Order → Type 0
 IsNamedOrderOf p (order.Check o) = (p.0 ≡ codes "check") × IsCheckOf p.1 o
@@ -279,6 +306,7 @@ IsNamedOrderOf p (order.Judge o) = (p.0 ≡ codes "judge") × IsJudgeOf p.1 o
 IsNamedOrderOf p (order.Watch o) = (p.0 ≡ codes "watch") × IsWatchOf p.1 o
 IsNamedOrderOf p (order.Lower o) = (p.0 ≡ codes "lower") × IsLowerOf p.1 o
 IsNamedOrderOf p (order.Report o) = (p.0 ≡ codes "report") × IsReportOf p.1 o
+IsNamedOrderOf p (order.Summary o) = (p.0 ≡ codes "summary") × IsSummaryOf p.1 o
 
 -- the order of the subcommand that was found
 abbrev pub IsOrderOf : Option (Text × List Row) → Order → Type 0
@@ -343,7 +371,8 @@ IsLaterAskable p = ((p.0 ≡ codes "serve") × Has serve_line p.1) ⊎ ((p.0 ≡
 -- the name of a subcommand of `dme`, with the values that it cannot do without
 abbrev pub IsAskable : Text × List Row → Type 0
 IsAskable p = ((p.0 ≡ codes "check") × Has check_line p.1) ⊎ ((p.0 ≡ codes "simulate") × Has simulate_line p.1)
-    ⊎ ((p.0 ≡ codes "audit") × Has audit_line p.1) ⊎ ((p.0 ≡ codes "loop") × Has loop_line p.1) ⊎ IsLaterAskable p
+    ⊎ ((p.0 ≡ codes "audit") × Has audit_line p.1) ⊎ ((p.0 ≡ codes "loop") × Has loop_line p.1) ⊎ (p.0 ≡ codes "summary")
+    ⊎ IsLaterAskable p
 
 -- the window is one that a client takes, the port is one that can be listened on, the count is one of a server's connections, and the number is
 -- one of a connection
@@ -364,6 +393,7 @@ IsReady (order.Judge o) = Unit {0}
 IsReady (order.Watch o) = (1 ≤ o.listen) × (1 ≤ o.port) × (1 ≤ o.connections) × (o.connections ≤ 4000000000)
 IsReady (order.Lower o) = Unit {0}
 IsReady (order.Report o) = Unit {0}
+IsReady (order.Summary o) = Unit {0}
 
 -- the words are a command line without a fault, and this is the order of the subcommand that they name, with its values
 pub record Asks (words : List Text) (asked : Order) : Type 0 where
@@ -432,8 +462,9 @@ IsMisfitOf fits _ = ⊥
 -- the options of a run that do not go together
 abbrev pub RunMisfits : List Row → Misfit → Type 0
 RunMisfits rows misfit.RecordWithoutPart = HasValue (codes "record") rows × HasNone (codes "part") rows
-RunMisfits rows misfit.PartWithoutRecord = HasValue (codes "part") rows × HasNone (codes "record") rows
-RunMisfits rows misfit.OperatorWithoutRecord = HasValue (codes "operator") rows × HasNone (codes "record") rows
+RunMisfits rows misfit.FolderWithoutPart = HasNone (codes "record") rows × HasValue (codes "records") rows × HasNone (codes "part") rows
+RunMisfits rows misfit.PartWithoutRecord = HasValue (codes "part") rows × HasNone (codes "record") rows × HasNone (codes "records") rows
+RunMisfits rows misfit.OperatorWithoutRecord = HasValue (codes "operator") rows × HasNone (codes "record") rows × HasNone (codes "records") rows
 RunMisfits rows _ = ⊥
 
 -- the value of the option with this id is no number of seconds; or memory ran out
@@ -466,6 +497,13 @@ HasNoReview rows (NoFindingForm word) = IsValueOf (codes "as") rows (string_byte
 HasNoReview rows Memory = Unit {0}
 HasNoReview rows _ = ⊥
 
+-- the named word is no form of a summary; or memory ran out
+abbrev pub HasNoSummary : List Row → WordsFault → Type 0
+HasNoSummary rows (NoSummaryForm word) =
+    IsValueOf (codes "as") rows (string_bytes word) × (string_bytes word ≢ codes "text") × (string_bytes word ≢ codes "csv")
+HasNoSummary rows Memory = Unit {0}
+HasNoSummary rows _ = ⊥
+
 -- memory ran out
 abbrev pub IsShort : WordsFault → Type 0
 IsShort Memory = Unit {0}
@@ -481,6 +519,7 @@ IsRefusedOf p fault = IsShort fault
     ⊎ ((p.0 ≡ codes "export") × HasNoExport p.1 fault)
     ⊎ ((p.0 ≡ codes "review") × HasNoReview p.1 fault)
     ⊎ ((p.0 ≡ codes "watch") × HasNoSeconds (codes "timeout") p.1 fault)
+    ⊎ ((p.0 ≡ codes "summary") × HasNoSummary p.1 fault)
 
 -- likewise of the subcommand that was found
 abbrev pub AsksForNothing : Option (Text × List Row) → WordsFault → Type 0

@@ -1,6 +1,8 @@
-// Examples: which words are refused before all else. The function has laws for its contract and does nothing.
+// Examples: which words are refused before all else, and the files of parts in a folder. Each function has laws for its contract and does nothing.
 
-ghost use Rattle.std.specs.Prelude.{◌≡◌, [], ◌∷◌, true, false, Some, None, codes};
+ghost use Rattle.std.specs.Prelude.{◌≡◌, ℕ, List, [], ◌∷◌, true, false, Some, None, codes};
+ghost use Rattle.record_text.specs.Heads.{IsPart};
+ghost use Rattle.dme_words.specs.Folders.{part_record, record_in};
 ghost use Rattle.dme_words.specs.Ordered.{controlled, is_plain};
 
 /// A byte below the blank and DEL are control characters; those of letters beyond ASCII are not. The first word that has one is refused.
@@ -11,4 +13,21 @@ pub fn control_rows()
     ensures delete { is_plain (127 ∷ []) ≡ false }
     ensures first { controlled (codes "dme" ∷ (97 ∷ 10 ∷ []) ∷ (9 ∷ []) ∷ []) ≡ Some (97 ∷ 10 ∷ []) }
     ensures none { controlled (codes "dme" ∷ codes "check" ∷ []) ≡ None }
+{}
+
+/// Letters, digits, `-`, `_` and `.` stay; each file ends in `.record`. Without a folder or a part there is none.
+#[tactic(auto, unfolding(percent_encoding::specs::Percent::percent_encode_byte))]
+pub fn folder_rows()
+    ensures part { record_in (codes "parts") (codes "0042/7") ≡ codes "parts/0042%2F7.record" }
+    ensures kept { record_in (codes "a") (codes "x-1_2.B z") ≡ codes "a/x-1_2.B%20z.record" }
+    ensures dots { record_in (codes ".") (codes "..") ≡ codes "./...record" }
+    ensures alone { part_record (Some (codes "parts")) None ≡ None }
+    ensures nowhere { part_record None (Some (codes "7")) ≡ None }
+{}
+
+/// Two parts have two files.
+#[tactic(auto, using(crate::proofs::FolderLemmas::files_differ))]
+pub fn parts_have_their_files()
+    ensures { (folder p q : List ℕ) → IsPart p → IsPart q → record_in folder p ≡ record_in folder q
+        → p ≡ q }
 {}

@@ -8,6 +8,7 @@
 #![tactic(auto)]
 
 pub mod examples;
+mod folders;
 mod line;
 pub mod misfits;
 pub mod orders;
@@ -16,8 +17,8 @@ pub mod words;
 
 pub use misfits::{Lacks, Misfit};
 pub use orders::{
-    Audit, Check, Export, Judge, Ledger, Loop, Lower, Order, PartReport, RecordAudit, RecordExport,
-    RecordForm, Review, Run, Service, Simulation, Watch,
+    Audit, BatchSummary, Check, Export, Judge, Ledger, Loop, Lower, Order, PartReport, RecordAudit,
+    RecordExport, RecordForm, Review, Run, Service, Simulation, Watch,
 };
 pub use version::{COMMIT, TOOLCHAIN, VERSION};
 pub use words::{WordsFault, read_words};

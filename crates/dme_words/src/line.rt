@@ -6,7 +6,7 @@ ghost use Rattle.clap.specs.Words.{app_of, rule_of};
 ghost use Rattle.dme_words.specs.CommandLine.{bare_line, first_line, text_rule, whole_line};
 ghost use Rattle.dme_words.specs.Arguments.{argument_rule, with_argument, with_line};
 
-use Argument::{Flag, Needed, Number, NumberOr, Text, Word, WordOr};
+use Argument::{Flag, Needed, Number, NumberOr, Text, Word, WordOr, Words};
 use clap::builder::ValueParser;
 use clap::{Arg, ArgAction, Command};
 use std::alloc::{AllocError, Global};
@@ -29,6 +29,7 @@ After a run:
   audit     Says in which runs of the server's contacts the client's features were measured
   export    Prints how far the measured points of features lie from their nominal points
   report    Prints a page of a part, for a browser or a printer
+  summary   Prints statistics over the parts of a batch, a record each
 
 For makers of clients and servers:
   serve     Is the server of a simulated machine, and prints the contacts that it made
@@ -61,6 +62,8 @@ enum Argument {
     Word(&'static str, &'static str),
     /// A word by itself, the second if there is none.
     WordOr(&'static str, &'static str, &'static str),
+    /// Words by themselves, of which one must be there.
+    Words(&'static str, &'static str),
 }
 
 /// A command: its name, its line of help, and its arguments in their order.
@@ -94,6 +97,11 @@ const FEATURES_HELP: &str =
 const CONTACTS_HELP: &str = "The file that the contacts are written to";
 
 const KEPT_HELP: &str = "The record of the run: begun, or continued from what it holds";
+
+const FOLDER_HELP: &str = "The folder that the records of parts are kept in, each as PART.record";
+
+const MACHINE_HELP: &str =
+    "A file of what is the same every day: SETUP, HOST, PORT, TIMEOUT, WAIT, WINDOW, RECORDS; what is named here goes over it";
 
 const PART_HELP: &str = "Which part is measured: 1 to 64 printable bytes, kept in the record";
 
@@ -135,6 +143,14 @@ const FORM_HELP: &str =
 
 const FINDING_FORM_HELP: &str =
     "The form that is printed: json, for other programs; lines if none is named";
+
+const SUMMARY_FORM_HELP: &str =
+    "The form that is printed: text, or csv, comma-separated values; text if none is named";
+
+const RUN_PROGRAM_HELP: &str =
+    "The DMIS program that was run; - is standard input, as if none is named";
+
+const RECORDS_HELP: &str = "The records of the runs, one for each part; - is standard input";
 
 const CODE_HELP: &str =
     "The code of a refusal, as P5, or the number of a server's error, as 9012; in any letter case";
@@ -261,12 +277,14 @@ const LINES: [Line; 6] = [
         "run",
         "Runs a DMIS program on the machine of a server, and prints the report",
         &[
+            Text("machine", "FILE", MACHINE_HELP),
             NEEDED_SETUP,
             HOST,
             PORT,
             WINDOW,
             Text("features", "FILE", FEATURES_HELP),
             Text("record", "FILE", KEPT_HELP),
+            Text("records", "FOLDER", FOLDER_HELP),
             Text("part", "TEXT", PART_HELP),
             Text("operator", "TEXT", OPERATOR_HELP),
             Text("contacts", "FILE", REPORTED_HELP),
@@ -285,7 +303,7 @@ const LINES: [Line; 6] = [
 ];
 
 /// The others.
-const LATER_LINES: [Line; 8] = [
+const LATER_LINES: [Line; 9] = [
     Line(
         "explain",
         "Says what a refusal means and what to do about it",
@@ -363,6 +381,17 @@ const LATER_LINES: [Line; 8] = [
             PROGRAM,
         ],
     ),
+    Line(
+        "summary",
+        "Prints statistics over the parts of a batch, a record each",
+        &[
+            Text("as", "FORM", SUMMARY_FORM_HELP),
+            SETUP,
+            Text("limits", "FILE", LIMITS_HELP),
+            Text("program", "FILE", RUN_PROGRAM_HELP),
+            Words("RECORD", RECORDS_HELP),
+        ],
+    ),
 ];
 
 /// `--NAME TEXT`.
@@ -396,6 +425,10 @@ fn made_argument<'a>(alloc: Global, argument: Argument) -> Arg<'a>
             .action(ArgAction::SetTrue),
         Word(name, help) => Arg::new(alloc, name).help(help).required(true),
         WordOr(name, usual, help) => Arg::new(alloc, name).help(help).default_value(usual),
+        Words(name, help) => Arg::new(alloc, name)
+            .help(help)
+            .action(ArgAction::Append)
+            .required(true),
     }
 }
 

@@ -24,6 +24,8 @@ pub enum Misfit {
     RecordAndContacts,
     /// A run with `--record` and without `--part`.
     RecordWithoutPart,
+    /// A run with `--records` and without `--part`.
+    FolderWithoutPart,
     /// A run with `--part` and without `--record`.
     PartWithoutRecord,
     /// A run with `--operator` and without `--record`.
@@ -79,6 +81,9 @@ impl fmt::Display for Misfit {
             }
             Misfit::RecordWithoutPart => {
                 "the argument '--record <FILE>' requires '--part <TEXT>'"
+            }
+            Misfit::FolderWithoutPart => {
+                "the argument '--records <FOLDER>' requires '--part <TEXT>'"
             }
             Misfit::PartWithoutRecord => {
                 "the argument '--part <TEXT>' requires '--record <FILE>'"

@@ -38,6 +38,8 @@ pub enum Order {
     Lower(Lower),
     /// Print the page of a part.
     Report(PartReport),
+    /// Print statistics over the parts of a batch.
+    Summary(BatchSummary),
 }
 
 /// The values of `check`.
@@ -153,7 +155,7 @@ pub struct Run {
     pub window: u8,
     /// The file of the features that are there already, to which they are written in the end; `-` is a file of that name.
     pub features: Option<String>,
-    /// The file of the run's record; `-` is a file of that name.
+    /// The file of the run's record, if one is named or its folder is; `-` is a file of that name.
     pub record: Option<String>,
     /// Which part is measured, as the record has it: 1 to 64 printable bytes.
     pub part: Option<String>,
@@ -314,4 +316,19 @@ pub struct PartReport {
     pub explain: bool,
     /// The file of the program; `-` is standard input.
     pub program: String,
+}
+
+/// The values of `summary`.
+#[derive(Debug, Drop)]
+pub struct BatchSummary {
+    /// Whether comma-separated values are printed, or a text.
+    pub is_csv: bool,
+    /// The file of the machine's setup, whose frames the program may recall; `-` is standard input.
+    pub setup: Option<String>,
+    /// The file of the limits that the points are compared with; `-` is standard input.
+    pub limits: Option<String>,
+    /// The file of the program; `-` is standard input.
+    pub program: String,
+    /// The files of the records; `-` is standard input.
+    pub records: Vec<String>,
 }

@@ -1,18 +1,19 @@
 // The command line.
 
-ghost use Rattle.std.specs.Prelude.{◌≡◌, ◌≤◌, IfOk, IfErr, IfSome, OnOk, IsErrAnd, IsSomeAnd, MatchOption, Some, map, true, codes, string_bytes};
+ghost use Rattle.std.specs.Prelude.{◌≡◌, ◌≤◌, [], IfOk, IfErr, IfSome, OnOk, IsErrAnd, IsSomeAnd, MatchOption, Some, map, true, codes, string_bytes, unwrap_or};
 ghost use Rattle.std.specs.Option.{option_map};
-ghost use Rattle.clap.specs.Words.{first_of, found_of, rows_of, subcommand_rows_of};
+ghost use Rattle.clap.specs.Words.{all_of, first_of, found_of, rows_of, subcommand_rows_of};
 ghost use Rattle.client_core.specs.Clients.{is_window};
 ghost use Rattle.dme_words.specs.Ordered as spec;
 ghost use Rattle.dme_words.specs.CommandLine.{audit_line, check_line, explain_line, export_line, judge_line, ledger_line, loop_line, lower_line, report_line, run_line, serve_line, simulate_line, watch_line};
-ghost use Rattle.dme_words.specs.Ordered.{Asks, AsksForNothing, ExportMisfits, Has, HasFlag, HasNoAudit, HasNoExport, HasNoName, HasNoReview, HasNoRun, HasNoRunValue, HasNoSeconds, HasNoTopic, HasNone, HasNumber, HasValue, IsAnyAuditOf, IsAnyExportOf, IsAskable, IsCalled, IsCheckOf, IsCodeOf, IsConnectionsOf, IsExplainOf, IsFindingFormOf, IsFlagOf, IsGivenOf, IsJudgeOf, IsLaterAskable, IsLedgerOf, IsLoopOf, IsLowerOf, IsMaybeOf, IsNoCode, IsNoForm, IsNoSeconds, IsNumber, IsNumberOf, IsOrderOf, IsProgramOf, IsReady, IsRefusal, IsRefusedOf, IsReportOf, IsReviewOf, IsRunOf, IsSecondsOf, IsServeOf, IsSimulateOf, IsValueOf, IsWatchOf, IsWindowOf, KeepsItsOperator, NamesItsPart, form_word, is_lacking};
+ghost use Rattle.dme_words.specs.Ordered.{Asks, AsksForNothing, ExportMisfits, Has, HasFlag, HasNoAudit, HasNoExport, HasNoName, HasNoReview, HasNoRun, HasNoRunValue, HasNoSeconds, HasNoSummary, HasNoTopic, HasNone, HasNumber, HasValue, IsAnyAuditOf, IsAnyExportOf, IsAskable, IsCalled, IsCheckOf, IsCodeOf, IsConnectionsOf, IsExplainOf, IsFindingFormOf, IsFlagOf, IsGivenOf, IsJudgeOf, IsLaterAskable, IsLedgerOf, IsLoopOf, IsLowerOf, IsMaybeOf, IsNoCode, IsNoForm, IsNoSeconds, IsNumber, IsNumberOf, IsOrderOf, IsProgramOf, IsReady, IsRecordOf, IsRefusal, IsRefusedOf, IsReportOf, IsReviewOf, IsRunOf, IsSecondsOf, IsServeOf, IsSimulateOf, IsSummaryFormOf, IsSummaryOf, IsValueOf, IsValueOrInput, IsWatchOf, IsWindowOf, KeepsItsOperator, NamesItsPart, RunMisfits, form_word, is_lacking};
 
+use crate::folders::record_in;
 use crate::line::whole_command;
 use crate::misfits::{Lacks, Misfit};
 use crate::orders::{
-    Audit, Check, Export, Judge, Ledger, Loop, Lower, Order, PartReport, RecordAudit, RecordExport,
-    RecordForm, Review, Run, Service, Simulation, Watch,
+    Audit, BatchSummary, Check, Export, Judge, Ledger, Loop, Lower, Order, PartReport, RecordAudit,
+    RecordExport, RecordForm, Review, Run, Service, Simulation, Watch,
 };
 use clap::error::ErrorKind;
 use clap::parser::ValueSource;
@@ -30,6 +31,9 @@ const FORMS: &str = "\n  [possible values: csv, json, svg, features, contacts]";
 /// Likewise, of a review's findings.
 const FINDING_FORMS: &str = "\n  [possible values: json]";
 
+/// Likewise, of a summary.
+const SUMMARY_FORMS: &str = "\n  [possible values: text, csv]";
+
 /// Why words ask for nothing. Shown as `clap` shows its own faults.
 #[derive(Debug, Drop)]
 pub enum WordsFault {
@@ -43,6 +47,8 @@ pub enum WordsFault {
     NoForm(String),
     /// A word that names no form of a review's findings.
     NoFindingForm(String),
+    /// A word that names no form of a summary.
+    NoSummaryForm(String),
     /// A text that is no number of seconds, and the option that it was given to.
     NoSeconds(&'static str, String),
     /// A text that may not be the name of a part or of an operator, and the option that it was given to.
@@ -88,6 +94,7 @@ impl fmt::Display for WordsFault {
             }
             WordsFault::NoForm(word) => write_value(f, word, "--as <FORM>", FORMS),
             WordsFault::NoFindingForm(word) => write_value(f, word, "--as <FORM>", FINDING_FORMS),
+            WordsFault::NoSummaryForm(word) => write_value(f, word, "--as <FORM>", SUMMARY_FORMS),
             WordsFault::NoSeconds(option, text) => write!(
                 f,
                 "error: invalid value '{text}' for '--{option} <SECONDS>': a number from 1 to 86400\n\nFor more information, try '--help'.\n"
@@ -120,12 +127,19 @@ fn copied_value(alloc: Global, values: &ArgMatches, id: &str) -> Result<String, 
     }
 }
 
+fn copied_or_input(alloc: Global, values: &ArgMatches, id: &str) -> Result<String, AllocError>
+    ensures { IfOk result (λ copy. IsValueOrInput id.now (rows_of (found_of values.now))
+        (string_bytes copy)) }
+{
+    String::from_str(alloc, value_of(values, id).unwrap_or("-"))
+}
+
 /// A copy of the value of `PROGRAM`.
 fn copied_program(alloc: Global, values: &ArgMatches) -> Result<String, AllocError>
     ensures { IfOk result (λ copy. IsProgramOf (rows_of (found_of values.now))
         (string_bytes copy)) }
 {
-    String::from_str(alloc, value_of(values, "PROGRAM").unwrap_or("-"))
+    copied_or_input(alloc, values, "PROGRAM")
 }
 
 fn copied_maybe(alloc: Global, values: &ArgMatches, id: &str) -> Result<Option<String>, AllocError>
@@ -385,7 +399,21 @@ fn given_of(
     }
 }
 
-/// The values of `run`, but for its record.
+/// The file of the record: the named one, or else that of the part in the named folder.
+fn record_of(alloc: Global, values: &ArgMatches) -> Result<Option<String>, AllocError>
+    ensures { IfOk result (λ file. IsRecordOf (rows_of (found_of values.now))
+        (option_map string_bytes file)) }
+{
+    if let Some(file) = copied_maybe(alloc, values, "record")? {
+        return Ok(Some(file));
+    }
+    match (value_of(values, "records"), value_of(values, "part")) {
+        (Some(folder), Some(part)) => Ok(Some(record_in(alloc, folder, part)?)),
+        _ => Ok(None),
+    }
+}
+
+/// The values of `run`.
 fn run_values(alloc: Global, values: &ArgMatches) -> Result<Run, WordsFault>
     requires { Has run_line (rows_of (found_of values.now)) }
     ensures named { IfOk result (IsRunOf (rows_of (found_of values.now))) }
@@ -401,7 +429,7 @@ fn run_values(alloc: Global, values: &ArgMatches) -> Result<Run, WordsFault>
         port: port_of(values, "port"),
         window: window_of(values),
         features: copied_maybe(alloc, values, "features")?,
-        record: copied_maybe(alloc, values, "record")?,
+        record: record_of(alloc, values)?,
         part: given_of(alloc, values, "part")?,
         operator: given_of(alloc, values, "operator")?,
         contacts: copied_maybe(alloc, values, "contacts")?,
@@ -418,6 +446,23 @@ fn run_values(alloc: Global, values: &ArgMatches) -> Result<Run, WordsFault>
     })
 }
 
+/// Why the options of a run do not go together, if they do not.
+fn run_misfit(values: &ArgMatches) -> Option<Misfit>
+    ensures { MatchOption result (NamesItsPart (rows_of (found_of values.now))
+        × KeepsItsOperator (rows_of (found_of values.now)))
+        (RunMisfits (rows_of (found_of values.now))) }
+{
+    let (no_record, no_part) = (is_lacking(values, "record"), is_lacking(values, "part"));
+    let is_unrecorded = no_record && is_lacking(values, "records");
+    match (is_unrecorded, no_part) {
+        (true, false) => Some(Misfit::PartWithoutRecord),
+        (true, true) if !is_lacking(values, "operator") => Some(Misfit::OperatorWithoutRecord),
+        (false, true) if no_record => Some(Misfit::FolderWithoutPart),
+        (false, true) => Some(Misfit::RecordWithoutPart),
+        _ => None,
+    }
+}
+
 /// The values of `run`. A record is of a part, so that its points are not taken for those of another; a part and an operator are those of a
 /// record.
 fn run_order(alloc: Global, values: &ArgMatches) -> Result<Run, WordsFault>
@@ -429,13 +474,9 @@ fn run_order(alloc: Global, values: &ArgMatches) -> Result<Run, WordsFault>
         × (is_window order.window ≡ true)) }
     ensures none { IfErr result (HasNoRun (rows_of (found_of values.now))) }
 {
-    let has_operator = !is_lacking(values, "operator");
-    match (is_lacking(values, "record"), is_lacking(values, "part")) {
-        (false, true) => Err(WordsFault::Misfits(Misfit::RecordWithoutPart)),
-        (true, false) => Err(WordsFault::Misfits(Misfit::PartWithoutRecord)),
-        (true, true) if has_operator => { Err(WordsFault::Misfits(Misfit::OperatorWithoutRecord)) }
-        (true, true) => run_values(alloc, values),
-        (false, false) => run_values(alloc, values),
+    match run_misfit(values) {
+        Some(why) => Err(WordsFault::Misfits(why)),
+        None => run_values(alloc, values),
     }
 }
 
@@ -666,6 +707,63 @@ fn report_order(alloc: Global, values: &ArgMatches) -> Result<PartReport, AllocE
     })
 }
 
+/// Whether a summary is printed as comma-separated values.
+fn is_csv(alloc: Global, values: &ArgMatches) -> Result<bool, WordsFault>
+    ensures named { IfOk result (IsSummaryFormOf (rows_of (found_of values.now))) }
+    ensures none { IfErr result (HasNoSummary (rows_of (found_of values.now))) }
+{
+    match value_of(values, "as") {
+        None | Some("text") => Ok(false),
+        Some("csv") => Ok(true),
+        Some(word) => Err(WordsFault::NoSummaryForm(String::from_str(alloc, word)?)),
+    }
+}
+
+fn copied_texts(alloc: Global, texts: &[&str]) -> Result<Vec<String>, AllocError>
+    ensures { IfOk result (λ copies. map string_bytes copies.items
+        ≡ map (λ text. text.now) texts.now) }
+{
+    let mut copies = Vec::new(alloc);
+    let mut left = texts;
+    while let [text, others @ ..] = left {
+        copies.push(String::from_str(alloc, text)?)?;
+        left = others;
+    }
+    Ok(copies)
+}
+
+fn values_of<'a, 'b>(values: &'b ArgMatches<'a>, id: &str) -> Option<&'b [&'a str]>
+    ensures { option_map (λ texts. map (λ text. text.now) texts.now) result
+        ≡ all_of id.now (rows_of (found_of values.now)) }
+{
+    values.get_strs(id)
+}
+
+/// Copies of the values of an argument that may have several.
+fn copied_all(alloc: Global, values: &ArgMatches, id: &str) -> Result<Vec<String>, AllocError>
+    ensures { IfOk result (λ copies. map string_bytes copies.items
+        ≡ unwrap_or (all_of id.now (rows_of (found_of values.now))) []) }
+{
+    match values_of(values, id) {
+        Some(texts) => copied_texts(alloc, texts),
+        None => Ok(Vec::new(alloc)),
+    }
+}
+
+/// The values of `summary`.
+fn summary_order(alloc: Global, values: &ArgMatches) -> Result<BatchSummary, WordsFault>
+    ensures named { IfOk result (IsSummaryOf (rows_of (found_of values.now))) }
+    ensures none { IfErr result (HasNoSummary (rows_of (found_of values.now))) }
+{
+    Ok(BatchSummary {
+        is_csv: is_csv(alloc, values)?,
+        setup: copied_maybe(alloc, values, "setup")?,
+        limits: copied_maybe(alloc, values, "limits")?,
+        program: copied_or_input(alloc, values, "program")?,
+        records: copied_all(alloc, values, "RECORD")?,
+    })
+}
+
 /// The order of one of the last ten subcommands, with its values.
 fn later_order(alloc: Global, name: &str, values: &ArgMatches) -> Result<Order, WordsFault>
     requires { IsLaterAskable (name.now, rows_of (found_of values.now)) }
@@ -700,6 +798,7 @@ fn order_of(alloc: Global, matches: &ArgMatches) -> Result<Order, WordsFault>
         Some(("simulate", values)) => Ok(Order::Simulate(simulate_order(alloc, values)?)),
         Some(("audit", values)) => audit_order(alloc, values),
         Some(("loop", values)) => Ok(Order::Loop(loop_order(alloc, values)?)),
+        Some(("summary", values)) => Ok(Order::Summary(summary_order(alloc, values)?)),
         Some((name, values)) => later_order(alloc, name, values),
         None => unreachable!(),
     }
