@@ -1,0 +1,178 @@
+"""A batch of thirty parts, as an inspector measures it: each by the same short call with `--machine`, on one simulated machine.
+
+The connection of one run breaks and one run is killed: the same call again measures the rest. One part is never finished, and one is off by
+0.030 mm at each third touch. Then each part has its record under its name in the folder of records; its page says what is missing and what is
+out of limits; and the summary of all, of one unfinished part, has the figures that are computed here from the tables of the parts, as a table
+and as text.
+
+`run` calls this; by itself: tests/batch.py
+"""
+
+import csv
+import fractions
+import io
+import json
+import pathlib
+import socket
+import subprocess
+import sys
+import tempfile
+import threading
+
+from growths import Wrong, must
+from killed import dme, program
+from listening import free_port
+from watched import ended, listening
+
+PARTS = 30
+BROKEN, KILLED, UNFINISHED, OUT = 4, 11, 17, 23
+TOOLS = "TOOL P1\nTOOL P2\nFRAME PART 100 50 10\n"
+SHIFTS = "SHIFT 0.002 0 0\nSHIFT 0 0 0.001\nSHIFT 0 0 -0.004\n"
+LIMITS = "LIMIT * -0.010 0.010\n"
+LEAST, MOST = -10, 10
+
+
+def relayed(port, lines, end):
+    """The port of a relay of one connection, which ends after that many lines of the server, once `end` was called."""
+    listener = socket.create_server(("127.0.0.1", 0))
+
+    def forward(source, sink):
+        try:
+            while piece := source.recv(4096):
+                sink.sendall(piece)
+        except OSError:
+            pass
+
+    def relay():
+        client, _ = listener.accept()
+        server = socket.create_connection(("127.0.0.1", port))
+        threading.Thread(target=forward, args=(client, server), daemon=True).start()
+        left = lines
+        while left > 0 and (piece := server.recv(64)):
+            client.sendall(piece)
+            left -= piece.count(b"\n")
+        end()
+        for it in (client, server, listener):
+            it.close()
+
+    threading.Thread(target=relay, daemon=True).start()
+    return listener.getsockname()[1]
+
+
+def name_of(number):
+    return f"0042/{number}"
+
+
+def record_of(number):
+    return f"parts/0042%2F{number}.record"
+
+
+def run(folder, number, *more):
+    return dme(folder, "run", "--machine", "cell.machine", "--part", name_of(number), "--operator", "A. B.", *more, "part.dmis")
+
+
+def measured(folder, number, port, other):
+    """Measures a part, by the same call again if its run broke or was killed."""
+    runs = []
+    if number in (BROKEN, UNFINISHED):
+        runs = [run(folder, number, "--port", str(relayed(port, 200, lambda: None)))]
+    elif number == KILLED:
+        started = threading.Event()
+        cut = relayed(port, 300, lambda: (started.wait(), runs[0].kill()))
+        runs.append(run(folder, number, "--port", str(cut)))
+        started.set()
+    for it in runs:
+        must(ended(it)[0] != 0, name_of(number), "was measured at once")
+    if number != UNFINISHED:
+        status, report, errors = ended(run(folder, number, *(["--port", str(other)] if number == OUT else [])))
+        must(status == 0 and report.startswith("STATE Done\n"), name_of(number), status, errors)
+
+
+def table_of(folder, number):
+    """The deviations along the normal of a part, by feature and touch, in micrometres; none where nothing was measured."""
+    status, text, errors = ended(dme(folder, "export", "--as", "json", "--setup", "machine.setup", "--record", record_of(number), "part.dmis"))
+    must(status == (3 if number == UNFINISHED else 0), "table", name_of(number), errors)
+    rows = json.loads(text, parse_float=fractions.Fraction)
+    return {(it["feature"], it["point"]): it["deviation_along_normal"] for it in rows}
+
+
+def rounded(number):
+    """To the nearest whole number; of two equally near, the one farther from zero."""
+    whole = int(abs(number) + fractions.Fraction(1, 2))
+    return whole if number >= 0 else -whole
+
+
+def length(micrometres):
+    return f"{'-' if micrometres < 0 else ''}{abs(micrometres) // 1000}.{abs(micrometres) % 1000:03}"
+
+
+def figures(values):
+    """The figures of the summary for these values in millimetres, as texts."""
+    all_of = [int(it * 1000) for it in values if it is not None]
+    least, most = min(all_of), max(all_of)
+    mean = rounded(fractions.Fraction(sum(all_of), len(all_of)))
+    out = sum(not LEAST <= it <= MOST for it in all_of)
+    return [str(len(all_of)), length(least), length(mean), length(most), length(most - least), str(out)]
+
+
+def check_page(folder, number):
+    words = ("report", "--record", record_of(number), "--setup", "machine.setup", "--limits", "part.limits", "part.dmis")
+    status, page, errors = ended(dme(folder, *words))
+    must(status == (3 if number == UNFINISHED else 0), "page", name_of(number), status, errors)
+    must(name_of(number) in page and ("missing" in page) == (number == UNFINISHED), "page", name_of(number), "what is missing")
+    must(("Out of limits" in page) == (number == OUT), "page", name_of(number), "what is out of limits")
+
+
+def check_summary(folder):
+    tables = [table_of(folder, number) for number in range(1, PARTS + 1)]
+    expected = [[feature, str(touch), *figures([it[feature, touch] for it in tables])] for feature, touch in tables[0]]
+    words = ("summary", "--setup", "machine.setup", "--limits", "part.limits", "--program", "part.dmis")
+    records = [record_of(number) for number in range(1, PARTS + 1)]
+    status, text, errors = ended(dme(folder, *words, "--as", "csv", *records))
+    must(status == 3 and list(csv.reader(io.StringIO(text)))[1:] == expected, "the table of the summary", status, errors)
+    status, text, errors = ended(dme(folder, *words, *records))
+    lines = text.splitlines()
+    must(status == 3 and lines[0] == f"{PARTS} of {PARTS} records count", "the summary", status, errors)
+    must([it for it in lines if it.startswith("unfinished: ")] == [lines[1]] and name_of(UNFINISHED) in lines[1], "the unfinished part", lines[1])
+    must(sum(it.endswith(", out 1") for it in lines) == sum(it[-1] == "1" for it in expected) > 0, "what is out of limits")
+
+
+def batch(folder):
+    (folder / "part.dmis").write_text(program())
+    (folder / "machine.setup").write_text(TOOLS + SHIFTS)
+    (folder / "other.setup").write_text(TOOLS + "SHIFT 0 0 0\nSHIFT 0 0 0\nSHIFT 0 0 0.030\n")
+    (folder / "part.limits").write_text(LIMITS)
+    (folder / "parts").mkdir()
+    ports = free_port(), free_port()
+    (folder / "cell.machine").write_text(f"# cell 3\nSETUP machine.setup\nHOST 127.0.0.1\nPORT {ports[0]}\nWINDOW 4\nRECORDS parts\n")
+    servers = [
+        listening(folder, port, "serve", "--setup", setup, "--port", str(port), "--endless") for port, setup in zip(ports, ("machine.setup", "other.setup"))
+    ]
+    try:
+        for number in range(1, PARTS + 1):
+            measured(folder, number, *ports)
+    finally:
+        for it in servers:
+            it.kill()
+            it.communicate()
+    names = {pathlib.Path(record_of(number)).name for number in range(1, PARTS + 1)}
+    must({it.name for it in (folder / "parts").iterdir()} == names, "the records of the parts")
+    for number in (1, BROKEN, KILLED, UNFINISHED, OUT):
+        check_page(folder, number)
+    check_summary(folder)
+
+
+def check_batch():
+    """(passed, failed)."""
+    with tempfile.TemporaryDirectory() as folder:
+        try:
+            batch(pathlib.Path(folder))
+            print("ok batch")
+        except (Wrong, subprocess.TimeoutExpired, OSError) as wrong:
+            print(f"FAILED batch: {wrong}")
+            return 0, 1
+    return 1, 0
+
+
+if __name__ == "__main__":
+    sys.exit(1 if check_batch()[1] else 0)
