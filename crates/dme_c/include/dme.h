@@ -177,7 +177,7 @@ dme_place dme_client_touch(dme_client *client, size_t first, size_t touch);
 dme_refusal dme_program_refusal(const uint8_t *setup, size_t setup_length, const uint8_t *program, size_t program_length);
 
 /*
- * The record of a run (`DME-RECORD 1`): what was asked, what the server reported, and which features are complete. The file is the caller's.
+ * The record of a run (`DME-RECORD 2`): what was asked, what the server reported, and which features are complete. The file is the caller's.
  *
  * Makes a client that continues the record of these bytes, and the record; both handles hold nothing before. `bytes` is all that the file has,
  * none if there is no file yet. `part` names the part, of length 0 if there is none. The client has the features that the record completes,

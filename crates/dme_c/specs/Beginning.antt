@@ -6,6 +6,7 @@ use Rattle.contact_ledger.specs.declared.acts.Act.{Act}
 use Rattle.contact_ledger.specs.declared.features.Feature.{Feature}
 use Rattle.dmis_program.specs.Meaning.{Meaning}
 use Rattle.record_text.specs.Heads.{IsPartGiven, head_lines}
+use Rattle.record_text.specs.declared.versions.Version.TheVariants.{Second}
 use Rattle.client_core.specs.Clients.{is_window}
 use Rattle.protocol_model.specs.Claims.{Sound}
 use Rattle.protocol_model.specs.Ends.{ClientEnd, new_client_end}
@@ -54,7 +55,7 @@ pub record IsBegun (setup program part : List ℕ) (window held : ℕ) (client :
   pub client_is : client ≡ new_client_end meaning kept window
   pub counted_is : record_is.counted ≡ record { features = length kept; points = 0 }
   pub none_told : record_is.told ≡ 0
-  pub new : held ≡ 0 → record_is.waiting ≡ text_of (head_lines (part_of part) meaning.features)
+  pub new : held ≡ 0 → record_is.waiting ≡ text_of (head_lines Second (part_of part) meaning.features)
   pub old : held ≢ 0 → record_is.waiting ≡ []
 
 -- why nothing is made; out of memory says nothing about the texts, and what is refused in a record is said by its crate

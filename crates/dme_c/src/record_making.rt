@@ -14,6 +14,7 @@ ghost use Rattle.dme_c.specs.Making.{AnswersJust, IsBadSetup, IsBadProgram};
 ghost use Rattle.dme_c.specs.Recordings.{next_number};
 ghost use Rattle.record_text.specs.Beginnings.{BeginsWith};
 ghost use Rattle.record_text.specs.declared.opening.RecordRefusal.TheVariants as refusal;
+ghost use Rattle.record_text.specs.declared.versions.Version.TheVariants.{Second};
 
 use crate::client_handles::ClientHandle;
 use crate::codes::NotMade;
@@ -128,7 +129,8 @@ fn first_bytes(
     held: usize,
 ) -> Result<ByteQueue, AllocError>
     ensures new { IfOk result (λ waiting. held ≡ 0
-        → waiting.waiting ≡ text_of (head_lines (part_of part.now) program.now.features)) }
+        → waiting.waiting
+        ≡ text_of (head_lines Second (part_of part.now) program.now.features)) }
     ensures old { IfOk result (λ waiting. held ≢ 0 → waiting.waiting ≡ []) }
 {
     let mut waiting = ByteQueue::new(alloc);

@@ -18,6 +18,8 @@ use Rattle.record_text.proofs.StageOnes.{leads_one}
 use Rattle.record_text.proofs.StageReads.{record_leads}
 use Rattle.record_text.proofs.StageShapes.{Halves, leads_split}
 use Rattle.record_text.specs.declared.opening.Beginning.{Beginning}
+use Rattle.record_text.specs.declared.versions.Version.{Version}
+use Rattle.record_text.specs.declared.versions.Version.TheVariants.{Second}
 use Rattle.record_laws.specs.Recordings.{told_now}
 use Rattle.record_laws.specs.Runs.{AreKilledRuns, HasAllOf, IsKilledRun, IsRecordOf, no_run, one_more, run_begun}
 use Rattle.record_laws.proofs.Wholes.{Found, whole_found, whole_then}
@@ -49,9 +51,10 @@ follow_fits ws (e ∷ es) old new fits f = follow_fits ws es f.0 new (one_fits e
 
 -- the entries of the record that a run continues, and what they keep
 record Started (part : Option (List ℕ)) (ws : List Wanted) (b : Beginning) : Type 0 where
+  version : Version
   entries : List Entry
   kept : Kept
-  text : b.text.items ≡ text_of (record_lines part ws entries)
+  text : b.text.items ≡ text_of (record_lines version part ws entries)
   follow : Follow ws nothing_kept entries kept
   features : kept.features ≡ b.features
   told : kept.told ≡ b.told
@@ -61,9 +64,10 @@ record Started (part : Option (List ℕ)) (ws : List Wanted) (b : Beginning) : T
 
 new_started : (part : Option (List ℕ)) (ws : List Wanted) (b : Beginning) → IsNew part ws b → Started part ws b
 new_started part ws b h = record {
+  version = Second;
   entries = [];
   kept = nothing_kept;
-  text = h.text ∙ ap text_of (sym (append-nil (head_lines part ws)));
+  text = h.text ∙ ap text_of (sym (append-nil (head_lines Second part ws)));
   follow = refl;
   features = sym h.features;
   told = sym h.told;
@@ -80,11 +84,12 @@ continued_started part ws bytes r b h same g =
     let follow : Follow ws nothing_kept h.entries h.kept =
     subst (λ (l : List Wanted). Follow l nothing_kept h.entries h.kept) same.asked_is h.follow in
     record {
+      version = h.version;
       entries = h.entries;
       kept = h.kept;
       text = found.text_is ∙ (ap text_of h.whole
-          ∙ (ap (λ (p : Option (List ℕ)). text_of (record_lines p r.asked h.entries)) same.part_is
-          ∙ ap (λ (l : List Wanted). text_of (record_lines part l h.entries)) same.asked_is));
+          ∙ (ap (λ (p : Option (List ℕ)). text_of (record_lines h.version p r.asked h.entries)) same.part_is
+          ∙ ap (λ (l : List Wanted). text_of (record_lines h.version part l h.entries)) same.asked_is));
       follow = follow;
       features = sym (ap (λ (x : Recorded). x.features) h.says) ∙ sym g.features;
       told = sym (ap (λ (x : Recorded). x.told) h.says) ∙ sym g.told;
@@ -147,29 +152,29 @@ is_run p part bytes b window ms program asked begins fit written =
     record { start = s; reached = reached; same = ap (λ (e : ClientEnd). e.client.program) reached.end_is ∙ told.same }
 
 -- the lines of entries after those of a record
-record_more : (part : Option (List ℕ)) (ws : List Wanted) (es more : List Entry)
-    → text_of (record_lines part ws es) ++ text_of (map entry_line more) ≡ text_of (record_lines part ws (es ++ more))
-record_more part ws es more =
-    sym (text_more (record_lines part ws es) (map entry_line more))
-    ∙ ap text_of (append_assoc (head_lines part ws) (map entry_line es) (map entry_line more)
-    ∙ ap (λ (ls : List (List ℕ)). head_lines part ws ++ ls) (sym (mapped es)))
+record_more : (v : Version) (part : Option (List ℕ)) (ws : List Wanted) (es more : List Entry)
+    → text_of (record_lines v part ws es) ++ text_of (map entry_line more) ≡ text_of (record_lines v part ws (es ++ more))
+record_more v part ws es more =
+    sym (text_more (record_lines v part ws es) (map entry_line more))
+    ∙ ap text_of (append_assoc (head_lines v part ws) (map entry_line es) (map entry_line more)
+    ∙ ap (λ (ls : List (List ℕ)). head_lines v part ws ++ ls) (sym (mapped es)))
   where
     mapped : (xs : List Entry) → map entry_line (xs ++ more) ≡ map entry_line xs ++ map entry_line more
     mapped [] = refl
     mapped (x ∷ xs) = ap (λ (ls : List (List ℕ)). entry_line x ∷ ls) (mapped xs)
 
 -- a text of entries that follow one another is a record of what they leave
-record_of : (part : Option (List ℕ)) (ws : List Wanted) (es : List Entry) (kept : Kept) (fs : List Feature) (acts : List (ℕ × Act))
+record_of : (v : Version) (part : Option (List ℕ)) (ws : List Wanted) (es : List Entry) (kept : Kept) (fs : List Feature) (acts : List (ℕ × Act))
     (text : List ℕ) → IsPartGiven part → AreAsked ws → Follow ws nothing_kept es kept → kept.features ≡ fs → kept.told ≡ acts
-    → text ≡ text_of (record_lines part ws es) → IsRecordOf part ws fs acts text
-record_of part ws es kept fs acts text given asked f features told is = (
+    → text ≡ text_of (record_lines v part ws es) → IsRecordOf part ws fs acts text
+record_of v part ws es kept fs acts text given asked f features told is = (
   kept.last,
   kept.errors,
   kept.notes,
   subst (λ (t : List ℕ). IsRecord t (says fs acts)) (sym is)
-      (subst (λ (l : List (ℕ × Act)). IsRecord (text_of (record_lines part ws es)) (says fs l)) told
-      (subst (λ (l : List Feature). IsRecord (text_of (record_lines part ws es)) (says l kept.told)) features
-      (whole_read part ws es kept given asked f))),
+      (subst (λ (l : List (ℕ × Act)). IsRecord (text_of (record_lines v part ws es)) (says fs l)) told
+      (subst (λ (l : List Feature). IsRecord (text_of (record_lines v part ws es)) (says l kept.told)) features
+      (whole_read v part ws es kept given asked f))),
 )
   where
     says : List Feature → List (ℕ × Act) → Recorded
@@ -193,23 +198,24 @@ says_what_was_told p part bytes b window ms program given asked begins fit writt
     let more : List Entry = h.done ++ due (view e.client) r in
     let follow : Follow p.features (Started.kept s) more h.kept =
     subst (λ (q : Meaning). Follow q.features (Started.kept s) more h.kept) (IsRun.same run) h.follow in
-    let text : (told_now e r).text ≡ text_of (record_lines part p.features (Started.entries s ++ more)) =
+    let text : (told_now e r).text ≡ text_of (record_lines (Started.version s) part p.features (Started.entries s ++ more)) =
     lines_joined r.text h.done (due (view e.client) r) b.text.items h.text
     ∙ (ap (λ (t : List ℕ). t ++ text_of (map entry_line more)) (Started.text s)
-    ∙ record_more part p.features (Started.entries s) more) in
+    ∙ record_more (Started.version s) part p.features (Started.entries s) more) in
     subst (λ (fs : List Feature). IsRecordOf part p.features fs acts (told_now e r).text)
     (ap (λ (x : ClientEnd). x.client.table.tally.features) (Reached.end_is (IsRun.reached run)))
-    (record_of part p.features (Started.entries s ++ more) h.kept e.client.table.tally.features acts (told_now e r).text given asked
+    (record_of (Started.version s) part p.features (Started.entries s ++ more) h.kept e.client.table.tally.features acts (told_now e r).text given asked
     (follow_more p.features (Started.entries s) more nothing_kept (Started.kept s) h.kept (Started.follow s) follow) h.features h.told text)
 
 -- ---- a run that is killed
 
 -- the entries of a text at the moment at which a run is killed
 record WasWritten (p : Meaning) (part : Option (List ℕ)) (b : Beginning) (text : List ℕ) : Type 0 where
+  version : Version
   entries : List Entry
   kept : Kept
   follow : Follow p.features nothing_kept entries kept
-  text_is : text ≡ text_of (record_lines part p.features entries)
+  text_is : text ≡ text_of (record_lines version part p.features entries)
   added : List ℕ
   parts : text ≡ b.text.items ++ added
 
@@ -229,11 +235,12 @@ killed_text p part bytes b window ms program asked begins fit written =
     let cut : Parts p.features h.done (due (view e.client) r) (Started.kept s) h.kept =
     follow_parts p.features h.done (due (view e.client) r) (Started.kept s) h.kept follow in
     record {
+      version = Started.version s;
       entries = Started.entries s ++ h.done;
       kept = cut.mid;
       follow = follow_more p.features (Started.entries s) h.done nothing_kept (Started.kept s) cut.mid (Started.follow s) cut.front;
       text_is = h.text ∙ (ap (λ (t : List ℕ). t ++ text_of (map entry_line h.done)) (Started.text s)
-          ∙ record_more part p.features (Started.entries s) h.done);
+          ∙ record_more (Started.version s) part p.features (Started.entries s) h.done);
       added = text_of (map entry_line h.done);
       parts = h.text;
     }
@@ -243,24 +250,24 @@ data Reads (part : Option (List ℕ)) (ws : List Wanted) (new : List ℕ) : Type
   none_yet : IsUnbegun new → Reads part ws new
   is_one : (kept : Kept) → IsRecord new (recorded part ws kept) → Reads part ws new
 
-cut_reads : (part : Option (List ℕ)) (ws : List Wanted) (es : List Entry) (kept : Kept) (count : ℕ) → IsPartGiven part → AreAsked ws
-    → Follow ws nothing_kept es kept → Reads part ws (take count (text_of (record_lines part ws es)))
-cut_reads part ws es kept count given asked f = go (nat_lt count (length text)) refl
+cut_reads : (v : Version) (part : Option (List ℕ)) (ws : List Wanted) (es : List Entry) (kept : Kept) (count : ℕ) → IsPartGiven part → AreAsked ws
+    → Follow ws nothing_kept es kept → Reads part ws (take count (text_of (record_lines v part ws es)))
+cut_reads v part ws es kept count given asked f = go (nat_lt count (length text)) refl
   where
     text : List ℕ
-    text = text_of (record_lines part ws es)
+    text = text_of (record_lines v part ws es)
 
-    cut : ReadsCut part ws es (take count (text_of (record_lines part ws es)))
-        → Reads part ws (take count (text_of (record_lines part ws es)))
+    cut : ReadsCut part ws es (take count (text_of (record_lines v part ws es)))
+        → Reads part ws (take count (text_of (record_lines v part ws es)))
     cut (unbegun u) = none_yet u
     cut (begun k left follow is) = is_one left is
 
-    go : (b : Bool) → nat_lt count (length (text_of (record_lines part ws es))) ≡ b
-        → Reads part ws (take count (text_of (record_lines part ws es)))
-    go true less = cut (cut_read part ws es kept count given asked f (ltb-true count _ less))
+    go : (b : Bool) → nat_lt count (length (text_of (record_lines v part ws es))) ≡ b
+        → Reads part ws (take count (text_of (record_lines v part ws es)))
+    go true less = cut (cut_read v part ws es kept count given asked f (ltb-true count _ less))
     go false all = subst (λ (t : List ℕ). Reads part ws t)
-        (sym (take_all count (text_of (record_lines part ws es)) (ltb-false count _ all)))
-        (is_one kept (whole_read part ws es kept given asked f))
+        (sym (take_all count (text_of (record_lines v part ws es)) (ltb-false count _ all)))
+        (is_one kept (whole_read v part ws es kept given asked f))
 
 killed_reads : (p : Meaning) (part : Option (List ℕ)) (old new : List ℕ) → IsProgram p → IsPartGiven part → AreAsked p.features
     → IsKilledRun p part old new → Reads part p.features new
@@ -268,7 +275,7 @@ killed_reads p part old new program given asked k =
     let w = killed_text p part old k.begun k.window k.moments program asked k.begins k.fit k.written in
     subst (λ (t : List ℕ). Reads part p.features t)
     (ap (λ (t : List ℕ). take k.count t) (sym (WasWritten.text_is w)) ∙ sym k.left)
-    (cut_reads part p.features (WasWritten.entries w) (WasWritten.kept w) k.count given asked (WasWritten.follow w))
+    (cut_reads (WasWritten.version w) part p.features (WasWritten.entries w) (WasWritten.kept w) k.count given asked (WasWritten.follow w))
 
 -- ---- nothing is lost
 
@@ -321,6 +328,7 @@ not_torn bytes r new rest h lines u =
     let short : 0 < length t.behind = t.short in
     not_unbegun bytes r h (record {
       torn = record {
+        version = t.version;
         part = t.part;
         asked = t.asked;
         part_given = t.part_given;
@@ -332,7 +340,7 @@ not_torn bytes r new rest h lines u =
       ours = λ none. absurd (some_line (sym none ∙ h.whole));
     })
   where
-    some_line : [] ≡ record_lines r.part r.asked h.entries → ⊥
+    some_line : [] ≡ record_lines h.version r.part r.asked h.entries → ⊥
     some_line e = cc
 
 -- the file keeps what the run found whole

@@ -5,7 +5,7 @@ use Rattle.record_text.proofs.Names.{entry_plain, Follow, head_lines, header, in
 use Rattle.record_text.proofs.Names.{IsWrittenEntry, Kept, le-leb, leb-true, length, line_of, List, list_all, map, name_plain, nat_le, None}
 use Rattle.record_text.proofs.Names.{nothing_kept, Option, part_lines, record_lines, recorded, refl, Note, Noted, Some, subst, suc, sym, take}
 use Rattle.record_text.proofs.Names.{take-append-add, take-append-drop, text_of, Told, Touch, touch_fields, touch_line, true, Wanted, wanted_lines}
-use Rattle.record_text.proofs.Names.{word_of, zero, ℕ}
+use Rattle.record_text.proofs.Names.{append_assoc, First, length-append, Second, Version, word_of, zero, ℕ}
 use Rattle.std.proofs.lemmas.Bool.{and_from, and_parts}
 use Rattle.std.proofs.lemmas.List.{take-append-le}
 use Rattle.contact_ledger.specs.Lines.{whole_lines}
@@ -79,10 +79,14 @@ entries_text [] asked old new h = tt
 entries_text (e ∷ es) asked old new h =
     (entry_text e (written_follows asked old h.0 e h.1), entries_text es asked h.0 new h.2)
 
-record_texts : (part : Option (List ℕ)) (asked : List Wanted) (es : List Entry) (kept : Kept) → IsPartGiven part → AreAsked asked
-    → Follow asked nothing_kept es kept → AreTexts (record_lines part asked es)
-record_texts part asked es kept h g f = texts_append (head_lines part asked) (map entry_line es) (
-  record { all = refl },
+header_text : (v : Version) → IsText (header v)
+header_text First = record { all = refl }
+header_text Second = record { all = refl }
+
+record_texts : (v : Version) (part : Option (List ℕ)) (asked : List Wanted) (es : List Entry) (kept : Kept) → IsPartGiven part → AreAsked asked
+    → Follow asked nothing_kept es kept → AreTexts (record_lines v part asked es)
+record_texts v part asked es kept h g f = texts_append (head_lines v part asked) (map entry_line es) (
+  header_text v,
   texts_append (part_lines part) (asked_lines asked ++ codes "END" ∷ []) (part_text part h)
       (texts_append (asked_lines asked) (codes "END" ∷ []) (asked_text asked g) (record { all = refl }, tt)),
 ) (entries_text es asked nothing_kept kept f)
@@ -140,19 +144,20 @@ sides (x ∷ xs) ys (z ∷ front) behind e =
 -- ---- a text that is cut
 
 -- what the whole lines of a text are
-data ReadsFront (part : Option (List ℕ)) (asked : List Wanted) (es : List Entry) (lines : List (List ℕ)) : Type 0 where
-  torn : AreTornHead lines → ReadsFront part asked es lines
-  entries : (front : List (List ℕ)) → IsFrontOf asked nothing_kept es front → lines ≡ head_lines part asked ++ front
-      → ReadsFront part asked es lines
+data ReadsFront (v : Version) (part : Option (List ℕ)) (asked : List Wanted) (es : List Entry) (lines : List (List ℕ)) : Type 0 where
+  torn : AreTornHead lines → ReadsFront v part asked es lines
+  entries : (front : List (List ℕ)) → IsFrontOf asked nothing_kept es front → lines ≡ head_lines v part asked ++ front
+      → ReadsFront v part asked es lines
 
-front_read : (part : Option (List ℕ)) (asked : List Wanted) (es : List Entry) (kept : Kept) (lines behind : List (List ℕ))
-    → IsPartGiven part → AreAsked asked → Follow asked nothing_kept es kept → record_lines part asked es ≡ lines ++ behind
-    → ReadsFront part asked es lines
-front_read part asked es kept lines behind h g f e =
-    go (sides (head_lines part asked) (map entry_line es) lines behind e)
+front_read : (v : Version) (part : Option (List ℕ)) (asked : List Wanted) (es : List Entry) (kept : Kept) (lines behind : List (List ℕ))
+    → IsPartGiven part → AreAsked asked → Follow asked nothing_kept es kept → record_lines v part asked es ≡ lines ++ behind
+    → ReadsFront v part asked es lines
+front_read v part asked es kept lines behind h g f e =
+    go (sides (head_lines v part asked) (map entry_line es) lines behind e)
   where
-    go : Sides (head_lines part asked) (map entry_line es) lines → ReadsFront part asked es lines
+    go : Sides (head_lines v part asked) (map entry_line es) lines → ReadsFront v part asked es lines
     go (first more p l) = torn (record {
+      version = v;
       part = part;
       asked = asked;
       part_given = h;
@@ -172,63 +177,75 @@ split_at (suc n) (suc k) = go (split_at n k)
     go (inl h) = inl (omega (arith, h))
     go (inr h) = let e = h.1 in inr (h.0, omega (arith, e))
 
--- a text of a header that has no whole line begins the header
-cut_header : (k : ℕ) (rest : List ℕ) → whole_lines (take k (header ++ 10 ∷ rest)) ≡ [] → BeginsHeader (take k (header ++ 10 ∷ rest))
-cut_header k rest e = go (split_at 12 k)
+-- a text that has no whole line begins its first
+cut_line : (line rest : List ℕ) (k : ℕ) → IsText line → whole_lines (take k (line ++ 10 ∷ rest)) ≡ []
+    → (behind : List ℕ) × (line ≡ take k (line ++ 10 ∷ rest) ++ behind)
+cut_line line rest k t e = go (split_at (length line) k)
   where
-    go : (k ≤ 12) ⊎ ((j : ℕ) × (k ≡ 12 + 1 + j)) → BeginsHeader (take k (header ++ 10 ∷ rest))
+    go : (k ≤ length line) ⊎ ((j : ℕ) × (k ≡ length line + 1 + j)) → (behind : List ℕ) × (line ≡ take k (line ++ 10 ∷ rest) ++ behind)
     go (inl h) = (
-      drop k header,
-      sym (take-append-drop k header) ∙ ap (λ (t : List ℕ). t ++ drop k header) (sym (take-append-le k header (10 ∷ rest) h)),
+      drop k line,
+      sym (take-append-drop k line) ∙ ap (λ (t : List ℕ). t ++ drop k line) (sym (take-append-le k line (10 ∷ rest) h)),
     )
     go (inr h) =
-        let line : List ℕ = text_of (header ∷ []) in
-        let front : take k (header ++ 10 ∷ rest) ≡ line ++ take h.0 rest =
-        ap (λ (n : ℕ). take n (line ++ rest)) h.1 ∙ take-append-add line rest h.0 in
-        let lines : whole_lines (line ++ take h.0 rest) ≡ header ∷ whole_lines (take h.0 rest) =
-        lines_back (header ∷ []) (take h.0 rest) (record { all = refl }, tt) in
-        let none : header ∷ whole_lines (take h.0 rest) ≡ [] = sym lines ∙ ap (λ (t : List ℕ). whole_lines t) (sym front) ∙ e in
+        let whole : List ℕ = text_of (line ∷ []) in
+        let count : k ≡ length whole + h.0 = h.1 ∙ ap (λ (n : ℕ). n + h.0) (sym (length-append line (10 ∷ []))) in
+        let front : take k (line ++ 10 ∷ rest) ≡ whole ++ take h.0 rest =
+        ap (λ (t : List ℕ). take k t) (sym (append_assoc line (10 ∷ []) rest))
+        ∙ ap (λ (n : ℕ). take n (whole ++ rest)) count ∙ take-append-add whole rest h.0 in
+        let lines : whole_lines (whole ++ take h.0 rest) ≡ line ∷ whole_lines (take h.0 rest) =
+        lines_back (line ∷ []) (take h.0 rest) (t, tt) in
+        let none : line ∷ whole_lines (take h.0 rest) ≡ [] = sym lines ∙ ap (λ (t : List ℕ). whole_lines t) (sym front) ∙ e in
         absurd cc
 
-read_as : (part : Option (List ℕ)) (asked : List Wanted) (es : List Entry) (bytes : List ℕ) → IsPartGiven part → AreAsked asked
-    → (whole_lines bytes ≡ [] → BeginsHeader bytes) → ReadsFront part asked es (whole_lines bytes) → ReadsCut part asked es bytes
-read_as part asked es bytes h g ours (torn t) = unbegun (record { torn = t; ours = ours })
-read_as part asked es bytes h g ours (entries front f e) = begun f.count f.kept f.follow (record {
+-- so a text of a header that has no whole line begins the header
+cut_header : (v : Version) (k : ℕ) (rest : List ℕ) → whole_lines (take k (header v ++ 10 ∷ rest)) ≡ []
+    → BeginsHeader (take k (header v ++ 10 ∷ rest))
+cut_header v k rest e =
+    let cut = cut_line (header v) rest k (header_text v) e in
+    (v, cut.0, cut.1)
+
+read_as : (v : Version) (part : Option (List ℕ)) (asked : List Wanted) (es : List Entry) (bytes : List ℕ) → IsPartGiven part → AreAsked asked
+    → (whole_lines bytes ≡ [] → BeginsHeader bytes) → ReadsFront v part asked es (whole_lines bytes) → ReadsCut part asked es bytes
+read_as v part asked es bytes h g ours (torn t) = unbegun (record { torn = t; ours = ours })
+read_as v part asked es bytes h g ours (entries front f e) = begun f.count f.kept f.follow (record {
+  version = v;
   entries = take f.count es;
   kept = f.kept;
   part = h;
   asked = g;
   follow = f.follow;
   says = refl;
-  whole = e ∙ ap (λ (ls : List (List ℕ)). head_lines part asked ++ ls) f.lines_are;
+  whole = e ∙ ap (λ (ls : List (List ℕ)). head_lines v part asked ++ ls) f.lines_are;
 })
 
-pub cut_read : (part : Option (List ℕ)) (asked : List Wanted) (es : List Entry) (kept : Kept) (k : ℕ) → IsPartGiven part → AreAsked asked
-    → Follow asked nothing_kept es kept → k < length (text_of (record_lines part asked es))
-    → ReadsCut part asked es (take k (text_of (record_lines part asked es)))
-cut_read part asked es kept k h g f l =
-    let text = text_of (record_lines part asked es) in
-    let cut = cut_text (record_lines part asked es) k (record_texts part asked es kept h g f) l in
-    let parts : record_lines part asked es ≡ whole_lines (take k text) ++ cut.behind =
+pub cut_read : (v : Version) (part : Option (List ℕ)) (asked : List Wanted) (es : List Entry) (kept : Kept) (k : ℕ) → IsPartGiven part → AreAsked asked
+    → Follow asked nothing_kept es kept → k < length (text_of (record_lines v part asked es))
+    → ReadsCut part asked es (take k (text_of (record_lines v part asked es)))
+cut_read v part asked es kept k h g f l =
+    let text = text_of (record_lines v part asked es) in
+    let cut = cut_text (record_lines v part asked es) k (record_texts v part asked es kept h g f) l in
+    let parts : record_lines v part asked es ≡ whole_lines (take k text) ++ cut.behind =
     cut.parts ∙ ap (λ (ls : List (List ℕ)). ls ++ cut.behind) (sym cut.whole) in
-    read_as part asked es (take k text) h g (cut_header k _)
-    (front_read part asked es kept (whole_lines (take k text)) cut.behind h g f parts)
+    read_as v part asked es (take k text) h g (cut_header v k _)
+    (front_read v part asked es kept (whole_lines (take k text)) cut.behind h g f parts)
 
 whole_nil : whole_lines [] ≡ []
 unfolding whole_lines
 whole_nil = refl
 
 -- a text that is not cut
-pub whole_read : (part : Option (List ℕ)) (asked : List Wanted) (es : List Entry) (kept : Kept) → IsPartGiven part → AreAsked asked
-    → Follow asked nothing_kept es kept → IsRecord (text_of (record_lines part asked es)) (recorded part asked kept)
-whole_read part asked es kept h g f = record {
+pub whole_read : (v : Version) (part : Option (List ℕ)) (asked : List Wanted) (es : List Entry) (kept : Kept) → IsPartGiven part → AreAsked asked
+    → Follow asked nothing_kept es kept → IsRecord (text_of (record_lines v part asked es)) (recorded part asked kept)
+whole_read v part asked es kept h g f = record {
+  version = v;
   entries = es;
   kept = kept;
   part = h;
   asked = g;
   follow = f;
   says = refl;
-  whole = ap (λ (t : List ℕ). whole_lines t) (sym (append-nil (text_of (record_lines part asked es))))
-      ∙ lines_back (record_lines part asked es) [] (record_texts part asked es kept h g f)
-      ∙ ap (λ (ls : List (List ℕ)). record_lines part asked es ++ ls) whole_nil ∙ append-nil (record_lines part asked es);
+  whole = ap (λ (t : List ℕ). whole_lines t) (sym (append-nil (text_of (record_lines v part asked es))))
+      ∙ lines_back (record_lines v part asked es) [] (record_texts v part asked es kept h g f)
+      ∙ ap (λ (ls : List (List ℕ)). record_lines v part asked es ++ ls) whole_nil ∙ append-nil (record_lines v part asked es);
 }

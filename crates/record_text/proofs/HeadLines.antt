@@ -1,6 +1,6 @@
 -- The pieces of the lines of a head, and what a loop over features has written.
 use Rattle.record_text.proofs.Names.{[], ◌++◌, ◌+◌, ◌<◌, ◌∙◌, ◌∷◌, ◌≡◌, ap, append_assoc, arith, asked_lines, codes, drop, entry_written, Err, get_or}
-use Rattle.record_text.proofs.Names.{header, if◌then◌else◌, is_ok, length, line_of, List, Ok, OnErr, OnOk, refl, Result, spaced, spaced_more, suc, sym}
+use Rattle.record_text.proofs.Names.{header, if◌then◌else◌, is_ok, length, line_of, List, Ok, OnErr, OnOk, refl, Result, Second, spaced, spaced_more, suc, sym}
 use Rattle.record_text.proofs.Names.{text_more, text_of, Wanted, wanted_lines, zero, ℕ}
 
 -- the line of a feature: its word, its label, its count, its end
@@ -39,16 +39,16 @@ asked_step old new whole rest w e h = rw h (append_assoc old (text_of (wanted_li
     ∙ ap (λ (t : List ℕ). old ++ t) (sym (text_more (wanted_lines w) (asked_lines rest))) ∙ e
 
 -- the whole head
-pub head_written : (a b c d : List ℕ) (part asked : List (List ℕ)) → a ≡ codes "DME-RECORD 1\n" → b ≡ a ++ text_of part
+pub head_written : (a b c d : List ℕ) (part asked : List (List ℕ)) → a ≡ codes "DME-RECORD 2\n" → b ≡ a ++ text_of part
     → c ≡ b ++ text_of asked → d ≡ c ++ codes "END\n"
-    → d ≡ text_of (header ∷ (part ++ (asked ++ codes "END" ∷ [])))
+    → d ≡ text_of (header Second ∷ (part ++ (asked ++ codes "END" ∷ [])))
 head_written a b c d part asked p q r s =
-    let all : d ≡ ((codes "DME-RECORD 1\n" ++ text_of part) ++ text_of asked) ++ codes "END\n" = rw (s, r, q, p) refl in
+    let all : d ≡ ((codes "DME-RECORD 2\n" ++ text_of part) ++ text_of asked) ++ codes "END\n" = rw (s, r, q, p) refl in
     let tail : text_of (part ++ (asked ++ codes "END" ∷ [])) ≡ text_of part ++ (text_of asked ++ codes "END\n") =
     text_more part (asked ++ codes "END" ∷ []) ∙ ap (λ (t : List ℕ). text_of part ++ t) (text_more asked (codes "END" ∷ [])) in
-    all ∙ append_assoc (codes "DME-RECORD 1\n" ++ text_of part) (text_of asked) (codes "END\n")
-    ∙ append_assoc (codes "DME-RECORD 1\n") (text_of part) (text_of asked ++ codes "END\n")
-    ∙ ap (λ (t : List ℕ). codes "DME-RECORD 1\n" ++ t) (sym tail)
+    all ∙ append_assoc (codes "DME-RECORD 2\n" ++ text_of part) (text_of asked) (codes "END\n")
+    ∙ append_assoc (codes "DME-RECORD 2\n") (text_of part) (text_of asked ++ codes "END\n")
+    ∙ ap (λ (t : List ℕ). codes "DME-RECORD 2\n" ++ t) (sym tail)
 
 -- a text is appended as a whole
 pub writes_all : {A E : Type 0} (r : Result A E) (old text new whole : List ℕ) → new ≡ (if is_ok r then old ++ text else old)

@@ -40,6 +40,8 @@ pub use Rattle.record_text.specs.declared.faults.RecordFault.{RecordFault}
 pub use Rattle.record_text.specs.declared.faults.RecordFault.TheVariants.{Damaged, Memory}
 pub use Rattle.record_text.specs.declared.heads.Place.{Place}
 pub use Rattle.record_text.specs.declared.heads.Place.TheVariants.{Between, Done, Within}
+pub use Rattle.record_text.specs.declared.versions.Version.{Version}
+pub use Rattle.record_text.specs.declared.versions.Version.TheVariants.{First, Second}
 pub use Rattle.std.proofs.Common.{[], ◌++◌, ◌+◌, ◌-◌, ◌<◌, ◌==◌, ◌^◌, ◌∙◌, ◌∷◌, ◌≡◌, ◌≤◌, ◌⊎◌, ap, append-nil, append_assoc, arith, Bool, codes, cond}
 pub use Rattle.std.proofs.Common.{decimal, drop, drop-drop, Err, false, get_or, IfOk, if◌then◌else◌, inl, inr, le-leb, leb-true, length}
 pub use Rattle.std.proofs.Common.{length-append, length-drop, List, ltb-true, map, nat_le, None, Ok, OnErr, OnOk, Option, pos, refl, Result}

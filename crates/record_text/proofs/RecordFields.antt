@@ -9,7 +9,7 @@ use Rattle.std.specs.Bool.{Decides}
 use Rattle.std.specs.Prelude.{MatchOption}
 use Rattle.fixed_um.specs.Shapes.{Direction}
 use Rattle.contact_ledger.specs.Lines.{fields_of}
-use Rattle.record_text.specs.declared.notes.Note.TheVariants.{Refused, By, Operator, Program, Setup, Opened, Dated, Left}
+use Rattle.record_text.specs.declared.notes.Note.TheVariants.{Refused, By, Operator, Program, Setup, Opened, Dated, Left, Sealed}
 
 -- ---- a touch
 
@@ -107,6 +107,7 @@ word_plain Setup = refl
 word_plain Opened = refl
 word_plain Dated = refl
 word_plain Left = refl
+word_plain Sealed = refl
 
 pub noted_back : (line text : List ℕ) (n : ℕ) (note : Note) → IsConnection n → line ≡ noted_line n note text
     → fields_of line ≡ decimal n ∷ word_of note ∷ fields_of text
@@ -134,7 +135,7 @@ abbrev note_named : List ℕ → Note
 note_named word = let at = λ (k : ℕ). slice_index word k in
     if at 0 == 66 then By else if at 0 == 68 then Dated else if at 0 == 76 then Left else if at 0 == 80 then Program
     else if at 0 == 82 then Refused else if at 0 == 79 then (if at 3 == 82 then Operator else Opened)
-    else Setup
+    else if at 2 == 65 then Sealed else Setup
 
 named : (note : Note) → note_named (word_of note) ≡ note
 named Refused = refl
@@ -145,6 +146,7 @@ named Setup = refl
 named Opened = refl
 named Dated = refl
 named Left = refl
+named Sealed = refl
 
 pub one_note : (m n : Note) → word_of m ≡ word_of n → m ≡ n
 one_note m n e = sym (named m) ∙ ap (λ (w : List ℕ). note_named w) e ∙ named n

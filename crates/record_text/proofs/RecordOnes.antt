@@ -89,12 +89,12 @@ not_unbegun bytes r h u =
     let t = u.torn in
     let lines = whole_lines bytes in
     let a = record_leads lines r h in
-    let opened = header ∷ (part_lines t.part ++ asked_lines t.asked) in
+    let opened = header t.version ∷ (part_lines t.part ++ asked_lines t.asked) in
     let joined : opened ++ codes "END" ∷ [] ≡ lines ++ t.behind =
-    ap (λ (ls : List (List ℕ)). header ∷ ls) (append_assoc (part_lines t.part) (asked_lines t.asked) (codes "END" ∷ [])) ∙ t.front in
+    ap (λ (ls : List (List ℕ)). header t.version ∷ ls) (append_assoc (part_lines t.part) (asked_lines t.asked) (codes "END" ∷ [])) ∙ t.front in
     let front = front_of lines t.behind opened (codes "END") joined t.short in
     let leads : Leads start (lines ++ front.0) (head t.part t.asked) =
-    subst (λ (ls : List (List ℕ)). Leads start ls (head t.part t.asked)) front.1 (lead_open t.part t.asked t.part_given t.are_asked) in
+    subst (λ (ls : List (List ℕ)). Leads start ls (head t.part t.asked)) front.1 (lead_open t.version t.part t.asked t.part_given t.are_asked) in
     let split = leads_split lines front.0 start (head t.part t.asked) leads in
     let same = leads_one lines start split.mid (body r.part r.asked a.0) split.front a.2 in
     stays front.0 r.part r.asked a.0 (head t.part t.asked)

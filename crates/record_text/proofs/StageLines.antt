@@ -4,7 +4,7 @@ use Rattle.record_text.proofs.Names.{AreRecordLines, AreTornHead, arith, asked_l
 use Rattle.record_text.proofs.Names.{feature_line, Follow, Follows, head, head_lines, header, inl, inr, IsAsked, IsAskedTouch, IsName, IsPartGiven}
 use Rattle.record_text.proofs.Names.{IsPointCount, Kept, Leads, length, length-append, List, map, NamesPart, Next, None, nothing_kept, OpensFeature}
 use Rattle.record_text.proofs.Names.{Option, part_lines, pos, record_lines, recorded, refl, Some, Stage, start, subst, suc, sym, Touch, touch_line}
-use Rattle.record_text.proofs.Names.{Unfinished, Wanted, wanted_lines, wanted_with, with_touch, within, zero, ℕ}
+use Rattle.record_text.proofs.Names.{Second, Unfinished, Version, Wanted, wanted_lines, wanted_with, with_touch, within, zero, ℕ}
 use Rattle.fixed_um.specs.declared.frames.Frame.TheVariants.{Machine}
 
 -- ---- lists
@@ -29,29 +29,32 @@ asked_more (x ∷ ws) w = ap (λ (r : List (List ℕ)). wanted_lines x ++ r) (as
 -- ---- what the lines are
 
 pub record HeadLines (part : Option (List ℕ)) (asked : List Wanted) (lines : List (List ℕ)) : Type 0 where
+  pub version : Version
   pub given : IsPartGiven part
   pub are_asked : AreAsked asked
-  pub lines_are : lines ≡ header ∷ (part_lines part ++ asked_lines asked)
+  pub lines_are : lines ≡ header version ∷ (part_lines part ++ asked_lines asked)
 
 -- the lines of an unfinished feature
 abbrev pub unfinished_lines : Unfinished → List (List ℕ)
 unfinished_lines u = feature_line u.label u.count ∷ map touch_line u.touches
 
 pub record WithinLines (part : Option (List ℕ)) (asked : List Wanted) (u : Unfinished) (lines : List (List ℕ)) : Type 0 where
+  pub version : Version
   pub given : IsPartGiven part
   pub are_asked : AreAsked asked
   pub label : IsName u.label
   pub counted : IsPointCount u.count
   pub touches : AllByRecursion IsAskedTouch u.touches
   pub short : length u.touches < u.count
-  pub lines_are : lines ≡ header ∷ (part_lines part ++ (asked_lines asked ++ unfinished_lines u))
+  pub lines_are : lines ≡ header version ∷ (part_lines part ++ (asked_lines asked ++ unfinished_lines u))
 
 pub record BodyLines (part : Option (List ℕ)) (asked : List Wanted) (kept : Kept) (lines : List (List ℕ)) : Type 0 where
+  pub version : Version
   pub given : IsPartGiven part
   pub are_asked : AreAsked asked
   pub entries : List Entry
   pub follow : Follow asked nothing_kept entries kept
-  pub lines_are : lines ≡ record_lines part asked entries
+  pub lines_are : lines ≡ record_lines version part asked entries
 
 pub record NoLines (lines : List (List ℕ)) : Type 0 where
   pub none : lines ≡ []
@@ -69,8 +72,9 @@ named : (part : Option (List ℕ)) (asked : List Wanted) (lines : List (List ℕ
 named part asked lines line q h n =
     let none : part_lines part ≡ [] = ap (λ (p : Option (List ℕ)). part_lines p) n.first in
     let no_more : asked_lines asked ≡ [] = ap (λ (ws : List Wanted). asked_lines ws) n.alone in
-    let only : lines ≡ header ∷ [] = rw (h.lines_are, none, no_more) refl in
+    let only : lines ≡ header h.version ∷ [] = rw (h.lines_are, none, no_more) refl in
     let found : HeadLines (Some n.text) [] (lines ++ line ∷ []) = record {
+      version = h.version;
       given = n.is_part;
       are_asked = tt;
       lines_are = rw (only, n.line_is) refl;
@@ -83,13 +87,14 @@ opened part asked lines line q h n =
     let u : Unfinished = record { label = n.label; count = n.count; touches = [] } in
     let low = n.counted.0 in
     let found : WithinLines part asked u (lines ++ line ∷ []) = record {
+      version = h.version;
       given = h.given;
       are_asked = h.are_asked;
       label = n.named;
       counted = n.counted;
       touches = tt;
       short = omega (arith, low);
-      lines_are = rw (h.lines_are, n.line_is) (ap (λ (r : List (List ℕ)). header ∷ r)
+      lines_are = rw (h.lines_are, n.line_is) (ap (λ (r : List (List ℕ)). header h.version ∷ r)
           (append_assoc (part_lines part) (asked_lines asked) (feature_line n.label n.count ∷ [])));
     } in
     subst (λ (s : Stage). StageLines s (lines ++ line ∷ [])) (sym n.next) found
@@ -98,24 +103,25 @@ ended : (part : Option (List ℕ)) (asked : List Wanted) (lines : List (List ℕ
     → EndsHead part asked line q → StageLines q (lines ++ line ∷ [])
 ended part asked lines line q h n =
     let found : BodyLines part asked nothing_kept (lines ++ line ∷ []) = record {
+      version = h.version;
       given = h.given;
       are_asked = h.are_asked;
       entries = [];
       follow = refl;
-      lines_are = rw (h.lines_are, n.line_is) (ap (λ (r : List (List ℕ)). header ∷ r)
+      lines_are = rw (h.lines_are, n.line_is) (ap (λ (r : List (List ℕ)). header h.version ∷ r)
           (append_assoc (part_lines part) (asked_lines asked) (codes "END" ∷ [])))
-          ∙ sym (append-nil (head_lines part asked));
+          ∙ sym (append-nil (head_lines h.version part asked));
     } in
     subst (λ (s : Stage). StageLines s (lines ++ line ∷ [])) (sym n.next) found
 
 -- the lines of an unfinished feature with a touch more
-touched : (part : Option (List ℕ)) (asked : List Wanted) (u : Unfinished) (lines : List (List ℕ)) (line : List ℕ) (t : Touch)
-    → lines ≡ header ∷ (part_lines part ++ (asked_lines asked ++ unfinished_lines u)) → line ≡ touch_line t
-    → lines ++ line ∷ [] ≡ header ∷ (part_lines part ++ (asked_lines asked ++ unfinished_lines (with_touch u t)))
-touched part asked u lines line t e f =
+touched : (v : Version) (part : Option (List ℕ)) (asked : List Wanted) (u : Unfinished) (lines : List (List ℕ)) (line : List ℕ) (t : Touch)
+    → lines ≡ header v ∷ (part_lines part ++ (asked_lines asked ++ unfinished_lines u)) → line ≡ touch_line t
+    → lines ++ line ∷ [] ≡ header v ∷ (part_lines part ++ (asked_lines asked ++ unfinished_lines (with_touch u t)))
+touched v part asked u lines line t e f =
     let more : unfinished_lines u ++ touch_line t ∷ [] ≡ unfinished_lines (with_touch u t) =
     ap (λ (r : List (List ℕ)). feature_line u.label u.count ∷ r) (sym (touches_more u.touches t)) in
-    rw (e, f) (ap (λ (r : List (List ℕ)). header ∷ r) (append_assoc (part_lines part) (asked_lines asked ++ unfinished_lines u) (touch_line t ∷ [])
+    rw (e, f) (ap (λ (r : List (List ℕ)). header v ∷ r) (append_assoc (part_lines part) (asked_lines asked ++ unfinished_lines u) (touch_line t ∷ [])
     ∙ ap (λ (r : List (List ℕ)). part_lines part ++ r) (append_assoc (asked_lines asked) (unfinished_lines u) (touch_line t ∷ [])
     ∙ ap (λ (r : List (List ℕ)). asked_lines asked ++ r) more)))
 
@@ -124,13 +130,14 @@ added : (part : Option (List ℕ)) (asked : List Wanted) (u : Unfinished) (lines
 added part asked u lines line q h n =
     let more = n.more in
     let found : WithinLines part asked (with_touch u n.touch) (lines ++ line ∷ []) = record {
+      version = h.version;
       given = h.given;
       are_asked = h.are_asked;
       label = h.label;
       counted = h.counted;
       touches = all_more IsAskedTouch u.touches n.touch h.touches n.is_touch;
       short = omega (arith, more, length-append u.touches (n.touch ∷ []));
-      lines_are = touched part asked u lines line n.touch h.lines_are n.line_is;
+      lines_are = touched h.version part asked u lines line n.touch h.lines_are n.line_is;
     } in
     subst (λ (s : Stage). StageLines s (lines ++ line ∷ [])) (sym n.next) found
 
@@ -143,15 +150,16 @@ finished part asked u lines line q h n =
     let same : unfinished_lines (with_touch u n.touch) ≡ wanted_lines w =
     ap (λ (k : ℕ). feature_line u.label k ∷ map touch_line (u.touches ++ n.touch ∷ [])) count in
     let found : HeadLines part (asked ++ w ∷ []) (lines ++ line ∷ []) = record {
+      version = h.version;
       given = h.given;
       are_asked = all_more IsAsked asked w h.are_asked (record {
         label = h.label;
         counted = subst (λ (k : ℕ). IsPointCount k) count h.counted;
         touches = all_more IsAskedTouch u.touches n.touch h.touches n.is_touch;
       });
-      lines_are = touched part asked u lines line n.touch h.lines_are n.line_is
-          ∙ ap (λ (r : List (List ℕ)). header ∷ (part_lines part ++ (asked_lines asked ++ r))) same
-          ∙ ap (λ (r : List (List ℕ)). header ∷ (part_lines part ++ r)) (sym (asked_more asked w));
+      lines_are = touched h.version part asked u lines line n.touch h.lines_are n.line_is
+          ∙ ap (λ (r : List (List ℕ)). header h.version ∷ (part_lines part ++ (asked_lines asked ++ r))) same
+          ∙ ap (λ (r : List (List ℕ)). header h.version ∷ (part_lines part ++ r)) (sym (asked_more asked w));
     } in
     subst (λ (s : Stage). StageLines s (lines ++ line ∷ [])) (sym n.next) found
 
@@ -165,21 +173,27 @@ entered : (part : Option (List ℕ)) (asked : List Wanted) (kept : Kept) (lines 
 entered part asked kept lines line q h n =
     let e = n.follows.entry in
     let found : BodyLines part asked n.mid (lines ++ line ∷ []) = record {
+      version = h.version;
       given = h.given;
       are_asked = h.are_asked;
       entries = h.entries ++ e ∷ [];
       follow = follow_more asked nothing_kept kept n.mid h.entries e h.follow n.follows.follows;
       lines_are = rw (h.lines_are, n.follows.line_is)
-          (append_assoc (head_lines part asked) (map entry_line h.entries) (entry_line e ∷ []))
-          ∙ ap (λ (r : List (List ℕ)). head_lines part asked ++ r) (sym (entries_more h.entries e));
+          (append_assoc (head_lines h.version part asked) (map entry_line h.entries) (entry_line e ∷ []))
+          ∙ ap (λ (r : List (List ℕ)). head_lines h.version part asked ++ r) (sym (entries_more h.entries e));
     } in
     subst (λ (s : Stage). StageLines s (lines ++ line ∷ [])) (sym n.next) found
 
-begun : (lines : List (List ℕ)) (line : List ℕ) (q : Stage) → NoLines lines → (line ≡ header) × (q ≡ head None [])
+begun : (lines : List (List ℕ)) (line : List ℕ) (q : Stage) → NoLines lines → Next start line q
     → StageLines q (lines ++ line ∷ [])
 begun lines line q h n =
-    let found : HeadLines None [] (lines ++ line ∷ []) = record { given = tt; are_asked = tt; lines_are = rw (h.none, n.0) refl } in
-    subst (λ (s : Stage). StageLines s (lines ++ line ∷ [])) (sym n.1) found
+    let found : HeadLines None [] (lines ++ line ∷ []) = record {
+      version = n.0;
+      given = tt;
+      are_asked = tt;
+      lines_are = rw (h.none, n.1) refl;
+    } in
+    subst (λ (s : Stage). StageLines s (lines ++ line ∷ [])) (sym n.2) found
 
 line_more : (p q : Stage) (lines : List (List ℕ)) (line : List ℕ) → StageLines p lines → Next p line q → StageLines q (lines ++ line ∷ [])
 line_more start q lines line h n = begun lines line q h n
@@ -204,6 +218,7 @@ stage_lines lines s l = lines_more lines [] start s (record { none = refl }) l
 
 torn_less : (lines : List (List ℕ)) (line : List ℕ) → AreTornHead (lines ++ line ∷ []) → AreTornHead lines
 torn_less lines line h = record {
+  version = h.version;
   part = h.part;
   asked = h.asked;
   part_given = h.part_given;
@@ -215,13 +230,14 @@ torn_less lines line h = record {
 
 torn_head : (part : Option (List ℕ)) (asked : List Wanted) (lines : List (List ℕ)) → HeadLines part asked lines → AreTornHead lines
 torn_head part asked lines h = record {
+  version = h.version;
   part = part;
   asked = asked;
   part_given = h.given;
   are_asked = h.are_asked;
   behind = codes "END" ∷ [];
   front = sym (ap (λ (ls : List (List ℕ)). ls ++ codes "END" ∷ []) h.lines_are
-      ∙ ap (λ (r : List (List ℕ)). header ∷ r) (append_assoc (part_lines part) (asked_lines asked) (codes "END" ∷ [])));
+      ∙ ap (λ (r : List (List ℕ)). header h.version ∷ r) (append_assoc (part_lines part) (asked_lines asked) (codes "END" ∷ [])));
   short = omega arith;
 }
 
@@ -292,12 +308,13 @@ IsHeadStage (body part asked kept) = ⊥
 
 pub stage_torn : (s : Stage) (lines : List (List ℕ)) → IsHeadStage s → StageLines s lines → AreTornHead lines
 stage_torn start lines o h = record {
+  version = Second;
   part = None;
   asked = [];
   part_given = tt;
   are_asked = tt;
-  behind = head_lines None [];
-  front = ap (λ (ls : List (List ℕ)). ls ++ head_lines None []) (sym h.none);
+  behind = head_lines Second None [];
+  front = ap (λ (ls : List (List ℕ)). ls ++ head_lines Second None []) (sym h.none);
   short = omega arith;
 }
 stage_torn (head part asked) lines o h = torn_head part asked lines h
@@ -311,13 +328,14 @@ torn_begins lines h = record {
   says = recorded h.part h.asked nothing_kept;
   behind = h.behind;
   whole = record {
+    version = h.version;
     entries = [];
     kept = nothing_kept;
     part = h.part_given;
     asked = h.are_asked;
     follow = refl;
     says = refl;
-    whole = sym h.front ∙ sym (append-nil (head_lines h.part h.asked));
+    whole = sym h.front ∙ sym (append-nil (head_lines h.version h.part h.asked));
   };
 }
 
@@ -325,6 +343,7 @@ torn_begins lines h = record {
 pub body_record : (part : Option (List ℕ)) (asked : List Wanted) (kept : Kept) (lines : List (List ℕ)) → BodyLines part asked kept lines
     → AreRecordLines lines (recorded part asked kept)
 body_record part asked kept lines h = record {
+  version = h.version;
   entries = h.entries;
   kept = kept;
   part = h.given;

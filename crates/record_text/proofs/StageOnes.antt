@@ -2,7 +2,7 @@
 use Rattle.record_text.proofs.Names.{[], ◌++◌, ◌-◌, ◌∙◌, ◌∷◌, ◌≡◌, Act, act_fields, act_line, AddsEntry, ap, append_assoc, arith, body, codes}
 use Rattle.record_text.proofs.Names.{Completed, completed_line, Completes, contacts, decimal, direction_fields, drop, Entry, entry_back, entry_line}
 use Rattle.record_text.proofs.Names.{feature_line, Follows, frame_fields, head, inl, inr, IsAskedTouch, IsConnection, IsEntry, IsName, IsPointCount}
-use Rattle.record_text.proofs.Names.{IsWrittenEntry, Kept, kind, Leads, length, line_of, List, MadeContact, Next, Option, part_behind, part_line}
+use Rattle.record_text.proofs.Names.{IsWrittenEntry, Kept, kind, Leads, length, line_of, List, MadeContact, Next, Option, part_line}
 use Rattle.record_text.proofs.Names.{Point, point_fields, pos, refl, Noted, noted_line, Note, Serves, slice_index, Some, Stage, start, subst, sym, Told}
 use Rattle.record_text.proofs.Names.{Touch, touch_fields, touch_line, Unfinished, Wanted, wanted_with, with_touch, within, word_of, Bool, true, false, ℕ}
 use Rattle.std.specs.Prelude.{◌||◌, ◌==◌}
@@ -84,6 +84,7 @@ word_noted note.Setup = refl
 word_noted note.Opened = refl
 word_noted note.Dated = refl
 word_noted note.Left = refl
+word_noted note.Sealed = refl
 
 act_noted : (a : Act) → first_noted (act_fields a) ≡ false
 act_noted (Act.HomedIs homed) = refl
@@ -257,7 +258,7 @@ one_body part asked kept l q r a b =
     a.next ∙ ap (λ (k : Kept). body part asked k) (one_follows asked kept a.mid b.mid f moved b.follows.follows) ∙ sym b.next
 
 pub next_one : (p q r : Stage) (l : List ℕ) → Next p l q → Next p l r → q ≡ r
-next_one start q r l a b = a.1 ∙ sym b.1
+next_one start q r l a b = a.2 ∙ sym b.2
 next_one (head part asked) q r l a b = one_head part asked l q r a b
 next_one (within part asked u) q r l a b = one_within part asked u l q r a b
 next_one (body part asked kept) q r l a b = one_body part asked kept l q r a b

@@ -22,7 +22,7 @@ record_leads lines r h = (
   h.kept,
   h.says,
   subst (λ (ls : List (List ℕ)). Leads start ls (body r.part r.asked h.kept)) (sym h.whole)
-      (lead_record r.part r.asked h.entries h.kept h.part h.asked h.follow),
+      (lead_record h.version r.part r.asked h.entries h.kept h.part h.asked h.follow),
 )
 
 -- ---- not yet a record

@@ -1,9 +1,10 @@
 -- Lines lead from stage to stage, one more at a time.
 use Rattle.record_text.proofs.Names.{[], ◌++◌, ◌+◌, ◌-◌, ◌==◌, ◌∙◌, ◌∷◌, ◌≡◌, ap, arith, Asking, BeginsHeader, Between, body, Bool, Damaged, Done}
-use Rattle.record_text.proofs.Names.{drop, Err, HasTornHead, head, header, inl, inr, IsBadHead, IsErrAnd, IsOpen, IsValid, Leads, length, List, Next}
-use Rattle.record_text.proofs.Names.{None, nothing_kept, Ok, Place, RecordFault, refl, Result, some, Stage, stage_of, start, subst, suc, sym, take}
-use Rattle.record_text.proofs.Names.{take_one_more, true, whole_lines, Within, zero, ℕ}
+use Rattle.record_text.proofs.Names.{drop, Err, HasTornHead, header, inl, inr, IsBadHead, IsErrAnd, IsOpen, IsValid, Leads, length, List, Next}
+use Rattle.record_text.proofs.Names.{nothing_kept, Ok, Place, RecordFault, refl, Result, some, Stage, stage_of, start, subst, suc, sym, take}
+use Rattle.record_text.proofs.Names.{take_one_more, Version, whole_lines, Within, zero, ℕ}
 use Rattle.std.specs.Cmp.Lexicographic.{pointwise}
+use Rattle.std.specs.Bool.{Decides}
 use Rattle.std.proofs.lemmas.Slice.Eq.{starts_is}
 use Rattle.record_text.proofs.RecordFields.{byte_test}
 
@@ -23,10 +24,6 @@ take_whole zero [] e = refl
 take_whole zero (x ∷ xs) e = absurd cc
 take_whole (suc n) [] e = refl
 take_whole (suc n) (x ∷ xs) e = ap (λ (y : List (List ℕ)). x ∷ y) (take_whole n xs e)
-
--- the first line
-pub first_read : (ls rest : List (List ℕ)) → ls ≡ header ∷ rest → (drop 1 ls ≡ rest) × Leads start (take 1 ls) (head None [])
-first_read ls rest e = rw e (refl, (head None [], (refl, refl), refl))
 
 pub torn_read : (bytes : List ℕ) (n : ℕ) (asking : Asking) (place : Place) → drop n (whole_lines bytes) ≡ []
     → Leads start (take n (whole_lines bytes)) (stage_of asking place) → IsOpen place → IsValid place → HasTornHead bytes
@@ -50,9 +47,9 @@ line_nowhere bytes more l n m p same e h other =
       nowhere = other;
     })
 
-pub bad_first : (bytes : List ℕ) (more : List (List ℕ)) (l : List ℕ) (n : ℕ) → n ≡ 1 → whole_lines bytes ≡ l ∷ more → (l ≡ header → ⊥)
+pub bad_first : (bytes : List ℕ) (more : List (List ℕ)) (l : List ℕ) (n : ℕ) → n ≡ 1 → whole_lines bytes ≡ l ∷ more → ((v : Version) → l ≡ header v → ⊥)
     → IsBadHead bytes n
-bad_first bytes more l n one e other = line_nowhere bytes more l 0 n start one e refl (λ q h. other h.0)
+bad_first bytes more l n one e other = line_nowhere bytes more l 0 n start one e refl (λ q h. other h.0 h.1)
 
 pub foreign : (bytes : List ℕ) (n : ℕ) → n ≡ 1 → whole_lines bytes ≡ [] → (BeginsHeader bytes → ⊥) → IsBadHead bytes n
 foreign bytes n one e other = inr (one, record { none = e; other = other })
@@ -66,13 +63,13 @@ pub done_read : (ls : List (List ℕ)) (asking : Asking) (place : Place) → pla
     → Leads start ls (body asking.part asking.asked nothing_kept)
 done_read ls asking place e h = subst (λ (p : Place). Leads start ls (stage_of asking p)) e h
 
-pub begins_header : (bytes line : List ℕ) (r : Bool) → line ≡ header → r ≡ pointwise (λ a b. a == b) bytes (take (length bytes) line)
-    → r ≡ true → BeginsHeader bytes
-begins_header bytes line r e p t = (drop (length bytes) line, sym e ∙ (starts_is byte_test line bytes r p).0 t)
-
-pub begun_header : (bytes line : List ℕ) (r : Bool) → line ≡ header → r ≡ pointwise (λ a b. a == b) bytes (take (length bytes) line)
-    → BeginsHeader bytes → r ≡ true
-begun_header bytes line r e p b = (starts_is byte_test line bytes r p).1 b.0 (e ∙ b.1)
+-- whether a text begins a line
+pub begins_line : (bytes line whole : List ℕ) (r : Bool) → line ≡ whole → r ≡ pointwise (λ a b. a == b) bytes (take (length bytes) line)
+    → Decides r ((behind : List ℕ) × (whole ≡ bytes ++ behind))
+begins_line bytes line whole r e p = (
+  λ t. (drop (length bytes) line, sym e ∙ (starts_is byte_test line bytes r p).0 t),
+  λ b. (starts_is byte_test line bytes r p).1 b.0 (e ∙ b.1),
+)
 
 pub handed_on : {A : Type 0} (r : Result A RecordFault) (fault : RecordFault) (n : ℕ) → IsErrAnd r (λ e. e ≡ fault)
     → r ≡ Err (Damaged n) → fault ≡ Damaged n

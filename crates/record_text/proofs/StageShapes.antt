@@ -2,7 +2,7 @@
 use Rattle.record_text.proofs.Names.{[], ◌++◌, ◌+◌, ◌∷◌, ◌≡◌, AllByRecursion, ap, append-nil, append_assoc, AreAsked, arith, asked_lines, body, codes}
 use Rattle.record_text.proofs.Names.{Entry, entry_line, feature_line, Follow, head, head_lines, header, inl, inr, IsAsked, IsAskedTouch, IsPartGiven}
 use Rattle.record_text.proofs.Names.{IsPointCount, Kept, Leads, length, length-append, List, map, None, nothing_kept, Option, part_lines, record_lines}
-use Rattle.record_text.proofs.Names.{refl, Some, Stage, start, subst, Touch, touch_line, Wanted, wanted_lines, within, ℕ}
+use Rattle.record_text.proofs.Names.{refl, Some, Stage, start, subst, Touch, touch_line, Version, Wanted, wanted_lines, within, ℕ}
 use Rattle.record_text.proofs.StageRuns.{leads_more}
 
 -- ---- lines that were led through, cut in two
@@ -75,24 +75,24 @@ lead_part (Some text) h = (
 )
 
 -- the lines of a head but END
-pub lead_open : (part : Option (List ℕ)) (asked : List Wanted) → IsPartGiven part → AreAsked asked
-    → Leads start (header ∷ (part_lines part ++ asked_lines asked)) (head part asked)
-lead_open part asked h g =
+pub lead_open : (v : Version) (part : Option (List ℕ)) (asked : List Wanted) → IsPartGiven part → AreAsked asked
+    → Leads start (header v ∷ (part_lines part ++ asked_lines asked)) (head part asked)
+lead_open v part asked h g =
     let all = leads_more (part_lines part) (asked_lines asked) (head None []) (head part []) (head part asked) (lead_part part h)
     (lead_asked asked part [] g) in
-    (head None [], (refl, refl), all)
+    (head None [], (v, refl, refl), all)
 
-pub lead_head : (part : Option (List ℕ)) (asked : List Wanted) → IsPartGiven part → AreAsked asked
-    → Leads start (head_lines part asked) (body part asked nothing_kept)
-lead_head part asked h g =
+pub lead_head : (v : Version) (part : Option (List ℕ)) (asked : List Wanted) → IsPartGiven part → AreAsked asked
+    → Leads start (head_lines v part asked) (body part asked nothing_kept)
+lead_head v part asked h g =
     let ended : Leads (head part asked) (codes "END" ∷ []) (body part asked nothing_kept) = (
       body part asked nothing_kept,
       inr (inr (record { line_is = refl; next = refl })),
       refl,
     ) in
-    let whole = leads_more (header ∷ (part_lines part ++ asked_lines asked)) (codes "END" ∷ []) start (head part asked)
-    (body part asked nothing_kept) (lead_open part asked h g) ended in
-    subst (λ (ls : List (List ℕ)). Leads start (header ∷ ls) (body part asked nothing_kept))
+    let whole = leads_more (header v ∷ (part_lines part ++ asked_lines asked)) (codes "END" ∷ []) start (head part asked)
+    (body part asked nothing_kept) (lead_open v part asked h g) ended in
+    subst (λ (ls : List (List ℕ)). Leads start (header v ∷ ls) (body part asked nothing_kept))
     (append_assoc (part_lines part) (asked_lines asked) (codes "END" ∷ [])) whole
 
 -- ---- and the lines of entries to what they leave
@@ -107,8 +107,8 @@ lead_entries (entry ∷ entries) part asked old new h = (
 )
 
 -- the lines of a record lead to what its entries leave
-pub lead_record : (part : Option (List ℕ)) (asked : List Wanted) (entries : List Entry) (kept : Kept) → IsPartGiven part → AreAsked asked
-    → Follow asked nothing_kept entries kept → Leads start (record_lines part asked entries) (body part asked kept)
-lead_record part asked entries kept h g f = leads_more (head_lines part asked) (map entry_line entries) start
-    (body part asked nothing_kept) (body part asked kept) (lead_head part asked h g)
+pub lead_record : (v : Version) (part : Option (List ℕ)) (asked : List Wanted) (entries : List Entry) (kept : Kept) → IsPartGiven part → AreAsked asked
+    → Follow asked nothing_kept entries kept → Leads start (record_lines v part asked entries) (body part asked kept)
+lead_record v part asked entries kept h g f = leads_more (head_lines v part asked) (map entry_line entries) start
+    (body part asked nothing_kept) (body part asked kept) (lead_head v part asked h g)
     (lead_entries entries part asked nothing_kept kept f)

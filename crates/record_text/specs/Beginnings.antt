@@ -10,6 +10,7 @@ use Rattle.record_text.specs.Strangers.{IsFirstOther}
 use Rattle.record_text.specs.declared.opening.Beginning.{Beginning}
 use Rattle.record_text.specs.declared.opening.RecordRefusal.{RecordRefusal}
 use Rattle.record_text.specs.declared.opening.RecordRefusal.TheVariants.{Damaged, OtherPart, OtherProgram, Memory}
+use Rattle.record_text.specs.declared.versions.Version.TheVariants.{Second}
 
 -- a text is empty, or ends with a line feed
 abbrev pub EndsLine : List ℕ → Type 0
@@ -27,7 +28,7 @@ pub record IsNew (part : Option (List ℕ)) (wanted : List Wanted) (b : Beginnin
   pub features : b.features ≡ []
   pub told : b.told ≡ []
   pub connection : b.connection ≡ 1
-  pub text : b.text.items ≡ text_of (head_lines part wanted)
+  pub text : b.text.items ≡ text_of (head_lines Second part wanted)
   pub held : b.held ≡ 0
 
 -- a record that is continued: its features, its acts, the next connection and its whole lines, all of which the file holds

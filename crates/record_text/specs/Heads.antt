@@ -8,6 +8,8 @@ use Rattle.contact_ledger.specs.Fields.{IsOnWire, IsFrame, IsTouch, point_fields
 use Rattle.contact_ledger.specs.FeatureTexts.{IsPointCount}
 use Rattle.dmis_program.specs.declared.features.Touch.{Touch}
 use Rattle.dmis_program.specs.declared.features.Wanted.{Wanted}
+use Rattle.record_text.specs.declared.versions.Version.{Version}
+use Rattle.record_text.specs.declared.versions.Version.TheVariants.{First, Second}
 
 -- a byte that is printed: from 32 to 126
 abbrev pub is_printed : ℕ → Bool
@@ -45,8 +47,9 @@ abbrev pub AreAsked : List Wanted → Type 0
 AreAsked asked = AllByRecursion IsAsked asked
 
 -- the first line of a record
-abbrev pub header : List ℕ
-header = codes "DME-RECORD 1"
+abbrev pub header : Version → List ℕ
+header First = codes "DME-RECORD 1"
+header Second = codes "DME-RECORD 2"
 
 -- PART and its name
 abbrev pub part_line : List ℕ → List ℕ
@@ -76,5 +79,5 @@ asked_lines [] = []
 asked_lines (w ∷ asked) = wanted_lines w ++ asked_lines asked
 
 -- the lines up to END
-abbrev pub head_lines : Option (List ℕ) → List Wanted → List (List ℕ)
-head_lines part asked = header ∷ (part_lines part ++ (asked_lines asked ++ codes "END" ∷ []))
+abbrev pub head_lines : Version → Option (List ℕ) → List Wanted → List (List ℕ)
+head_lines version part asked = header version ∷ (part_lines part ++ (asked_lines asked ++ codes "END" ∷ []))

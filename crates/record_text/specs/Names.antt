@@ -18,7 +18,7 @@ pub use Rattle.record_text.specs.Cuts.{ReadsCut}
 pub use Rattle.record_text.specs.Entries.{IsFitting, IsWrittenEntry, completed_line, entry_line, error_note, fitting, kept_error, noted_line}
 pub use Rattle.record_text.specs.Heads.{AreAsked, IsAsked, IsAskedTouch, IsPart, IsPartGiven, IsPrinted, asked_lines, feature_line, head_lines, header, is_printed, part_line, part_lines, touch_fields, touch_line, wanted_lines}
 pub use Rattle.record_text.specs.Notes.{AreSaid, IsNoteText, Says, after_form, fits, has_form, ends_so, is_decimal, is_digest, is_error, is_hex, is_identified, is_stamped, is_time, word_of}
-pub use Rattle.record_text.specs.Reading.{IsDamagedRecord, IsRecord, IsUnbegun, ReadsRecord}
+pub use Rattle.record_text.specs.Reading.{BeginsHeader, IsDamagedRecord, IsRecord, IsUnbegun, ReadsRecord}
 pub use Rattle.record_text.specs.Records.{Completes, Follow, Follows, IsLastRun, IsRecorded, Kept, Recorded, errors_during, last_frame, nothing_kept, record_lines, recorded, with_completed, with_noted, with_told}
 pub use Rattle.record_text.specs.Serving.{CanComplete, IsServedBy}
 pub use Rattle.record_text.specs.Stages.{FollowsLine, HasHead, HasTornHead, IsBadHead, IsOpen, IsValid, Leads, Next, Stage, StopsAfter, body, stage_of}
@@ -26,3 +26,5 @@ pub use Rattle.record_text.specs.Tellings.{Counts, entries_of, told_on}
 pub use Rattle.record_text.specs.declared.entries.Entry.{Entry}
 pub use Rattle.record_text.specs.declared.faults.RecordFault.TheVariants.{Damaged}
 pub use Rattle.record_text.specs.declared.heads.Place.TheVariants.{Between, Within}
+pub use Rattle.record_text.specs.declared.versions.Version.{Version}
+pub use Rattle.record_text.specs.declared.versions.Version.TheVariants.{First, Second}

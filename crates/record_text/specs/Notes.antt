@@ -1,9 +1,9 @@
 -- What a line of a record says about a connection besides the acts on it (this profile): an error of its server, and how it was run.
-use Rattle.std.specs.Prelude.{◌≡◌, ℕ, ◌-◌, ◌==◌, ◌&&◌, ◌||◌, Bool, true, false, nat_le, List, [], ◌∷◌, ◌++◌, length, drop, codes, if◌then◌else◌, Option, None, Some}
+use Rattle.std.specs.Prelude.{◌≡◌, ℕ, ◌-◌, ◌==◌, ◌&&◌, ◌||◌, Bool, true, false, nat_le, List, [], ◌∷◌, length, drop, codes, if◌then◌else◌, Option, None, Some}
 use Rattle.std.specs.List.{AllByRecursion, list_all}
 use Rattle.record_text.specs.Heads.{IsPrinted}
 use Rattle.record_text.specs.declared.notes.Note.{Note}
-use Rattle.record_text.specs.declared.notes.Note.TheVariants.{Refused, By, Operator, Program, Setup, Opened, Dated, Left}
+use Rattle.record_text.specs.declared.notes.Note.TheVariants.{Refused, By, Operator, Program, Setup, Opened, Dated, Left, Sealed}
 
 abbrev pub word_of : Note → List ℕ
 word_of Refused = codes "REFUSED"
@@ -14,6 +14,7 @@ word_of Setup = codes "SETUP"
 word_of Opened = codes "OPENED"
 word_of Dated = codes "DATED"
 word_of Left = codes "LEFT"
+word_of Sealed = codes "SEAL"
 
 abbrev pub is_decimal : ℕ → Bool
 is_decimal b = nat_le 48 b && nat_le b 57
@@ -73,6 +74,7 @@ has_form Setup text = is_identified text
 has_form Opened text = is_stamped text
 has_form Dated text = is_time text
 has_form Left text = is_stamped text
+has_form Sealed text = is_digest text
 
 -- what can be written of a note: 1 to 400 printed bytes of its form
 pub record IsNoteText (note : Note) (text : List ℕ) : Type 0 where
@@ -96,3 +98,4 @@ is_error Setup = false
 is_error Opened = false
 is_error Dated = false
 is_error Left = false
+is_error Sealed = false

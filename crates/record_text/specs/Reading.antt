@@ -7,6 +7,7 @@ use Rattle.record_text.specs.Heads.{IsPartGiven, AreAsked, header, head_lines}
 use Rattle.record_text.specs.Records.{Recorded, AreRecordLines, Begins}
 use Rattle.record_text.specs.declared.faults.RecordFault.{RecordFault}
 use Rattle.record_text.specs.declared.faults.RecordFault.TheVariants.{Damaged, Memory}
+use Rattle.record_text.specs.declared.versions.Version.{Version}
 
 -- a text is a record that says this
 abbrev pub IsRecord : List ℕ → Recorded → Type 0
@@ -14,17 +15,18 @@ IsRecord bytes r = AreRecordLines (whole_lines bytes) r
 
 -- lines begin a head, and are not all of it
 pub record AreTornHead (lines : List (List ℕ)) : Type 0 where
+  pub version : Version
   pub part : Option (List ℕ)
   pub asked : List Wanted
   pub part_given : IsPartGiven part
   pub are_asked : AreAsked asked
   pub behind : List (List ℕ)
-  pub front : head_lines part asked ≡ lines ++ behind
+  pub front : head_lines version part asked ≡ lines ++ behind
   pub short : 0 < length behind
 
 -- a text begins the first line of a record
 abbrev pub BeginsHeader : List ℕ → Type 0
-BeginsHeader bytes = (behind : List ℕ) × (header ≡ bytes ++ behind)
+BeginsHeader bytes = (version : Version) × (behind : List ℕ) × (header version ≡ bytes ++ behind)
 
 -- a text is not yet a record: its lines begin a head; if it has no line, it begins the first line
 pub record IsUnbegun (bytes : List ℕ) : Type 0 where

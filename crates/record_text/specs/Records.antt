@@ -22,6 +22,7 @@ use Rattle.record_text.specs.declared.run_errors.RunError.{RunError}
 use Rattle.record_text.specs.declared.entries.Entry.{Entry}
 use Rattle.record_text.specs.declared.entries.Entry.TheVariants.{Told, Noted, Completed}
 use Rattle.record_text.specs.declared.run_errors.Remark.{Remark}
+use Rattle.record_text.specs.declared.versions.Version.{Version}
 
 -- what entries leave: the features completed, the acts reported, how many contacts are used up (those before the last COMPLETED), the
 -- connection of the last line, which is 0 if there is no line, the errors reported since the last COMPLETED, those that were reported
@@ -116,8 +117,8 @@ Follow asked old [] new = new ≡ old
 Follow asked old (entry ∷ entries) new = (mid : Kept) × Follows asked old entry mid × Follow asked mid entries new
 
 -- the lines of a record: its head, and a line for each entry
-abbrev pub record_lines : Option (List ℕ) → List Wanted → List Entry → List (List ℕ)
-record_lines part asked entries = head_lines part asked ++ map entry_line entries
+abbrev pub record_lines : Version → Option (List ℕ) → List Wanted → List Entry → List (List ℕ)
+record_lines version part asked entries = head_lines version part asked ++ map entry_line entries
 
 -- what a record says: the part, what was asked, the features completed, the acts reported, the last connection, the errors that were
 -- reported during the run of a completed feature, and the other notes
@@ -147,13 +148,14 @@ pub record IsRecorded (r : Recorded) : Type 0 where
 
 -- lines are those of a record that says this
 pub record AreRecordLines (lines : List (List ℕ)) (r : Recorded) : Type 0 where
+  pub version : Version
   pub entries : List Entry
   pub kept : Kept
   pub part : IsPartGiven r.part
   pub asked : AreAsked r.asked
   pub follow : Follow r.asked nothing_kept entries kept
   pub says : r ≡ recorded r.part r.asked kept
-  pub whole : lines ≡ record_lines r.part r.asked entries
+  pub whole : lines ≡ record_lines version r.part r.asked entries
 
 -- some record's lines begin with these
 pub record Begins (lines : List (List ℕ)) : Type 0 where

@@ -13,6 +13,7 @@ use Rattle.record_text.specs.Unfinished.{Unfinished, Asking}
 use Rattle.record_text.specs.declared.entries.Entry.{Entry}
 use Rattle.record_text.specs.declared.heads.Place.{Place}
 use Rattle.record_text.specs.declared.heads.Place.TheVariants.{Between, Within, Done}
+use Rattle.record_text.specs.declared.versions.Version.{Version}
 
 -- where a reader is between two lines: before the first; between wanted features; within one; after END
 pub data Stage : Type 0 where
@@ -79,7 +80,7 @@ pub record AddsEntry (part : Option (List ℕ)) (asked : List Wanted) (kept : Ke
 
 -- one line leads from a stage to the next
 abbrev pub Next : Stage → List ℕ → Stage → Type 0
-Next start line new = (line ≡ header) × (new ≡ head None [])
+Next start line new = (version : Version) × (line ≡ header version) × (new ≡ head None [])
 Next (head part asked) line new = NamesPart part asked line new ⊎ (OpensFeature part asked line new ⊎ EndsHead part asked line new)
 Next (within part asked u) line new = AddsTouch part asked u line new ⊎ EndsFeature part asked u line new
 Next (body part asked kept) line new = AddsEntry part asked kept line new

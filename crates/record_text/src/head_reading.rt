@@ -1,13 +1,14 @@
 // The head of a record, line by line.
 
 ghost use Rattle.std.specs.Prelude.{◌≡◌, ◌<◌, ◌∷◌, ℕ, length, IfOk, IfSome, IfNone, Err};
-ghost use Rattle.record_text.specs.Names.{Finds, whole_lines, IsPart, part_line, header, Stage, Next, stage_of, IsValid, IsOpen, HasHead, HasTornHead, IsBadHead, Damaged, Between, Within};
+ghost use Rattle.record_text.specs.Names.{Finds, whole_lines, IsPart, part_line, header, Stage, Next, stage_of, IsValid, IsOpen, HasHead, HasTornHead, IsBadHead, Damaged, Between, Within, Version};
 
 use crate::asked::Asked;
 use crate::faults::RecordFault;
 use crate::heads::{Head, Place, Unfinished};
 use crate::parts::{Part, is_part};
 use crate::touch_reading::{read_opening, read_touch};
+use crate::versions::{begins_header, version_of};
 use contact_ledger::forms::Forms;
 use contact_ledger::lines::cut_line;
 use std::alloc::{AllocError, Global};
@@ -109,21 +110,21 @@ fn head_line(
 /// What follows the first line of a record; `None` if there is no line yet.
 fn read_header(bytes: &[u8]) -> Result<Option<&[u8]>, RecordFault>
     ensures header { IfOk result (λ found. IfSome found
-        (λ after. (whole_lines bytes.now ≡ header ∷ whole_lines after.now)
+        (λ after. ((version : Version)
+        × (whole_lines bytes.now ≡ header version ∷ whole_lines after.now))
         × (length after.now < length bytes.now))) }
     ensures torn { IfOk result (λ found. IfNone found (HasTornHead bytes.now)) }
     ensures damaged { (n : ℕ) → result ≡ Err (Damaged n) → IsBadHead bytes.now n }
 {
-    let first_line = b"DME-RECORD 1".as_slice();
     let Some((line, after)) = cut_line(bytes) else {
-        if !first_line.starts_with(bytes) {
+        if !begins_header(bytes) {
             return Err(RecordFault::Damaged(1));
         }
         return Ok(None);
     };
-    if line != first_line {
+    let Some(_) = version_of(line) else {
         return Err(RecordFault::Damaged(1));
-    }
+    };
     Ok(Some(after))
 }
 

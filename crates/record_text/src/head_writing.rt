@@ -1,7 +1,7 @@
 // Writing the head of a record.
 
 ghost use Rattle.std.specs.Prelude.{◌≡◌, ◌++◌, ◌∷◌, [], map, length, OnOk, option_map};
-ghost use Rattle.record_text.specs.Names.{AllByRecursion, Writes, IsName, text_of, spaced, IsPointCount, IsFeature, IsAskedTouch, IsAsked, AreAsked, part_lines, touch_fields, touch_line, feature_line, wanted_lines, asked_lines, head_lines};
+ghost use Rattle.record_text.specs.Names.{AllByRecursion, Writes, IsName, text_of, spaced, IsPointCount, IsFeature, IsAskedTouch, IsAsked, AreAsked, part_lines, touch_fields, touch_line, feature_line, wanted_lines, asked_lines, head_lines, Second};
 
 use contact_ledger::fields::{add_direction, add_frame, add_name, add_number, add_point};
 use dmis_program::{Program, Touch, Wanted};
@@ -89,7 +89,7 @@ fn add_asked(text: &mut Vec<u8>, wanted: &[Wanted]) -> Result<(), AllocError>
     Ok(())
 }
 
-/// Appends the head of a record (this profile): `DME-RECORD 1`; `PART` and its name, if one is given; for each wanted feature of the
+/// Appends the head of a record (this profile): `DME-RECORD 2`; `PART` and its name, if one is given; for each wanted feature of the
 /// program `FEATURE label n`, and its touches in the form of a contact of a contacts file, without a point; `END`.
 ///
 /// The caller must ensure that the name is one (`is_part`). Fails only if out of memory, and then nothing is appended.
@@ -99,11 +99,11 @@ pub fn write_head(
     program: &Program,
 ) -> Result<(), AllocError>
     ensures writes { Writes result out.old out.new
-        (text_of (head_lines (option_map (λ p. p.now) part.entry) program.now.features)) }
+        (text_of (head_lines Second (option_map (λ p. p.now) part.entry) program.now.features)) }
     ensures asked { OnOk result (AreAsked program.now.features) }
 {
     let mut text = Vec::new(*out.allocator());
-    text.extend_from_slice(b"DME-RECORD 1\n")?;
+    text.extend_from_slice(b"DME-RECORD 2\n")?;
     add_part(&mut text, part)?;
     add_asked(&mut text, program.features())?;
     text.extend_from_slice(b"END\n")?;

@@ -1,9 +1,9 @@
 // What follows from the definitions alone. Each function has laws for its contract and does nothing.
 
-ghost use Rattle.std.specs.Prelude.{◌≡◌, ◌<◌, ◌++◌, ◌∷◌, [], ℕ, List, Option, codes, length, take, true, false};
+ghost use Rattle.std.specs.Prelude.{◌≡◌, ◌<◌, ◌++◌, ◌∷◌, [], ℕ, List, Option, None, codes, length, take, true, false};
 ghost use Rattle.record_text.specs.declared.notes.Note.{Note};
-ghost use Rattle.record_text.specs.declared.notes.Note.TheVariants.{Refused, Operator, Program, Setup, Opened, Dated, Left};
-ghost use Rattle.record_text.specs.Names.{text_of, Act, Wanted, Point, IsFitting, fitting, kept_error, IsPartGiven, AreAsked, IsRecord, IsUnbegun, IsDamagedRecord, Recorded, IsRecorded, recorded, Kept, nothing_kept, errors_during, with_told, with_completed, Follow, record_lines, ReadsCut, Entry, has_form, is_time, with_noted};
+ghost use Rattle.record_text.specs.declared.notes.Note.TheVariants.{Refused, Operator, Program, Setup, Opened, Dated, Left, Sealed};
+ghost use Rattle.record_text.specs.Names.{text_of, Act, Wanted, Point, IsFitting, fitting, kept_error, IsPartGiven, AreAsked, IsRecord, IsUnbegun, IsDamagedRecord, Recorded, IsRecorded, recorded, Kept, nothing_kept, errors_during, with_told, with_completed, Follow, record_lines, ReadsCut, Entry, head_lines, Version, Second, has_form, is_time, with_noted, word_of};
 
 /// A text is read in one way: it is one record, or not a record yet, or a line of it is the first that is damaged.
 pub fn records_are_read_in_one_way()
@@ -20,17 +20,33 @@ pub fn each_record_is_sound()
     ensures { (bytes : List ℕ) (r : Recorded) → IsRecord bytes r → IsRecorded r }
 {}
 
-/// The text of a record reads as that record. Cut anywhere, as when a run is killed, it is not a record yet, or it is the record of its
-/// first entries, those whose lines are whole: no completed feature whose line is whole is lost.
+/// The text of a record of either version reads as that record. Cut anywhere, as when a run is killed, it is not a record yet, or it is the
+/// record of its first entries, those whose lines are whole: no completed feature whose line is whole is lost.
 pub fn cut_records_are_read()
-    ensures whole { (part : Option (List ℕ)) (asked : List Wanted) (entries : List Entry)
-        (kept : Kept) → IsPartGiven part → AreAsked asked → Follow asked nothing_kept entries kept
-        → IsRecord (text_of (record_lines part asked entries)) (recorded part asked kept) }
-    ensures cut { (part : Option (List ℕ)) (asked : List Wanted) (entries : List Entry)
-        (kept : Kept) (count : ℕ) → IsPartGiven part → AreAsked asked
+    ensures whole { (version : Version) (part : Option (List ℕ)) (asked : List Wanted)
+        (entries : List Entry) (kept : Kept) → IsPartGiven part → AreAsked asked
         → Follow asked nothing_kept entries kept
-        → count < length (text_of (record_lines part asked entries))
-        → ReadsCut part asked entries (take count (text_of (record_lines part asked entries))) }
+        → IsRecord (text_of (record_lines version part asked entries))
+        (recorded part asked kept) }
+    ensures cut { (version : Version) (part : Option (List ℕ)) (asked : List Wanted)
+        (entries : List Entry) (kept : Kept) (count : ℕ) → IsPartGiven part → AreAsked asked
+        → Follow asked nothing_kept entries kept
+        → count < length (text_of (record_lines version part asked entries))
+        → ReadsCut part asked entries
+        (take count (text_of (record_lines version part asked entries))) }
+{}
+
+/// Records of both versions without any feature or entry say the same. What is cut within the first line is not a record yet; another
+/// first line is damaged.
+pub fn either_version_is_read()
+    ensures first { IsRecord (codes "DME-RECORD 1\nEND\n") (recorded None [] nothing_kept) }
+    ensures second { IsRecord (codes "DME-RECORD 2\nEND\n") (recorded None [] nothing_kept) }
+    ensures written { text_of (head_lines Second None []) ≡ codes "DME-RECORD 2\nEND\n" }
+    ensures cut { IsUnbegun (codes "DME-RECORD ") }
+    ensures cut_first { IsUnbegun (codes "DME-RECORD 1") }
+    ensures cut_second { IsUnbegun (codes "DME-RECORD 2") }
+    ensures third { IsDamagedRecord (codes "DME-RECORD 3\n") 1 }
+    ensures cut_third { IsDamagedRecord (codes "DME-RECORD 3") 1 }
 {}
 
 /// What is kept of an error are its first bytes, each whole, as many as fit into 400 bytes: a byte that would be cut is left out.
@@ -69,6 +85,11 @@ pub fn notes_have_their_forms()
         " 0123456789abcdef0123456789abcdef0123456789abcdef0123456789abcdef") ≡ false }
     ensures upper { has_form Setup (codes
         "a 0123456789abcdef0123456789abcdef0123456789abcdef0123456789abcdeF") ≡ false }
+    ensures sealed { has_form Sealed (codes
+        "0123456789abcdef0123456789abcdef0123456789abcdef0123456789abcdef") ≡ true }
+    ensures no_name { has_form Sealed (codes
+        "a 0123456789abcdef0123456789abcdef0123456789abcdef0123456789abcdef") ≡ false }
+    ensures seal { word_of Sealed ≡ codes "SEAL" }
 {}
 
 /// A note measures nothing. One of an error waits for the next `COMPLETED`; another is kept, with how many features are complete above it.
@@ -83,4 +104,5 @@ pub fn notes_measure_nothing()
     ensures note { (with_noted nothing_kept 3 Operator (codes "A. B.")).notes
         ≡ record { connection = 3; features = 0; note = Operator; text = codes "A. B." } ∷ [] }
     ensures no_error { (with_noted nothing_kept 3 Operator (codes "A. B.")).waiting ≡ [] }
+    ensures seal { (with_noted nothing_kept 3 Sealed (codes "01")).waiting ≡ [] }
 {}

@@ -10,6 +10,7 @@
 //! - `records`, `record_reading`: `Record`, and reading it
 //! - `strangers`: whether a record is that of a part and a program
 //! - `opening`: what a record's text gives a run to continue from, or why the run may not continue it
+//! - `versions`: `Version`, and the first line
 //! - `head_writing`, `telling`, `note_writing`: writing
 //! - `growth`: the text of a record that grows during a run
 //! - `faults`: why a record is refused
@@ -38,6 +39,7 @@ mod runs;
 mod strangers;
 pub mod telling;
 mod touch_reading;
+mod versions;
 
 pub use asked::Asked;
 pub use entries::{Entry, Printed};
@@ -53,3 +55,4 @@ pub use records::Record;
 pub use run_errors::{Remark, RunError};
 pub use strangers::{is_of_part, other_feature};
 pub use telling::Telling;
+pub use versions::Version;

@@ -27,6 +27,8 @@ pub enum Note {
     Dated,
     /// When the connection ended, and how.
     Left,
+    /// The seal of all that is above this line.
+    Sealed,
 }
 
 impl Note {
@@ -43,6 +45,7 @@ impl Note {
             Note::Opened => b"OPENED".as_slice(),
             Note::Dated => b"DATED".as_slice(),
             Note::Left => b"LEFT".as_slice(),
+            Note::Sealed => b"SEAL".as_slice(),
         }
     }
 }
@@ -67,6 +70,8 @@ pub(crate) fn note_of(word: &[u8]) -> Option<Note>
         Some(Note::Dated)
     } else if word == b"LEFT".as_slice() {
         Some(Note::Left)
+    } else if word == b"SEAL".as_slice() {
+        Some(Note::Sealed)
     } else {
         None
     }
@@ -176,6 +181,7 @@ fn has_form(note: Note, text: &[u8]) -> bool
         Note::Program | Note::Setup => is_identified(text),
         Note::Opened | Note::Left => is_stamped(text),
         Note::Dated => is_time(text),
+        Note::Sealed => is_digest(text),
     }
 }
 
