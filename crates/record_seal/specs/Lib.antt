@@ -1,0 +1,2 @@
+pub mod Macs
+pub mod Seals

@@ -1,0 +1,93 @@
+// The seal of a text, and which lines of a record seals stand for.
+
+ghost use Rattle.std.specs.Prelude.{◌≡◌, ◌≤◌, length, IfOk, string_bytes, option_map};
+ghost use Rattle.std.specs.List.{prefix_len};
+ghost use Rattle.std.specs.Char.{is_ascii_digit};
+ghost use Rattle.record_seal.specs.Seals as spec;
+
+use crate::macs::hmac;
+use contact_ledger::lines::cut_line;
+use std::alloc::{AllocError, Global};
+
+/// The seal of a text under a key (this profile): its HMAC (RFC 2104) over SHA-256, as 64 digits. Fails only if out of memory.
+pub fn seal_of(alloc: Global, key: &[u8], text: &[u8]) -> Result<String, AllocError>
+    ensures { IfOk result (λ seal. string_bytes seal ≡ spec.seal_of key.now text.now) }
+{
+    let mac = hmac(alloc, key, text)?;
+    hex::encode(alloc, mac.as_slice())
+}
+
+fn digits_len(line: &[u8]) -> usize
+    ensures { (result ≡ prefix_len is_ascii_digit line.now) × (result ≤ length line.now) }
+{
+    line.iter().take_while(|byte| byte.is_ascii_digit()).count()
+}
+
+/// The seal that a line says, if it says one.
+fn seal_in(line: &[u8]) -> Option<&[u8]>
+    ensures { option_map (λ seal. seal.now) result ≡ spec.seal_in line.now }
+{
+    let (_, behind) = line.split_at(digits_len(line));
+    behind.strip_prefix(b" SEAL ".as_slice())
+}
+
+/// Whether a line says a seal that is not that of the text above it.
+fn is_false(alloc: Global, key: &[u8], above: &[u8], line: &[u8]) -> Result<bool, AllocError>
+    ensures { IfOk result (λ is. is ≡ spec.is_false key.now above.now line.now) }
+{
+    let Some(said) = seal_in(line) else {
+        return Ok(false);
+    };
+    let seal = seal_of(alloc, key, above)?;
+    Ok(said != seal.as_bytes())
+}
+
+/// The number of the first line of a record whose seal is not that of what is above it under a key, from 1 on; what follows the last line
+/// end is no line. Fails only if out of memory.
+#[tactic(auto, unfolding(crate::specs::Seals::false_seal))]
+pub fn false_seal(alloc: Global, key: &[u8], text: &[u8]) -> Result<Option<u64>, AllocError>
+    ensures { IfOk result (λ found. found ≡ spec.false_seal key.now text.now) }
+{
+    let mut above = Vec::new(alloc);
+    let mut number = 0;
+    let mut rest = text;
+    while let Some((line, after)) = cut_line(rest) {
+        number += 1;
+        if is_false(alloc, key, above.as_slice(), line)? {
+            return Ok(Some(number));
+        }
+        above.extend_from_slice(line)?;
+        above.push(b'\n')?;
+        rest = after;
+    }
+    Ok(None)
+}
+
+/// The number of the first line that is above no seal.
+#[tactic(auto, unfolding(crate::specs::Seals::unsealed))]
+fn unsealed(text: &[u8]) -> Option<u64>
+    ensures { result ≡ spec.unsealed text.now }
+{
+    let mut below = 1;
+    let mut number = 1;
+    let mut rest = text;
+    while let Some((line, after)) = cut_line(rest) {
+        number += 1;
+        if seal_in(line).is_some() {
+            below = number;
+        }
+        rest = after;
+    }
+    if below == number { None } else { Some(below) }
+}
+
+/// The number of the first line of a record that no seal of a key stands for: the first whose seal is not that of what is above it, or else
+/// the first that is above no seal. Fails only if out of memory.
+pub fn open_line(alloc: Global, key: &[u8], text: &[u8]) -> Result<Option<u64>, AllocError>
+    ensures { IfOk result (λ found. found ≡ spec.open_line key.now text.now) }
+{
+    match false_seal(alloc, key, text)? {
+        Some(number) => Ok(Some(number)),
+        None => Ok(unsealed(text)),
+    }
+}
