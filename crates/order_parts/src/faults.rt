@@ -31,6 +31,8 @@ pub enum Role {
     Limits,
     /// A machine's file.
     Machine,
+    /// The key of a record's seals.
+    Key,
     /// The DMIS program.
     Program,
 }
@@ -58,6 +60,10 @@ pub enum FilesFault {
     Unread(Role),
     /// The record is not of this program under this setup: this feature differs.
     OtherProgram(Name),
+    /// No seal stands for this line of the record.
+    BadSeal(u64),
+    /// The key of a record's seals has no byte.
+    EmptyKey,
     /// The features are not the first ones of the program, by labels and counts of points.
     NotOurs,
     /// The sink has failed; it may have taken a prefix of the text.
@@ -121,6 +127,12 @@ pub enum OrderFault {
     /// A record that is not of the program: this feature differs.
     #[error("dme: J3 OtherProgram (feature {0}) in record\n")]
     OtherProgram(Name),
+    /// A record of which no seal stands for this line.
+    #[error("dme: J4 BadSeal at line {0} in record\n")]
+    BadSeal(u64),
+    /// The key of a record's seals, which has no byte.
+    #[error("dme: J5 EmptyKey in key\n")]
+    EmptyKey,
     /// A file that cannot be opened or read; `-` is standard input.
     #[error("dme: cannot read {0}\n")]
     CannotRead(String),
@@ -173,6 +185,7 @@ impl OrderFault {
             OrderFault::Features(_) | OrderFault::Contacts(_) => 1,
             OrderFault::Record(_) | OrderFault::OtherProgram(_) => 1,
             OrderFault::Limits(_) | OrderFault::Machine(_) => 1,
+            OrderFault::BadSeal(_) | OrderFault::EmptyKey => 1,
             OrderFault::CannotRead(_)
             | OrderFault::CannotWriteOutput
             | OrderFault::CannotWrite(_) => 1,

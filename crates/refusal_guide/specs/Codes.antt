@@ -17,7 +17,7 @@ is_error_number code = (length code == 4) && list_all is_ascii_digit code
 
 -- the number of the topic that a code names: its number among the codes, or for an error that is not among them the number after the last
 abbrev pub number_of : List ℕ → Option ℕ
-number_of code = option_or (position (λ other. is_called other.now code) CODES) (if is_error_number code then Some 48 else None)
+number_of code = option_or (position (λ other. is_called other.now code) CODES) (if is_error_number code then Some 50 else None)
 
 abbrev pub is_the : ℕ → Option ℕ → Bool
 is_the n None = false

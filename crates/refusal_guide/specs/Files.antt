@@ -31,12 +31,13 @@ file_in files role.Contacts = files.contacts
 file_in files role.Record = files.record
 file_in files role.Limits = files.limits
 file_in files role.Machine = files.machine
+file_in files role.Key = files.key
 file_in files role.Program = files.program
 
 -- there was no memory to keep the whole text of one of them
 abbrev pub is_short : InputFiles → Bool
 is_short files = files.setup.is_short || (files.schedule.is_short || (files.features.is_short || (files.contacts.is_short
-    || (files.record.is_short || (files.limits.is_short || (files.machine.is_short || files.program.is_short))))))
+    || (files.record.is_short || (files.limits.is_short || (files.machine.is_short || (files.key.is_short || files.program.is_short)))))))
 
 -- a file without a name, of which nothing was read
 pub record IsUnnamed (file : InputFile) : Type 0 where
@@ -52,6 +53,7 @@ pub record AreUnnamed (files : InputFiles) : Type 0 where
   pub recorded : IsUnnamed files.record
   pub limits : IsUnnamed files.limits
   pub machine : IsUnnamed files.machine
+  pub key : IsUnnamed files.key
   pub program : IsUnnamed files.program
 
 -- what is shown for the fault of an order, by its files: the refusal, or the name of the file
@@ -71,6 +73,8 @@ IsFaultShown (files.Limits cause) file shown = shown ≡ fault.Limits cause
 IsFaultShown (files.Machine machine.Memory) file shown = shown ≡ fault.Memory
 IsFaultShown (files.Machine cause) file shown = shown ≡ fault.Machine cause
 IsFaultShown (files.OtherProgram label) file shown = shown ≡ fault.OtherProgram label
+IsFaultShown (files.BadSeal line) file shown = shown ≡ fault.BadSeal line
+IsFaultShown files.EmptyKey file shown = shown ≡ fault.EmptyKey
 IsFaultShown (files.Program program.Memory) file shown = shown ≡ fault.Memory
 IsFaultShown (files.Program cause) file shown = shown ≡ fault.Program cause
 IsFaultShown (files.Unread role) file shown = ShowsFile (Some (string_bytes (file role).name)) shown
@@ -87,6 +91,7 @@ refused_file (files.Contacts cause) = role.Contacts
 refused_file (files.Record cause) = role.Record
 refused_file (files.Limits cause) = role.Limits
 refused_file (files.Machine cause) = role.Machine
+refused_file (files.BadSeal line) = role.Record
 refused_file _ = role.Program
 
 -- where the file of a fault is refused, by the order's files; nothing if no file is refused at a line

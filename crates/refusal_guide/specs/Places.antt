@@ -12,7 +12,7 @@ use Rattle.refusal_guide.specs.Windows.{shown_start}
 use Rattle.refusal_guide.specs.Words.{Caused}
 use Rattle.refusal_guide.specs.Reasons.{spot_of, IsProgramReason}
 use Rattle.order_parts.specs.declared.faults.FilesFault.{FilesFault}
-use Rattle.order_parts.specs.declared.faults.FilesFault.TheVariants.{Program, Setup, Schedule, Features, Contacts, Record, Limits, Machine, Unread, OtherProgram, NotOurs, Write, Memory}
+use Rattle.order_parts.specs.declared.faults.FilesFault.TheVariants.{Program, Setup, Schedule, Features, Contacts, Record, Limits, Machine, Unread, OtherProgram, BadSeal, EmptyKey, NotOurs, Write, Memory}
 
 -- the number of the line that is refused; none if no file is refused at a line
 abbrev pub number_of : FilesFault → Option ℕ
@@ -39,6 +39,8 @@ number_of (Machine (machine.Twice line)) = Some line
 number_of (Machine machine.Memory) = None
 number_of (Unread role) = None
 number_of (OtherProgram label) = None
+number_of (BadSeal line) = Some line
+number_of EmptyKey = None
 number_of NotOurs = None
 number_of Write = None
 number_of Memory = None

@@ -45,6 +45,7 @@ pub struct InputFiles {
     pub record: InputFile,
     pub limits: InputFile,
     pub machine: InputFile,
+    pub key: InputFile,
     pub program: InputFile,
 }
 
@@ -61,6 +62,7 @@ impl InputFiles {
             record: InputFile::unnamed(alloc),
             limits: InputFile::unnamed(alloc),
             machine: InputFile::unnamed(alloc),
+            key: InputFile::unnamed(alloc),
             program: InputFile::unnamed(alloc),
         }
     }
@@ -76,6 +78,7 @@ impl InputFiles {
             || self.record.is_short
             || self.limits.is_short
             || self.machine.is_short
+            || self.key.is_short
             || self.program.is_short
     }
 
@@ -90,6 +93,7 @@ impl InputFiles {
             Role::Record => self.record,
             Role::Limits => self.limits,
             Role::Machine => self.machine,
+            Role::Key => self.key,
             Role::Program => self.program,
         }
     }
@@ -109,7 +113,7 @@ pub fn place_of(
         FilesFault::Schedule(_) => &files.schedule,
         FilesFault::Features(_) => &files.features,
         FilesFault::Contacts(_) => &files.contacts,
-        FilesFault::Record(_) => &files.record,
+        FilesFault::Record(_) | FilesFault::BadSeal(_) => &files.record,
         FilesFault::Limits(_) => &files.limits,
         FilesFault::Machine(_) => &files.machine,
         _ => &files.program,
@@ -141,6 +145,8 @@ pub fn shown_fault(fault: FilesFault, files: InputFiles) -> OrderFault
         FilesFault::Limits(cause) => OrderFault::Limits(cause),
         FilesFault::Machine(cause) => OrderFault::Machine(cause),
         FilesFault::OtherProgram(label) => OrderFault::OtherProgram(label),
+        FilesFault::BadSeal(line) => OrderFault::BadSeal(line),
+        FilesFault::EmptyKey => OrderFault::EmptyKey,
         FilesFault::Program(cause) => OrderFault::Program(cause),
         FilesFault::Unread(role) => OrderFault::CannotRead(files.into_file(role).name),
         FilesFault::NotOurs => OrderFault::NotOurs,

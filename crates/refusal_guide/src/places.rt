@@ -35,6 +35,7 @@ fn line_number(fault: &FilesFault) -> Option<u64>
         | FilesFault::Limits(LimitsFault::NotLimit(line))
         | FilesFault::Limits(LimitsFault::Twice(line))
         | FilesFault::Limits(LimitsFault::EmptyRange(line))
+        | FilesFault::BadSeal(line)
         | FilesFault::Machine(MachineFault::BadLine(line))
         | FilesFault::Machine(MachineFault::Twice(line)) => Some(*line),
         _ => None,
@@ -59,6 +60,7 @@ fn line_reason(alloc: Global, fault: &FilesFault, place: Place) -> Result<Reason
         FilesFault::Contacts(_) => (contact_reason(alloc, place)?, "K1"),
         FilesFault::Record(_) => (record_reason(alloc, place)?, "J1"),
         FilesFault::Limits(LimitsFault::Twice(_)) => (twice_reason(alloc, place)?, "M2"),
+        FilesFault::BadSeal(_) => (None, "J4"),
         FilesFault::Machine(MachineFault::Twice(_)) => (None, "D2"),
         FilesFault::Machine(_) => (None, "D1"),
         FilesFault::Limits(LimitsFault::EmptyRange(_)) => (range_reason(alloc, place)?, "M3"),

@@ -146,6 +146,7 @@ fn note_form(word: &[u8]) -> Option<&'static str> {
         Ok("LEFT") => {
             Some(" is followed by a time, such as 2026-11-30T02:28:49.123Z, and what ended it.")
         }
+        Ok("SEAL") => Some(" is followed by a space and the 64 digits of a seal."),
         Ok("DATED") => Some(" is followed by a time alone, such as 2026-11-30T02:28:49.123Z."),
         _ => None,
     }
@@ -182,7 +183,7 @@ fn entry_reason(alloc: Global, record: &Record, above: &[u8], line: &[u8]) -> Ex
         return word.reason(alloc, "", form);
     }
     let words =
-        " is not HOMEDIS, HOMED, MOVED, CHANGED, FRAMED, CONTACT, COMPLETED, REFUSED, BY, OPERATOR, PROGRAM, SETUP, OPENED, DATED or LEFT.";
+        " is not HOMEDIS, HOMED, MOVED, CHANGED, FRAMED, CONTACT, COMPLETED, REFUSED, BY, OPERATOR, PROGRAM, SETUP, OPENED, DATED, LEFT or SEAL.";
     word_reason(alloc, word, false, words)
 }
 
@@ -190,10 +191,13 @@ fn entry_reason(alloc: Global, record: &Record, above: &[u8], line: &[u8]) -> Ex
 pub(crate) fn record_reason(alloc: Global, place: Place) -> Explained {
     let line = first_line(place.rest);
     if place.number == 1 {
-        if line == b"DME-RECORD 1".as_slice() {
+        if line == b"DME-RECORD 2".as_slice() || line == b"DME-RECORD 1".as_slice() {
             return Ok(None);
         }
-        return Reason::of_text(alloc, "A record begins with the line DME-RECORD 1.");
+        return Reason::of_text(
+            alloc,
+            "A record begins with the line DME-RECORD 2, or DME-RECORD 1.",
+        );
     }
     let above = place.above_line();
     match begun(alloc, above)? {

@@ -9,16 +9,16 @@ ghost use Rattle.refusal_guide.specs.Codes.{is_called, is_error_number, is_code_
 use std::alloc::{AllocError, Global};
 
 /// The codes of what `dme` refuses, and the numbers of the errors of its server.
-const CODES: [&str; 48] = [
+const CODES: [&str; 50] = [
     "P1", "P2", "P3", "P4", "P5", "P6", "P7", "P8", "P9", "P10", "P11", "P12", "P13", "P14", "P15",
     "P16", "N1", "N2", "N3", "S1", "S2", "S3", "H1", "M1", "M2", "M3", "D1", "D2", "K1", "C4",
-    "J1", "J2", "J3", "9001", "9002", "9003", "9004", "9005", "9006", "9007", "9008", "9009",
-    "9010", "9011", "9012", "9013", "9014", "9015",
+    "J1", "J2", "J3", "J4", "J5", "9001", "9002", "9003", "9004", "9005", "9006", "9007", "9008",
+    "9009", "9010", "9011", "9012", "9013", "9014", "9015",
 ];
 
 /// The pages of these codes, as they are printed after them: a line each for the name, for what it means, for what to do about it, and for a
 /// line as it should be, of the program, of the file or of the wire. The last is that of an error of a server with another number.
-const PAGES: [&str; 49] = [
+const PAGES: [&str; 51] = [
     "NotDmis\nMeaning: The first statement of the program is not DMISMN, or there is no statement at all.\n\
      Remedy: Check that the file is a DMIS program and is not empty; put DMISMN before its first statement.\nExample: DMISMN/'PART',05.2",
     "Truncated\nMeaning: The program ends without ENDFIL; the line is the last one of the text.\n\
@@ -71,7 +71,7 @@ const PAGES: [&str; 49] = [
      Remedy: Remove one of the two lines.\nExample: LIMIT * -0.05 0.05",
     "EmptyRange\nMeaning: The lower limit is greater than the upper one.\n\
      Remedy: Exchange the two, or look for a missing sign.\nExample: LIMIT BORE -0.010 0.020",
-    "BadLine\nMeaning: A line of a machine's file is not SETUP file, HOST h, PORT n, TIMEOUT s, WAIT s, WINDOW w or RECORDS folder; or it has a space at its start or end, or its value is not UTF-8.\n\
+    "BadLine\nMeaning: A line of a machine's file is not SETUP file, HOST h, PORT n, TIMEOUT s, WAIT s, WINDOW w, RECORDS folder or SEALKEY file; or it has a space at its start or end, or its value is not UTF-8.\n\
      Remedy: Write one option of run per line, its value up to the end of the line; a comment is a line of its own that begins with #.\nExample: HOST 192.168.0.7",
     "Twice\nMeaning: A line of a machine's file has the word of a line above it.\n\
      Remedy: Remove one of the two lines. What the command line says goes over the file.\nExample: PORT 1294",
@@ -85,6 +85,10 @@ const PAGES: [&str; 49] = [
      Remedy: Name the part of the record with --part, or another file with --record.\nExample: PART 0042/7",
     "OtherProgram\nMeaning: The record is of other wanted features than this program has under this setup: a label, the number of touches, a target, direction, tool or frame differs.\n\
      Remedy: Name the program and the setup of the record, or another file with --record.\nExample: FEATURE C 2",
+    "BadSeal\nMeaning: No seal of this key stands for the line: a seal there is not that of what is above it, or no seal follows. The record was changed, or another key was used, or its last run was killed.\n\
+     Remedy: Name the key of the record. If it is the right one, do not trust the record: measure the part again, under another name of a file. After a run that was killed, the next one seals what it left.\nExample: 1 SEAL 5bdc..",
+    "EmptyKey\nMeaning: The file of the key has no byte, and anyone can make the seals of such a key.\n\
+     Remedy: Make a key of 32 random bytes, and keep it where the records are not.\nExample: head -c 32 /dev/urandom > seal.key",
     "No tag\nMeaning: The server received a line that does not begin with a tag (five digits, or E and four digits) and a space.\n\
      Remedy: The client must write a tag before each command.\nExample: 00001 Home()",
     "Tag in use\nMeaning: The server received a command with the tag of another one that is running or waiting.\n\
