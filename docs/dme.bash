@@ -26,10 +26,10 @@ _dme()
     case ${COMP_WORDS[1]} in
         check) options="--setup --explain" ;;
         simulate) options="--setup --schedule --window --trace --explain" ;;
-        audit) options="--setup --features --contacts --record --explain" ;;
+        audit) options="--setup --features --contacts --record --seal-key --explain" ;;
         loop) options="--setup --window --progress --trace --explain" ;;
         serve) options="--setup --listen --port --connections --endless --contacts --progress --trace --log --timeout --stop --explain" ;;
-        run) options="--machine --setup --host --port --window --features --record --records --part --operator --contacts --progress --trace --log --timeout --wait --stop --confirm --pause --explain" ;;
+        run) options="--machine --setup --host --port --window --features --record --records --part --operator --seal-key --contacts --progress --trace --log --timeout --wait --stop --confirm --pause --explain" ;;
         export) options="--as --setup --features --record --limits --explain" ;;
         report) options="--record --setup --limits --explain" ;;
         summary) options="--as --setup --limits --program" ;;

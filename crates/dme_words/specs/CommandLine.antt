@@ -49,10 +49,10 @@ abbrev pub simulate_line : App
 simulate_line = line_of (codes "simulate") (needed_rule (codes "setup") ∷ needed_rule (codes "schedule") ∷ window_rule
     ∷ flag_rule (codes "trace") ∷ flag_rule (codes "explain") ∷ program_rule ∷ [])
 
--- `audit [--setup FILE] [--features FILE] [--contacts FILE] [--record FILE] [--explain] [PROGRAM]`
+-- `audit [--setup FILE] [--features FILE] [--contacts FILE] [--record FILE] [--seal-key FILE] [--explain] [PROGRAM]`
 abbrev pub audit_line : App
 audit_line = line_of (codes "audit") (text_rule (codes "setup") ∷ text_rule (codes "features") ∷ text_rule (codes "contacts")
-    ∷ text_rule (codes "record") ∷ flag_rule (codes "explain") ∷ program_rule ∷ [])
+    ∷ text_rule (codes "record") ∷ text_rule (codes "seal-key") ∷ flag_rule (codes "explain") ∷ program_rule ∷ [])
 
 -- `loop --setup FILE [--window W] [--progress] [--trace] [--explain] [PROGRAM]`
 abbrev pub loop_line : App
@@ -67,11 +67,11 @@ serve_line = line_of (codes "serve") (needed_rule (codes "setup") ∷ text_rule 
     ∷ text_rule (codes "timeout") ∷ text_rule (codes "stop") ∷ flag_rule (codes "explain") ∷ [])
 
 -- `run [--machine FILE] --setup FILE --host H --port N [--window W] [--features FILE] [--record FILE] [--records FOLDER] [--part TEXT]
--- [--operator TEXT] [--contacts FILE] [--progress] [--trace] [--log FILE] [--timeout SECONDS] [--wait SECONDS] [--stop FILE] [--confirm] [--pause] [--explain] [PROGRAM]`
+-- [--operator TEXT] [--seal-key FILE] [--contacts FILE] [--progress] [--trace] [--log FILE] [--timeout SECONDS] [--wait SECONDS] [--stop FILE] [--confirm] [--pause] [--explain] [PROGRAM]`
 abbrev pub run_line : App
 run_line = line_of (codes "run") (text_rule (codes "machine") ∷ needed_rule (codes "setup") ∷ needed_rule (codes "host") ∷ port_rule ∷ window_rule
     ∷ text_rule (codes "features") ∷ text_rule (codes "record") ∷ text_rule (codes "records") ∷ text_rule (codes "part") ∷ text_rule (codes "operator")
-    ∷ text_rule (codes "contacts") ∷ flag_rule (codes "progress") ∷ flag_rule (codes "trace") ∷ text_rule (codes "log") ∷ text_rule (codes "timeout")
+    ∷ text_rule (codes "seal-key") ∷ text_rule (codes "contacts") ∷ flag_rule (codes "progress") ∷ flag_rule (codes "trace") ∷ text_rule (codes "log") ∷ text_rule (codes "timeout")
     ∷ text_rule (codes "wait") ∷ text_rule (codes "stop") ∷ flag_rule (codes "confirm") ∷ flag_rule (codes "pause")
     ∷ flag_rule (codes "explain") ∷ program_rule ∷ [])
 

@@ -117,14 +117,16 @@ IsSimulateOf rows o =
 abbrev pub IsAuditOf : List Row → Audit → Type 0
 IsAuditOf rows o =
     IsValueOf (codes "setup") rows (string_bytes o.setup) × IsValueOf (codes "features") rows (string_bytes o.features)
-    × IsValueOf (codes "contacts") rows (string_bytes o.contacts) × HasNone (codes "record") rows × IsExplainedOf rows o.explain
+    × IsValueOf (codes "contacts") rows (string_bytes o.contacts) × HasNone (codes "record") rows × HasNone (codes "seal-key") rows
+    × IsExplainedOf rows o.explain
     × IsProgramOf rows (string_bytes o.program)
 
 -- an audit of the program with the named record, and with the named setup or with none if none is named; no features or contacts are named
 abbrev pub IsRecordAuditOf : List Row → RecordAudit → Type 0
 IsRecordAuditOf rows o =
     IsMaybeOf (codes "setup") rows (option_map string_bytes o.setup) × IsValueOf (codes "record") rows (string_bytes o.record)
-    × HasNone (codes "features") rows × HasNone (codes "contacts") rows × IsExplainedOf rows o.explain
+    × HasNone (codes "features") rows × HasNone (codes "contacts") rows
+    × IsMaybeOf (codes "seal-key") rows (option_map string_bytes o.seal_key) × IsExplainedOf rows o.explain
     × IsProgramOf rows (string_bytes o.program)
 
 -- the order of `audit`: that of a record just if one is named
@@ -166,6 +168,10 @@ NamesItsPart rows = is_unrecorded rows ≡ is_lacking (codes "part") rows
 abbrev pub KeepsItsOperator : List Row → Type 0
 KeepsItsOperator rows = is_unrecorded rows ≡ true → is_lacking (codes "operator") rows ≡ true
 
+-- and so is a key
+abbrev pub KeepsItsKey : List Row → Type 0
+KeepsItsKey rows = is_unrecorded rows ≡ true → is_lacking (codes "seal-key") rows ≡ true
+
 -- the record is the named file; if none is named, that of the part in the named folder
 abbrev pub IsRecordOf : List Row → Option Text → Type 0
 IsRecordOf rows name = name ≡ option_or (first_of (codes "record") rows)
@@ -176,13 +182,14 @@ abbrev pub IsGivenOf : Text → List Row → Option Text → Type 0
 IsGivenOf id rows text = IsMaybeOf id rows text × IsPartGiven text
 
 -- a run of the program against the server at the named host and port, with the named setup and window, and the named file of features,
--- record with its part and operator, file for the reported contacts, log, time limits and stop file, if any
+-- record with its part, operator and key, file for the reported contacts, log, time limits and stop file, if any
 abbrev pub IsRunOf : List Row → Run → Type 0
 IsRunOf rows o =
     IsValueOf (codes "setup") rows (string_bytes o.setup) × IsValueOf (codes "host") rows (string_bytes o.host) × IsNumberOf (codes "port") 65535 rows o.port
     × IsWindowOf rows o.window × IsMaybeOf (codes "features") rows (option_map string_bytes o.features)
     × IsRecordOf rows (option_map string_bytes o.record) × IsGivenOf (codes "part") rows (option_map string_bytes o.part)
     × IsGivenOf (codes "operator") rows (option_map string_bytes o.operator)
+    × IsMaybeOf (codes "seal-key") rows (option_map string_bytes o.seal_key)
     × IsMaybeOf (codes "contacts") rows (option_map string_bytes o.contacts)
     × IsFlagOf (codes "progress") rows o.progress × IsFlagOf (codes "trace") rows o.trace
     × IsMaybeOf (codes "log") rows (option_map string_bytes o.log)
@@ -296,7 +303,7 @@ IsNamedOrderOf p (order.Audit o) = (p.0 ≡ codes "audit") × IsAuditOf p.1 o
 IsNamedOrderOf p (order.AuditRecord o) = (p.0 ≡ codes "audit") × IsRecordAuditOf p.1 o
 IsNamedOrderOf p (order.Loop o) = (p.0 ≡ codes "loop") × IsLoopOf p.1 o
 IsNamedOrderOf p (order.Serve o) = (p.0 ≡ codes "serve") × IsServeOf p.1 o
-IsNamedOrderOf p (order.Run o) = (p.0 ≡ codes "run") × IsRunOf p.1 o × NamesItsPart p.1 × KeepsItsOperator p.1
+IsNamedOrderOf p (order.Run o) = (p.0 ≡ codes "run") × IsRunOf p.1 o × NamesItsPart p.1 × KeepsItsOperator p.1 × KeepsItsKey p.1
 IsNamedOrderOf p (order.Explain topic) = (p.0 ≡ codes "explain") × IsExplainOf p.1 topic
 IsNamedOrderOf p (order.Export o) = (p.0 ≡ codes "export") × IsExportOf p.1 o
 IsNamedOrderOf p (order.ExportRecord o) = (p.0 ≡ codes "export") × IsRecordExportOf p.1 o
@@ -430,6 +437,7 @@ pub record AreLacking (rows : List Row) (lacks : Lacks) : Type 0 where
 abbrev pub AuditMisfits : List Row → Misfit → Type 0
 AuditMisfits rows misfit.RecordAndFeatures = HasValue (codes "record") rows × HasValue (codes "features") rows
 AuditMisfits rows misfit.RecordAndContacts = HasValue (codes "record") rows × HasValue (codes "contacts") rows
+AuditMisfits rows misfit.KeyWithoutRecord = HasNone (codes "record") rows × HasValue (codes "seal-key") rows
 AuditMisfits rows (misfit.AuditLacks lacks) = HasNone (codes "record") rows × AreLacking rows lacks
 AuditMisfits rows _ = ⊥
 
@@ -465,6 +473,7 @@ RunMisfits rows misfit.RecordWithoutPart = HasValue (codes "record") rows × Has
 RunMisfits rows misfit.FolderWithoutPart = HasNone (codes "record") rows × HasValue (codes "records") rows × HasNone (codes "part") rows
 RunMisfits rows misfit.PartWithoutRecord = HasValue (codes "part") rows × HasNone (codes "record") rows × HasNone (codes "records") rows
 RunMisfits rows misfit.OperatorWithoutRecord = HasValue (codes "operator") rows × HasNone (codes "record") rows × HasNone (codes "records") rows
+RunMisfits rows misfit.KeyWithoutRecord = HasValue (codes "seal-key") rows × HasNone (codes "record") rows × HasNone (codes "records") rows
 RunMisfits rows _ = ⊥
 
 -- the value of the option with this id is no number of seconds; or memory ran out

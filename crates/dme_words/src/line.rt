@@ -101,7 +101,7 @@ const KEPT_HELP: &str = "The record of the run: begun, or continued from what it
 const FOLDER_HELP: &str = "The folder that the records of parts are kept in, each as PART.record";
 
 const MACHINE_HELP: &str =
-    "A file of what is the same every day: SETUP, HOST, PORT, TIMEOUT, WAIT, WINDOW, RECORDS; what is named here goes over it";
+    "A file of what is the same every day: SETUP, HOST, PORT, TIMEOUT, WAIT, WINDOW, RECORDS, SEALKEY; what is named here goes over it";
 
 const PART_HELP: &str = "Which part is measured: 1 to 64 printable bytes, kept in the record";
 
@@ -174,6 +174,8 @@ const CONFIRM_HELP: &str =
 const PAUSE_HELP: &str =
     "Waits at each text for the operator between features until an empty line is read";
 
+const SEAL_KEY_HELP: &str = "The file of the key of the record's seals";
+
 const EXPLAIN_HELP: &str = "Shows the line of a file that is refused, and what is wrong with it";
 
 const NO_CLEARING_HELP: &str =
@@ -192,6 +194,8 @@ const SETUP: Argument = Text("setup", "FILE", SETUP_HELP);
 const NEEDED_SETUP: Argument = Needed("setup", "FILE", SETUP_HELP);
 
 const RECORD: Argument = Text("record", "FILE", RECORD_HELP);
+
+const SEAL_KEY: Argument = Text("seal-key", "FILE", SEAL_KEY_HELP);
 
 const HOST: Argument = Needed("host", "H", HOST_HELP);
 
@@ -246,6 +250,7 @@ const LINES: [Line; 6] = [
             Text("features", "FILE", HELD_HELP),
             Text("contacts", "FILE", MADE_HELP),
             RECORD,
+            SEAL_KEY,
             EXPLAIN,
             PROGRAM,
         ],
@@ -287,6 +292,7 @@ const LINES: [Line; 6] = [
             Text("records", "FOLDER", FOLDER_HELP),
             Text("part", "TEXT", PART_HELP),
             Text("operator", "TEXT", OPERATOR_HELP),
+            SEAL_KEY,
             Text("contacts", "FILE", REPORTED_HELP),
             PROGRESS,
             TRACE,

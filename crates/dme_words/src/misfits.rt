@@ -30,6 +30,8 @@ pub enum Misfit {
     PartWithoutRecord,
     /// A run with `--operator` and without `--record`.
     OperatorWithoutRecord,
+    /// A run or an audit with `--seal-key` and without `--record`.
+    KeyWithoutRecord,
     /// `--as features` without `--record`.
     FeaturesWithoutRecord,
     /// `--as contacts` without `--record`.
@@ -90,6 +92,9 @@ impl fmt::Display for Misfit {
             }
             Misfit::OperatorWithoutRecord => {
                 "the argument '--operator <TEXT>' requires '--record <FILE>'"
+            }
+            Misfit::KeyWithoutRecord => {
+                "the argument '--seal-key <FILE>' requires '--record <FILE>'"
             }
             Misfit::FeaturesWithoutRecord => {
                 "the argument '--as features' requires '--record <FILE>'"

@@ -92,6 +92,8 @@ pub struct RecordAudit {
     pub setup: Option<String>,
     /// The file of the record; `-` is standard input.
     pub record: String,
+    /// The file of the key of its seals, if they are to stand for all of it; `-` is standard input.
+    pub seal_key: Option<String>,
     /// Whether a line that is refused is shown, with what is wrong with it.
     pub explain: bool,
     /// The file of the program; `-` is standard input.
@@ -161,6 +163,8 @@ pub struct Run {
     pub part: Option<String>,
     /// Who operates the machine, as the record has it with what else is known of the run: 1 to 64 printable bytes.
     pub operator: Option<String>,
+    /// The file of the key under which the record is sealed, if it is.
+    pub seal_key: Option<String>,
     /// The file that the contacts which the server reports are written to; `-` is a file of that name.
     pub contacts: Option<String>,
     /// Whether it reports how far it is.

@@ -6,7 +6,7 @@ ghost use Rattle.clap.specs.Words.{all_of, first_of, found_of, rows_of, subcomma
 ghost use Rattle.client_core.specs.Clients.{is_window};
 ghost use Rattle.dme_words.specs.Ordered as spec;
 ghost use Rattle.dme_words.specs.CommandLine.{audit_line, check_line, explain_line, export_line, judge_line, ledger_line, loop_line, lower_line, report_line, run_line, serve_line, simulate_line, watch_line};
-ghost use Rattle.dme_words.specs.Ordered.{Asks, AsksForNothing, ExportMisfits, Has, HasFlag, HasNoAudit, HasNoExport, HasNoName, HasNoReview, HasNoRun, HasNoRunValue, HasNoSeconds, HasNoSummary, HasNoTopic, HasNone, HasNumber, HasValue, IsAnyAuditOf, IsAnyExportOf, IsAskable, IsCalled, IsCheckOf, IsCodeOf, IsConnectionsOf, IsExplainOf, IsFindingFormOf, IsFlagOf, IsGivenOf, IsJudgeOf, IsLaterAskable, IsLedgerOf, IsLoopOf, IsLowerOf, IsMaybeOf, IsNoCode, IsNoForm, IsNoSeconds, IsNumber, IsNumberOf, IsOrderOf, IsProgramOf, IsReady, IsRecordOf, IsRefusal, IsRefusedOf, IsReportOf, IsReviewOf, IsRunOf, IsSecondsOf, IsServeOf, IsSimulateOf, IsSummaryFormOf, IsSummaryOf, IsValueOf, IsValueOrInput, IsWatchOf, IsWindowOf, KeepsItsOperator, NamesItsPart, RunMisfits, form_word, is_lacking};
+ghost use Rattle.dme_words.specs.Ordered.{Asks, AsksForNothing, ExportMisfits, Has, HasFlag, HasNoAudit, HasNoExport, HasNoName, HasNoReview, HasNoRun, HasNoRunValue, HasNoSeconds, HasNoSummary, HasNoTopic, HasNone, HasNumber, HasValue, IsAnyAuditOf, IsAnyExportOf, IsAskable, IsCalled, IsCheckOf, IsCodeOf, IsConnectionsOf, IsExplainOf, IsFindingFormOf, IsFlagOf, IsGivenOf, IsJudgeOf, IsLaterAskable, IsLedgerOf, IsLoopOf, IsLowerOf, IsMaybeOf, IsNoCode, IsNoForm, IsNoSeconds, IsNumber, IsNumberOf, IsOrderOf, IsProgramOf, IsReady, IsRecordOf, IsRefusal, IsRefusedOf, IsReportOf, IsReviewOf, IsRunOf, IsSecondsOf, IsServeOf, IsSimulateOf, IsSummaryFormOf, IsSummaryOf, IsValueOf, IsValueOrInput, IsWatchOf, IsWindowOf, KeepsItsKey, KeepsItsOperator, NamesItsPart, RunMisfits, form_word, is_lacking};
 
 use crate::folders::record_in;
 use crate::line::whole_command;
@@ -297,6 +297,7 @@ fn record_audit(alloc: Global, values: &ArgMatches, file: String) -> Result<Orde
     Ok(Order::AuditRecord(RecordAudit {
         setup: copied_maybe(alloc, values, "setup")?,
         record: file,
+        seal_key: copied_maybe(alloc, values, "seal-key")?,
         explain: flag_of(values, "explain"),
         program: copied_program(alloc, values)?,
     }))
@@ -309,6 +310,9 @@ fn files_audit(alloc: Global, values: &ArgMatches) -> Result<Order, WordsFault>
     ensures named { IfOk result (IsAnyAuditOf (rows_of (found_of values.now))) }
     ensures none { IfErr result (HasNoAudit (rows_of (found_of values.now))) }
 {
+    if !is_lacking(values, "seal-key") {
+        return Err(WordsFault::Misfits(Misfit::KeyWithoutRecord));
+    }
     let lacks = Lacks {
         setup: is_lacking(values, "setup"),
         features: is_lacking(values, "features"),
@@ -432,6 +436,7 @@ fn run_values(alloc: Global, values: &ArgMatches) -> Result<Run, WordsFault>
         record: record_of(alloc, values)?,
         part: given_of(alloc, values, "part")?,
         operator: given_of(alloc, values, "operator")?,
+        seal_key: copied_maybe(alloc, values, "seal-key")?,
         contacts: copied_maybe(alloc, values, "contacts")?,
         progress: flag_of(values, "progress"),
         trace: flag_of(values, "trace"),
@@ -449,7 +454,8 @@ fn run_values(alloc: Global, values: &ArgMatches) -> Result<Run, WordsFault>
 /// Why the options of a run do not go together, if they do not.
 fn run_misfit(values: &ArgMatches) -> Option<Misfit>
     ensures { MatchOption result (NamesItsPart (rows_of (found_of values.now))
-        × KeepsItsOperator (rows_of (found_of values.now)))
+        × (KeepsItsOperator (rows_of (found_of values.now))
+        × KeepsItsKey (rows_of (found_of values.now))))
         (RunMisfits (rows_of (found_of values.now))) }
 {
     let (no_record, no_part) = (is_lacking(values, "record"), is_lacking(values, "part"));
@@ -457,19 +463,21 @@ fn run_misfit(values: &ArgMatches) -> Option<Misfit>
     match (is_unrecorded, no_part) {
         (true, false) => Some(Misfit::PartWithoutRecord),
         (true, true) if !is_lacking(values, "operator") => Some(Misfit::OperatorWithoutRecord),
+        (true, true) if !is_lacking(values, "seal-key") => Some(Misfit::KeyWithoutRecord),
         (false, true) if no_record => Some(Misfit::FolderWithoutPart),
         (false, true) => Some(Misfit::RecordWithoutPart),
         _ => None,
     }
 }
 
-/// The values of `run`. A record is of a part, so that its points are not taken for those of another; a part and an operator are those of a
-/// record.
+/// The values of `run`. A record is of a part, so that its points are not taken for those of another; a part, an operator and a key are
+/// those of a record.
 fn run_order(alloc: Global, values: &ArgMatches) -> Result<Run, WordsFault>
     requires { Has run_line (rows_of (found_of values.now)) }
     ensures named { IfOk result (IsRunOf (rows_of (found_of values.now))) }
     ensures part { OnOk result (NamesItsPart (rows_of (found_of values.now))) }
     ensures operator { OnOk result (KeepsItsOperator (rows_of (found_of values.now))) }
+    ensures key { OnOk result (KeepsItsKey (rows_of (found_of values.now))) }
     ensures ready { IfOk result (λ order. (1 ≤ order.port)
         × (is_window order.window ≡ true)) }
     ensures none { IfErr result (HasNoRun (rows_of (found_of values.now))) }

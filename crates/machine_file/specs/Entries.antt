@@ -19,7 +19,8 @@ option_in word = if is_word (codes "SETUP") word then Some (codes "setup") else
     (if is_word (codes "TIMEOUT") word then Some (codes "timeout") else
     (if is_word (codes "WAIT") word then Some (codes "wait") else
     (if is_word (codes "WINDOW") word then Some (codes "window") else
-    (if is_word (codes "RECORDS") word then Some (codes "records") else None))))))
+    (if is_word (codes "RECORDS") word then Some (codes "records") else
+    (if is_word (codes "SEALKEY") word then Some (codes "seal-key") else None)))))))
 
 -- the first word of a line, and what follows the spaces after it
 abbrev pub first_word : List ℕ → List ℕ

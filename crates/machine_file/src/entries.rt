@@ -46,6 +46,8 @@ fn option_in(word: &[u8]) -> Option<&'static str>
         Some("window")
     } else if is_word(b"RECORDS", word) {
         Some("records")
+    } else if is_word(b"SEALKEY", word) {
+        Some("seal-key")
     } else {
         None
     }

@@ -51,8 +51,8 @@ impl Machine {
     }
 
     /// Reads the text of a machine's file. Its lines end with LF or CR LF, the last may lack its end. Empty lines and lines that begin
-    /// with `#` say nothing; each other is `SETUP file`, `HOST h`, `PORT n`, `TIMEOUT s`, `WAIT s`, `WINDOW w` or `RECORDS folder`: its
-    /// word in any case, then one or more spaces, then the value up to the end of the line, in UTF-8. What a value may be is judged where
+    /// with `#` say nothing; each other is `SETUP file`, `HOST h`, `PORT n`, `TIMEOUT s`, `WAIT s`, `WINDOW w`, `RECORDS folder` or `SEALKEY
+    /// file`: its word in any case, then one or more spaces, then the value up to the end of the line, in UTF-8. What a value may be is judged where
     /// the command line is.
     ///
     /// The first line that is refused is answered with its number: `BadLine` if it is not of this form or has a space at its start or
