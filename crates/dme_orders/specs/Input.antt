@@ -10,7 +10,7 @@ use Rattle.tool_rack.specs.Setups.{SetupValue}
 use Rattle.program_review.specs.Reviews.{frames_under}
 use Rattle.order_parts.specs.declared.faults.FilesFault.{FilesFault}
 use Rattle.dme_orders.specs.Reading.{Came, came, IsUntouched, ReadsSetup, WhyNoSetup, ReadsSchedule, WhyNoSchedule, ReadsFeatures}
-use Rattle.dme_orders.specs.Reading.{WhyNoFeatures, ReadsContacts, WhyNoContacts, ReadsRecord, WhyNoRecord, ReadsLimits, WhyNoLimits}
+use Rattle.dme_orders.specs.Reading.{WhyNoFeatures, ReadsContacts, WhyNoContacts, ReadsRecord, WhyNoRecord, ReadsLimits, WhyNoLimits, WhyNoSealed}
 use Rattle.dme_orders.specs.Reading.{ReadsProgram, WhyNoProgram}
 
 -- a file comes before others: it is blamed for a reason of its own, and the others are untouched; or it is accepted, and one of the others
@@ -171,3 +171,8 @@ module _ {S J R : Type 0} (s : Named S) (j : Came J) (r : Came R) where
   abbrev pub WhyNoneHeld : FilesFault → Type 0
   WhyNoneHeld = InTurn (ReadsNamed s) (WhyNoNamed s) (IsUntouched j × IsUntouched r) (λ setup.
       InTurn (ReadsRecord j) (WhyNoRecord j) (IsUntouched r) (λ held. WhyNoProgram r (frames_under setup)))
+
+  -- likewise for a record that is to be sealed
+  abbrev pub WhyNoneSealed : Option (List ℕ) → FilesFault → Type 0
+  WhyNoneSealed key = InTurn (ReadsNamed s) (WhyNoNamed s) (IsUntouched j × IsUntouched r) (λ setup.
+      InTurn (ReadsRecord j) (WhyNoSealed j key) (IsUntouched r) (λ held. WhyNoProgram r (frames_under setup)))

@@ -10,10 +10,10 @@ use Rattle.order_parts.specs.Kept.{IsFeaturesText}
 use Rattle.record_text.specs.Records.{Recorded}
 use Rattle.dme_orders.specs.Auditing.{LeavesVerdict}
 use Rattle.dme_orders.specs.Exporting.{LeavesTable, Compares}
-use Rattle.dme_orders.specs.Input.{Named, RecordInput, ReadsHeld, WhyNoneHeld, AreUntouched, Limited, ReadsLimited, WhyNoLimited}
+use Rattle.dme_orders.specs.Input.{Named, RecordInput, ReadsHeld, WhyNoneHeld, WhyNoneSealed, AreUntouched, Limited, ReadsLimited, WhyNoLimited}
 use Rattle.dme_orders.specs.Missing.{IsMissing}
 use Rattle.dme_orders.specs.Orders.{Went, Carries}
-use Rattle.dme_orders.specs.Reading.{Came}
+use Rattle.dme_orders.specs.Reading.{Came, Reads, IsSealed}
 use Rattle.dme_orders.specs.Recorded.{IsOfProgram, DiffersAt, features_in, told_in}
 use Rattle.dme_orders.specs.declared.exporting.Exported.{Exported}
 use Rattle.deviations.specs.declared.entries.Limit.{Limit}
@@ -68,9 +68,11 @@ module _ {S J R W : Type 0} (s : Named S) (j : Came J) (r : Came R) (w : Went W)
     pub read : ReadsHeld s j r input
     pub not_ours : are_ours input.program.features (features_in input.held) ≡ false
 
-  -- the line of the verdict was written, or the audit was not carried out: a file is blamed, or the record is of another program
-  abbrev pub AuditsRecord : Result (ℕ × RecordNotes) FilesFault → Type 0
-  AuditsRecord = Carries (ReadsHeld s j r) LeavesRecordVerdict w (λ cause. WhyNoneHeld s j r cause ⊎ IsOtherProgram cause)
+  -- the line of the verdict was written, or the audit was not carried out: a file is blamed, or the record is of another program. With a
+  -- key its seals stand for the whole record
+  abbrev pub AuditsRecord : Option (List ℕ) → Result (ℕ × RecordNotes) FilesFault → Type 0
+  AuditsRecord key = Carries (λ input. ReadsHeld s j r input × Reads j (IsSealed key)) LeavesRecordVerdict w
+      (λ cause. WhyNoneSealed s j r key cause ⊎ IsOtherProgram cause)
 
   -- the text was written, or the export was not carried out: a file is blamed, or the record is of another program, or has other features
   abbrev pub ExportsRecord : {L : Type 0} → Named L → RecordText → Result Exported FilesFault → Type 0

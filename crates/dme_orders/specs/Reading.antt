@@ -1,5 +1,5 @@
 -- What reading a file of an order leaves, from any source that reports its bytes.
-use Rattle.std.specs.Prelude.{◌≡◌, ℕ, List, [], Bool, false, Option, Some, Ok, Err, IfSome}
+use Rattle.std.specs.Prelude.{◌≡◌, ◌<◌, ◌⊎◌, ℕ, List, [], Bool, false, Option, Some, None, Ok, Err, IfSome, length}
 use Rattle.fixed_um.specs.declared.lengths.Point.{Point}
 use Rattle.contact_ledger.specs.FeatureTexts.{IsFeatures, IsDamagedFeatures}
 use Rattle.contact_ledger.specs.declared.acts.Act.{Act}
@@ -13,6 +13,7 @@ use Rattle.machine_file.specs.declared.faults.MachineFault.TheVariants as machin
 use Rattle.deviations.specs.Limits.{limits_of}
 use Rattle.deviations.specs.declared.entries.Limit.{Limit}
 use Rattle.deviations.specs.declared.limit_faults.LimitsFault.TheVariants as limits
+use Rattle.record_seal.specs.Seals.{open_line}
 use Rattle.record_text.specs.Reading.{IsDamagedRecord}
 use Rattle.record_text.specs.Reading as texts
 use Rattle.record_text.specs.Records.{Recorded}
@@ -56,6 +57,20 @@ pub record Reads {S : Type 0} (c : Came S) (Holds : List ℕ → Type 0) : Type 
 -- memory ran out, and the source has not failed meanwhile
 abbrev pub IsStillWorking : Bool → Bool → Type 0
 IsStillWorking before after = before ≡ false → after ≡ false
+
+-- a seal of the key, if one is given, stands for each line of a text; or for each line above this one
+abbrev pub IsSealed : Option (List ℕ) → List ℕ → Type 0
+IsSealed None text = Unit {0}
+IsSealed (Some key) text = open_line key text ≡ None
+
+abbrev pub IsOpenAt : Option (List ℕ) → List ℕ → ℕ → Type 0
+IsOpenAt None text line = ⊥
+IsOpenAt (Some key) text line = open_line key text ≡ Some line
+
+abbrev pub IsUnsealed : Option (List ℕ) → List ℕ → FilesFault → Type 0
+IsUnsealed key text (fault.BadSeal line) = IsOpenAt key text line
+IsUnsealed key text fault.Memory = Unit {0}
+IsUnsealed key text _ = ⊥
 
 module _ {S : Type 0} (c : Came S) where
   -- what the whole text of a source is called if it was not read to its end
@@ -111,6 +126,19 @@ module _ {S : Type 0} (c : Came S) where
   abbrev pub WhyNoRecord : FilesFault → Type 0
   WhyNoRecord (fault.Record (recorded.Damaged n)) = Reads c (λ text. IsDamagedRecord text n)
   WhyNoRecord given = WhyNoText role.Record given
+
+  -- the key of a source, which has a byte
+  abbrev pub ReadsKey : List ℕ → Type 0
+  ReadsKey key = Reads c (λ text. (key ≡ text) × (0 < length text))
+
+  abbrev pub WhyNoKey : FilesFault → Type 0
+  WhyNoKey fault.EmptyKey = Reads c (λ text. text ≡ [])
+  WhyNoKey given = WhyNoText role.Key given
+
+  -- why there is no record that is sealed: no seal stands for this line of its text
+  abbrev pub WhyNoSealed : Option (List ℕ) → FilesFault → Type 0
+  WhyNoSealed key (fault.BadSeal line) = Reads c (λ text. IsOpenAt key text line)
+  WhyNoSealed key given = WhyNoRecord given
 
   -- the limits of a source
   abbrev pub ReadsLimits : List Limit → Type 0

@@ -4,7 +4,7 @@ use Rattle.std.specs.List.{flat_map}
 use Rattle.record_text.specs.Records.{Recorded}
 use Rattle.record_text.specs.declared.run_errors.Remark.{Remark}
 use Rattle.record_text.specs.declared.notes.Note.{Note}
-use Rattle.record_text.specs.declared.notes.Note.TheVariants.{Refused, By, Operator, Program, Setup, Opened, Dated, Left}
+use Rattle.record_text.specs.declared.notes.Note.TheVariants.{Refused, By, Operator, Program, Setup, Opened, Dated, Left, Sealed}
 use Rattle.session_telling.specs.Visible.{visible}
 
 -- what a record notes; one that is not begun notes nothing
@@ -22,6 +22,7 @@ about Setup = codes "setup"
 about Opened = codes "made at"
 about Dated = codes "complete at"
 about Left = codes "left at"
+about Sealed = codes "sealed"
 
 -- the line of a note: its connection, how many features were complete above it, and what it says
 unfoldable pub note_line : Remark → List ℕ

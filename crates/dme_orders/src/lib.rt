@@ -54,7 +54,7 @@ pub use of_records::{
 pub use orders::check_under_setup;
 pub use preparing::setup_and_program;
 pub use reading::{
-    named_limits, named_setup, program_under, read_machine, read_setup, record_from,
+    named_limits, named_setup, program_under, read_key, read_machine, read_setup, record_from,
 };
 pub use reporting::report_record;
 pub use reviewing::review_program;

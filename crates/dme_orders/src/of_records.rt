@@ -1,6 +1,6 @@
 // The record of a run is audited and exported, over ports.
 
-ghost use Rattle.std.specs.Prelude.{◌≡◌, ◌<◌, length, Option, OnOk, IfOk, IfErr, true, string_bytes};
+ghost use Rattle.std.specs.Prelude.{◌≡◌, ◌<◌, length, Option, OnOk, IfOk, IfErr, true, option_map, string_bytes};
 ghost use Rattle.client_core.specs.Clients.{are_ours};
 ghost use Rattle.contact_ledger.specs.ContactTexts.{contacts_text};
 ghost use Rattle.contact_ledger.specs.Ledgers.{HaveOrigins};
@@ -9,17 +9,17 @@ ghost use Rattle.dme_orders.specs.Auditing.{LeavesVerdict};
 ghost use Rattle.order_parts.specs.Kept.{IsFeaturesText};
 ghost use Rattle.dme_orders.specs.OfRecords.{RefusesRecord, IsRecordText, AuditsRecord, ExportsRecord};
 ghost use Rattle.dme_orders.specs.Exporting.{Compares, RefusesFeatures};
-ghost use Rattle.dme_orders.specs.Input.{named, ReadsHeld, WhyNoneHeld, AreUntouched, ReadsLimited, WhyNoLimited};
+ghost use Rattle.dme_orders.specs.Input.{named, ReadsHeld, WhyNoneHeld, WhyNoneSealed, AreUntouched, ReadsLimited, WhyNoLimited};
 ghost use Rattle.dme_orders.specs.Missing.{IsMissing};
 ghost use Rattle.dme_orders.specs.Orders.{went};
-ghost use Rattle.dme_orders.specs.Reading.{came};
+ghost use Rattle.dme_orders.specs.Reading.{came, Reads, IsSealed};
 ghost use Rattle.dme_orders.specs.Recorded.{IsOfProgram, features_in, told_in};
 
 use crate::auditing::audited;
 use crate::digests::part_line;
 use crate::exporting::{Exported, compared_lines, table_text};
 use crate::missing::{Missing, missing_of};
-use crate::reading::{named_limits, named_setup, program_under, record_from};
+use crate::reading::{named_limits, named_setup, program_under, record_from, sealed_from};
 use crate::run_errors::errors_of;
 use crate::simulating::write_text;
 use byte_ports::{Sink, Source};
@@ -73,7 +73,31 @@ fn record_input<S: Source, J: Source, R: Source>(
     Ok((held, program))
 }
 
-/// Likewise, and before them limits if they are named.
+/// Likewise; with a key its seals are to stand for each line of the record.
+fn sealed_input<S: Source, J: Source, R: Source>(
+    alloc: Global,
+    key: &Option<Vec<u8>>,
+    files: &mut RecordFiles<S, J, R>,
+) -> Result<(Option<Record>, Program), FilesFault>
+    ensures ok { IfOk result (λ read. (said : Option SetupValue)
+        × ReadsHeld (named S.left S.has_failed files.old.setup files.new.setup)
+        (came J.left J.has_failed files.old.record files.new.record)
+        (came R.left R.has_failed files.old.program files.new.program)
+        (record { setup = said; held = read.0; program = read.1 })) }
+    ensures sealed { OnOk result (Reads (came J.left J.has_failed files.old.record files.new.record)
+        (IsSealed (option_map (λ key. key.items) key.now))) }
+    ensures err { IfErr result (WhyNoneSealed (named S.left S.has_failed files.old.setup files.new.setup)
+        (came J.left J.has_failed files.old.record files.new.record)
+        (came R.left R.has_failed files.old.program files.new.program)
+        (option_map (λ key. key.items) key.now)) }
+{
+    let setup = named_setup(alloc, &mut files.setup)?;
+    let held = sealed_from(alloc, key, &mut files.record)?;
+    let program = program_under(alloc, &setup, &mut files.program)?;
+    Ok((held, program))
+}
+
+/// Likewise without a key, and before them limits if they are named.
 pub(crate) fn limited_input<L: Source, S: Source, J: Source, R: Source>(
     alloc: Global,
     limits: &mut Option<L>,
@@ -164,19 +188,22 @@ pub struct RecordNotes {
 /// the next is read; audits the record's features by the acts that it says a server reported; and writes the line of the verdict. The answer
 /// is the exit status, 0 if every feature of the record has its run, else 3; the part; which features of the program are missing; and the
 /// errors that the server reported during the run of a feature. A record of another program is `OtherProgram`; its part is not compared.
+/// With a key, a record of which no seal stands for a line is `BadSeal`.
 ///
 /// It writes only once the whole line is there. A file is blamed only for its own first refusal, or because it could not be read.
 pub fn audit_record<S: Source, J: Source, R: Source, W: Sink>(
     alloc: Global,
+    key: &Option<Vec<u8>>,
     files: &mut RecordFiles<S, J, R>,
     sink: &mut W,
 ) -> Result<(u8, RecordNotes), FilesFault>
     ensures { AuditsRecord (named S.left S.has_failed files.old.setup files.new.setup)
         (came J.left J.has_failed files.old.record files.new.record)
         (came R.left R.has_failed files.old.program files.new.program)
-        (went W.taken W.has_failed sink.old sink.new) result }
+        (went W.taken W.has_failed sink.old sink.new) (option_map (λ key. key.items) key.now)
+        result }
 {
-    let (held, program) = record_input(alloc, files)?;
+    let (held, program) = sealed_input(alloc, key, files)?;
     of_program(alloc, &held, &program)?;
     let part = part_line(alloc, &held)?;
     let errors = errors_of(alloc, &held)?;

@@ -1,9 +1,10 @@
 // The files of an order are read, each to its end, and understood.
 
-ghost use Rattle.std.specs.Prelude.{◌≡◌, Ok, IfOk, IfErr};
+ghost use Rattle.std.specs.Prelude.{◌≡◌, Ok, OnOk, IfOk, IfErr, option_map};
 ghost use Rattle.dme_orders.specs.Reading.{came, Reads, WhyNoText, ReadsSetup, WhyNoSetup, ReadsSchedule, WhyNoSchedule, ReadsProgram, WhyNoProgram};
 ghost use Rattle.dme_orders.specs.Reading.{ReadsFeatures, WhyNoFeatures, ReadsContacts, WhyNoContacts, ReadsRecord, WhyNoRecord};
 ghost use Rattle.dme_orders.specs.Reading.{ReadsLimits, WhyNoLimits, ReadsMachine, WhyNoMachine};
+ghost use Rattle.dme_orders.specs.Reading.{IsSealed, IsUnsealed, ReadsKey, WhyNoKey, WhyNoSealed};
 ghost use Rattle.program_review.specs.Reviews.{frames_under};
 ghost use Rattle.dme_orders.specs.Input.{named, ReadsNamed, WhyNoNamed, ReadsNamedLimits, WhyNoNamedLimits};
 
@@ -14,6 +15,7 @@ use dmis_program::{Frames, Program, ProgramFault};
 use link_world::{Schedule, ScheduleFault};
 use machine_file::{Machine, MachineFault};
 use order_parts::{FilesFault, Role};
+use record_seal::open_line;
 use record_text::{Record, RecordFault, read_record};
 use std::alloc::Global;
 use tool_rack::{Setup, SetupFault};
@@ -113,6 +115,59 @@ pub fn record_from<S: Source>(alloc: Global, source: &mut S) -> Result<Option<Re
     drop(text);
     match read {
         Ok(held) => Ok(held),
+        Err(RecordFault::Memory) => Err(FilesFault::Memory),
+        Err(refused) => Err(FilesFault::Record(refused)),
+    }
+}
+
+/// The key of a record's seals that a source gives. One without a byte is `EmptyKey`.
+pub fn read_key<S: Source>(alloc: Global, source: &mut S) -> Result<Vec<u8>, FilesFault>
+    ensures ok { IfOk result (λ key. ReadsKey (came S.left S.has_failed source.old source.new)
+        key.items) }
+    ensures err { IfErr result (WhyNoKey (came S.left S.has_failed source.old source.new)) }
+{
+    let key = read_text(alloc, source, Role::Key)?;
+    if key.is_empty() {
+        return Err(FilesFault::EmptyKey);
+    }
+    Ok(key)
+}
+
+/// Refuses a text of which no seal of a key stands for a line; none is due without a key.
+fn check_seals(alloc: Global, key: &Option<Vec<u8>>, text: &[u8]) -> Result<(), FilesFault>
+    ensures ok { OnOk result (IsSealed (option_map (λ key. key.items) key.now) text.now) }
+    ensures err { IfErr result (IsUnsealed (option_map (λ key. key.items) key.now) text.now) }
+{
+    let Some(key) = key else {
+        return Ok(());
+    };
+    match open_line(alloc, key.as_slice(), text)? {
+        None => Ok(()),
+        Some(line) => Err(FilesFault::BadSeal(line)),
+    }
+}
+
+/// The record that a source gives, if it is begun; with a key its seals stand for each of its lines.
+pub(crate) fn sealed_from<S: Source>(
+    alloc: Global,
+    key: &Option<Vec<u8>>,
+    source: &mut S,
+) -> Result<Option<Record>, FilesFault>
+    ensures ok { IfOk result (ReadsRecord (came S.left S.has_failed source.old source.new)) }
+    ensures sealed { OnOk result (Reads (came S.left S.has_failed source.old source.new)
+        (IsSealed (option_map (λ key. key.items) key.now))) }
+    ensures err { IfErr result (WhyNoSealed (came S.left S.has_failed source.old source.new)
+        (option_map (λ key. key.items) key.now)) }
+{
+    let text = read_text(alloc, source, Role::Record)?;
+    let read = read_record(alloc, text.as_slice());
+    let sealed = check_seals(alloc, key, text.as_slice());
+    drop(text);
+    match read {
+        Ok(held) => {
+            sealed?;
+            Ok(held)
+        }
         Err(RecordFault::Memory) => Err(FilesFault::Memory),
         Err(refused) => Err(FilesFault::Record(refused)),
     }

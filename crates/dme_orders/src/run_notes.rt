@@ -20,6 +20,7 @@ fn about(note: Note) -> &'static str
         Note::Opened => "made at",
         Note::Dated => "complete at",
         Note::Left => "left at",
+        Note::Sealed => "sealed",
     }
 }
 
