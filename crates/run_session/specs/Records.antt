@@ -11,7 +11,9 @@ use Rattle.protocol_model.specs.Ends.{ClientEnd}
 use Rattle.protocol_model.specs.declared.states.State.TheVariants as state
 use Rattle.record_text.specs.Entries.{error_note}
 use Rattle.record_text.specs.Notes.{AreSaid, IsNoteText, Says, is_error}
+use Rattle.record_seal.specs.Seals.{seal_of}
 use Rattle.record_text.specs.Growths.{Growth, with_notes}
+use Rattle.record_text.specs.declared.notes.Note.TheVariants.{Sealed}
 use Rattle.record_laws.specs.Recordings.{Pair, told_unless}
 use Rattle.record_laws.specs.Told.{numbered}
 use Rattle.effects.specs.declared.vocabulary.Growth as file
@@ -298,6 +300,14 @@ is_stop stage.Checking Found = true
 is_stop stage.Awaiting reply = declines true reply
 is_stop stage.Returning reply = declines false reply
 is_stop st reply = false
+
+-- a record is as it was, or has one more line, that of this note
+abbrev pub Notes : Says → State → State → Type 0
+Notes said s t = (t.pair.recording ≡ s.pair.recording) ⊎ (t.pair.recording ≡ with_notes (said ∷ []) s.pair.recording)
+
+-- the note is the seal of a key for all that was there
+abbrev pub Seals : State → State → Type 0
+Seals s t = (t.pair.recording ≡ s.pair.recording) ⊎ ((key : List ℕ) × Notes (Sealed, seal_of key s.pair.recording.text) s t)
 
 -- a client that is stopped aborts, if it is Running or Failing: in another state that call is not possible, and changes nothing
 abbrev pub stopped : Bool → State → State

@@ -1,7 +1,8 @@
-// What the record notes of the run: who ran it, with what, and when.
+// What the record notes of the run: who ran it, with what, and when; and its seal.
 
 ghost use Rattle.std.specs.Prelude.{◌≡◌, ◌∷◌, ◌++◌, [], true, false, IfOk, OnOk, map, option_map};
 ghost use Rattle.record_text.specs.Notes.{IsNoteText, is_error};
+ghost use Rattle.record_text.specs.declared.notes.Note.TheVariants.{Sealed};
 ghost use Rattle.run_session.specs.Evidence.{dating, due, has_due, leaving, opening};
 ghost use Rattle.run_session.specs.Records as spec;
 
@@ -9,6 +10,7 @@ use crate::Session;
 use client_core::State;
 use effects::Answer;
 use link_world::PumpFault;
+use record_seal::seal_of;
 use record_text::{Note, can_say};
 use std::alloc::{AllocError, Global};
 use std::marker::Model;
@@ -153,12 +155,12 @@ impl Noting {
     }
 }
 
-/// Whether the record can note this: it is no error of the server, and can be said.
+/// Whether the record can note this: it is no error of the server and no seal, and can be said.
 fn can_note(note: Note, text: &[u8]) -> bool
     ensures said { result ≡ true → IsNoteText note text.now }
     ensures other { result ≡ true → is_error note ≡ false }
 {
-    !matches!(note, Note::Refused) && can_say(note, text)
+    !matches!(note, Note::Refused | Note::Sealed) && can_say(note, text)
 }
 
 impl Session {
@@ -215,7 +217,34 @@ impl Session {
         Ok(())
     }
 
-    /// The time is known, or not: then it is not noted.
+    /// The record gets this seal, if that can be said. Fails only if out of memory.
+    fn tell_seal(&mut self, seal: &[u8]) -> Result<(), AllocError>
+        ensures ran { spec.Keeps self.old self.new }
+        ensures book { self.new.book ≡ self.old.book }
+        ensures told { spec.StaysTold self.old self.new }
+        ensures sealed { OnOk result (spec.Notes (Sealed, seal.now) self.old self.new) }
+    {
+        if !can_say(Note::Sealed, seal) {
+            return Ok(());
+        }
+        self.growth.tell_note(Note::Sealed, seal)
+    }
+
+    /// The record is sealed, if it has a key: all of its text so far. Fails only if out of memory.
+    fn seal(&mut self) -> Result<(), AllocError>
+        ensures ran { spec.Keeps self.old self.new }
+        ensures book { self.new.book ≡ self.old.book }
+        ensures told { spec.StaysTold self.old self.new }
+        ensures sealed { OnOk result (spec.Seals self.old self.new) }
+    {
+        let Some(key) = &self.run.key else {
+            return Ok(());
+        };
+        let seal = seal_of(self.alloc, key.as_slice(), self.growth.text())?;
+        self.tell_seal(seal.as_bytes())
+    }
+
+    /// The time is known, or not: then it is not noted. As the connection ends, the record is sealed.
     pub(crate) fn noted(&mut self, answer: Answer<'_>) -> Result<(), AllocError>
         ensures ran { spec.Keeps self.old self.new }
         ensures book { self.new.book ≡ self.old.book }
@@ -228,6 +257,9 @@ impl Session {
             _ => {}
         }
         let is_over = self.is_over();
+        if is_over {
+            self.seal()?;
+        }
         self.noting.pass(self.growth.features(), is_over);
         self.record()
     }

@@ -39,6 +39,8 @@ pub struct Run {
     pub record: Option<Output>,
     /// What the record notes of the run, if it notes when and how it was run.
     pub notes: Option<Vec<Noted>>,
+    /// The key under which the record is sealed as the connection ends, if it notes that.
+    pub key: Option<Vec<u8>>,
 }
 
 /// The name of a file, or nothing.
