@@ -1,5 +1,5 @@
 -- What a run begins with is due, and a refusal has a status.
-use Rattle.run_opening.proofs.Names.{[], Answered, ap, are_ours, AreFeaturesRead, arith, Beginning, Begins, begun, Bool, ClientEnd, end_connected}
+use Rattle.run_opening.proofs.Names.{[], Answered, ap, are_ours, AreSealsKept, AreFeaturesRead, arith, Beginning, Begins, begun, Bool, ClientEnd, end_connected}
 use Rattle.run_opening.proofs.Names.{Err, false, Feature, HasClient, HasGiven, is_some, IsFilled, IsLookedAt, IsOpened, IsProgramOf, IsProgramRead}
 use Rattle.run_opening.proofs.Names.{IsRecordRead, IsSetupRead, Keeps, Leads, length, List, may_connect, Meaning, new_client_end, None, Ok, OnOk}
 use Rattle.run_opening.proofs.Names.{Option, OrderFault, part_of, Result, Run, SetupValue, Some, Start, Starts, StartsClient, State, status_of, subst}
@@ -14,16 +14,17 @@ program_read (Some setup) a p s r = record { setup = setup; is_setup = s; is_pro
 -- the record's
 pub recorded_begins : (run : Run) (setup : Option SetupValue) (program : Option Meaning) (a : Answered) (b : Beginning)
     → IsSetupRead setup a.setup → IsProgramRead setup program a.program → IsRecordRead (part_of run) program (Some b) a.recorded
-    → a.is_filled ≡ true → is_some run.record ≡ true
+    → AreSealsKept run a → a.is_filled ≡ true → is_some run.record ≡ true
     → (p : Meaning) (client : Option ClientEnd) (start : Option Start) → program ≡ Some p → are_ours p.features b.features ≡ true
     → Starts b.connection (new_client_end p b.features run.window) b.text.items client start → Begins run a client start
-recorded_begins run setup program a b s r d filled named p client start is ours starts = record {
+recorded_begins run setup program a b s r d sealed filled named p client start is ours starts = record {
   alone = λ none. absurd (true≢false (sym named ∙ none));
   recorded = λ _. record {
     p = p;
     program = program_read setup a p s (subst (λ (q : Option Meaning). IsProgramRead setup q a.program) is r);
     b = b;
     recorded = subst (λ (q : Option Meaning). IsRecordRead (part_of run) q (Some b) a.recorded) is d;
+    sealed = sealed;
     filled = filled;
     ours = ours;
     starts = starts;
@@ -100,7 +101,7 @@ filled_leads b s u t is same_order same_program takes run o f =
     let order : u.core.order ≡ run = same_order ∙ f.0.understood.prepared.order in
     takes run o (order, (f.0.understood.prepared.held, f.0.free)) (λ p client start q ours starts.
     recorded_begins run s.core.setup s.core.program o.answered b f.0.understood.prepared.setup f.0.understood.program
-    (subst (λ (x : Option Beginning). IsRecordRead (part_of run) s.core.program x o.answered.recorded) is f.0.recorded) f.1 f.0.named
+    (subst (λ (x : Option Beginning). IsRecordRead (part_of run) s.core.program x o.answered.recorded) is f.0.recorded) f.0.sealed f.1 f.0.named
     p client start (sym same_program ∙ q) ours
     (subst (λ (r : Run). Starts b.connection (new_client_end p b.features r.window) b.text.items client start) order starts))
 
@@ -115,6 +116,8 @@ positive (fault.Record cause) = omega (arith)
 positive (fault.Limits cause) = omega (arith)
 positive (fault.Machine cause) = omega (arith)
 positive (fault.OtherProgram label) = omega (arith)
+positive (fault.BadSeal line) = omega (arith)
+positive fault.EmptyKey = omega (arith)
 positive (fault.CannotRead file) = omega (arith)
 positive fault.CannotWriteOutput = omega (arith)
 positive (fault.CannotWrite file) = omega (arith)

@@ -52,10 +52,10 @@ on_next run from at called c a h none = record {
 }
 
 -- all were compared
-pub all_compared : (run : Run) (from : ℕ) (called : List Seen) (c : Core) (a : Answered) → IsComparing run from called c a → AreNone from 7 c.order
+pub all_compared : (run : Run) (from : ℕ) (called : List Seen) (c : Core) (a : Answered) → IsComparing run from called c a → AreNone from 8 c.order
     → AreCompared run a.placeless a.seen
 all_compared run from called c a h none =
-    let all : IsComparing run 7 called c a = on_next run from 7 called c a h none in
+    let all : IsComparing run 8 called c a = on_next run from 8 called c a h none in
     record { apart = all.apart; covers = all.covers }
 
 -- ---- what comes of an answer
@@ -124,7 +124,7 @@ is_some_map : {A B : Type 0} (f : A → B) (o : Option A) → is_some o ≡ true
 is_some_map f None is = is
 is_some_map f (Some x) is = refl
 
-three_below : 3 < 7
+three_below : 3 < 8
 three_below = omega (arith)
 
 -- a record is named, and was not looked for

@@ -11,7 +11,7 @@ pub use Rattle.record_text.specs.Growths.{begun, Growth}
 pub use Rattle.record_text.specs.declared.opening.Beginning.{Beginning}
 pub use Rattle.run_opening.specs.Asking.{IsSessionOf}
 pub use Rattle.run_opening.specs.Begun.{IsRunBegun}
-pub use Rattle.run_opening.specs.Openings.{Answered, AreFeaturesRead, Begins, BeginsRecorded, HasClient, HasGiven, IsFilled, IsLookedAt, IsOpened, IsProgramOf, IsProgramRead, IsRecordRead, IsSetupRead}
+pub use Rattle.run_opening.specs.Openings.{Answered, AreFeaturesRead, AreSealsKept, Begins, BeginsRecorded, HasClient, HasGiven, IsFilled, IsLookedAt, IsOpened, IsProgramOf, IsProgramRead, IsRecordRead, IsSetupRead}
 pub use Rattle.run_opening.specs.Openings.{Keeps, Leads, part_of, Starts, StartsClient, State, TakesClient}
 pub use Rattle.run_session.specs.Records.{Start}
 pub use Rattle.std.proofs.Common.{[], ◌++◌, ◌-◌, ◌<◌, ◌∙◌, ◌≡◌, ap, ap₂, arith, Bool, codes, drop, Err, false, is_some, length, List, None, Ok, OnOk, Option, Result, rules, Some, subst, sym}

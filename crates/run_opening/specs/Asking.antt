@@ -25,6 +25,7 @@ abbrev pub name_of : Text → Run → List ℕ
 name_of text.Setup run = string_bytes run.setup
 name_of text.Features run = named run.features
 name_of text.Program run = string_bytes run.program
+name_of text.Key run = named run.seal_key
 name_of text.Record run = named run.record
 
 -- a text comes from the file of its name; that of `-` from standard input, or from nowhere if that is taken

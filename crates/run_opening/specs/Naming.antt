@@ -14,7 +14,7 @@ abbrev pub names_of : Run → List (Option (List ℕ))
 names_of run =
     given (string_bytes run.setup) ∷ given (string_bytes run.program)
     ∷ option_map string_bytes run.features ∷ option_map string_bytes run.record ∷ option_map string_bytes run.contacts
-    ∷ option_map string_bytes run.log ∷ option_map string_bytes run.stop ∷ []
+    ∷ option_map string_bytes run.log ∷ option_map string_bytes run.stop ∷ option_map string_bytes run.seal_key ∷ []
 
 -- that of a number
 abbrev pub name_at : ℕ → Run → Option (List ℕ)
@@ -26,7 +26,7 @@ or_nothing (Some name) = name
 
 -- those of features, record and contacts, and the log, are written
 abbrev pub written : List Bool
-written = false ∷ false ∷ true ∷ true ∷ true ∷ true ∷ false ∷ []
+written = false ∷ false ∷ true ∷ true ∷ true ∷ true ∷ false ∷ false ∷ []
 
 -- none is named from one number to another
 abbrev pub AreNone : (from to : ℕ) → Run → Type 0
@@ -50,4 +50,4 @@ pub record Covers (run : Run) (at : ℕ) (placeless : List ℕ) (seen : List See
 -- all files of the call that are named were looked for, and none of them disturbs a later one
 pub record AreCompared (run : Run) (placeless : List ℕ) (seen : List Seen) : Type 0 where
   pub apart : AreApart seen
-  pub covers : Covers run 7 placeless seen
+  pub covers : Covers run 8 placeless seen

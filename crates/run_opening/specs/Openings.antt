@@ -9,6 +9,7 @@ use Rattle.effects.specs.declared.vocabulary.Cause.TheVariants as cause
 use Rattle.effects.specs.Effects.{Reply, Done, Bytes, End, Missing, Found as IsThere, Failed}
 use Rattle.protocol_model.specs.Ends.{ClientEnd, new_client_end, end_connected}
 use Rattle.record_text.specs.Beginnings.{BeginsWith}
+use Rattle.record_seal.specs.Seals.{false_seal}
 use Rattle.record_text.specs.Growths.{begun}
 use Rattle.record_text.specs.declared.opening.Beginning.{Beginning}
 use Rattle.run_session.specs.Records.{Start}
@@ -27,6 +28,7 @@ pub record Core : Type 0 where
   pub setup : Option SetupValue
   pub features : Option (List Feature)
   pub program : Option Meaning
+  pub key : Option (List ℕ)
   pub stopped : Bool  -- whether the stop file was there
   pub beginning : Option Beginning
   pub client : Option ClientEnd
@@ -55,6 +57,7 @@ pub record Answered : Type 0 where
   pub setup : Option (List ℕ)
   pub features : Option (List ℕ)
   pub program : Option (List ℕ)
+  pub key : Option (List ℕ)
   pub recorded : Option (List ℕ)
   pub stop : Option Bool
   pub is_filled : Bool
@@ -82,6 +85,7 @@ untouched = record {
     setup = None;
     features = None;
     program = None;
+    key = None;
     recorded = None;
     stop = None;
     is_filled = false;
@@ -98,6 +102,7 @@ abbrev pub with_text : Text → List ℕ → Outside → Outside
 with_text text.Setup bytes o = record o { answered = record (o.answered) { setup = Some bytes } }
 with_text text.Features bytes o = record o { answered = record (o.answered) { features = Some bytes } }
 with_text text.Program bytes o = record o { answered = record (o.answered) { program = Some bytes } }
+with_text text.Key bytes o = record o { answered = record (o.answered) { key = Some bytes } }
 with_text text.Record bytes o = record o { answered = record (o.answered) { recorded = Some bytes } }
 
 -- the outside after the effect of a stage was answered
@@ -195,6 +200,17 @@ IsProgramRead (Some setup) None bytes = ⊥
 IsProgramRead (Some setup) (Some p) None = ⊥
 IsProgramRead (Some setup) (Some p) (Some bytes) = program_of setup.frames bytes ≡ Ok p
 
+abbrev pub IsKeyRead : Option (List ℕ) → Option (List ℕ) → Type 0
+IsKeyRead None bytes = ⊥
+IsKeyRead (Some key) None = ⊥
+IsKeyRead (Some key) (Some bytes) = (key ≡ bytes) × (0 < length bytes)
+
+-- no line of a record has a seal that is not that of what is above it under this key, which has a byte
+abbrev pub KeepsSeals : (key recorded : Option (List ℕ)) → Type 0
+KeepsSeals None recorded = ⊥
+KeepsSeals (Some key) None = ⊥
+KeepsSeals (Some key) (Some text) = (0 < length key) × (false_seal key text ≡ None)
+
 abbrev pub part_of : Run → Option (List ℕ)
 part_of run = option_map string_bytes run.part
 
@@ -230,12 +246,21 @@ IsStopKnown run c a = is_some run.stop ≡ true → a.stop ≡ Some c.stopped
 abbrev pub IsFree : Run → Answered → Type 0
 IsFree run a = is_some run.stop ≡ true → a.stop ≡ Some false
 
+-- and the key, if one is named
+abbrev pub IsKeyKnown : Run → Core → Answered → Type 0
+IsKeyKnown run c a = is_some run.seal_key ≡ true → IsKeyRead c.key a.key
+
+-- the seals of the record hold, if a key is named
+abbrev pub AreSealsKept : Run → Answered → Type 0
+AreSealsKept run a = is_some run.seal_key ≡ true → KeepsSeals a.key a.recorded
+
 -- what is known before a text is opened
 abbrev pub Reads : Text → Run → Core → Answered → Type 0
 Reads text.Setup run c a = IsFresh run c × AreHeld run a
 Reads text.Features run c a = (c.order ≡ run) × (AreHeld run a × (IsSetupRead c.setup a.setup × (is_some run.features ≡ true)))
 Reads text.Program run c a = IsPrepared run c a
-Reads text.Record run c a = IsUnderstood run c a × (IsStopKnown run c a × (is_some run.record ≡ true))
+Reads text.Key run c a = IsUnderstood run c a × (IsStopKnown run c a × (is_some run.record ≡ true))
+Reads text.Record run c a = IsUnderstood run c a × (IsStopKnown run c a × ((is_some run.record ≡ true) × IsKeyKnown run c a))
 
 -- the record is read, and the run continues from it
 pub record IsContinued (run : Run) (c : Core) (a : Answered) : Type 0 where
@@ -243,6 +268,7 @@ pub record IsContinued (run : Run) (c : Core) (a : Answered) : Type 0 where
   pub free : IsFree run a
   pub named : is_some run.record ≡ true
   pub recorded : IsRecordRead (part_of run) c.program c.beginning a.recorded
+  pub sealed : AreSealsKept run a
 
 -- a client that may connect has come to this connection, and its record has this text
 abbrev pub Starts : ℕ → ClientEnd → List ℕ → Option ClientEnd → Option Start → Type 0
@@ -273,6 +299,7 @@ pub record BeginsRecorded (run : Run) (a : Answered) (client : Option ClientEnd)
   pub program : IsProgramOf p a
   pub b : Beginning
   pub recorded : IsRecordRead (part_of run) (Some p) (Some b) a.recorded
+  pub sealed : AreSealsKept run a
   pub filled : a.is_filled ≡ true
   pub ours : are_ours p.features b.features ≡ true
   pub starts : Starts b.connection (new_client_end p b.features run.window) b.text.items client start
@@ -380,7 +407,18 @@ Accepts p s t = (run : Run) (o : Outside) → IsPrepared run s.core o.answered �
 
 abbrev pub Fills : Beginning → State → State → Type 0
 Fills b s t = (run : Run) (o : Outside) → IsUnderstood run s.core o.answered → IsFree run o.answered → is_some run.record ≡ true
-    → IsRecordRead (part_of run) s.core.program (Some b) o.answered.recorded → Holds run t o
+    → IsRecordRead (part_of run) s.core.program (Some b) o.answered.recorded → AreSealsKept run o.answered → Holds run t o
+
+-- likewise once that text was checked
+abbrev pub Checks : Beginning → List ℕ → State → State → Type 0
+Checks b text s t = (run : Run) (o : Outside) → IsUnderstood run s.core o.answered → IsFree run o.answered → is_some run.record ≡ true
+    → IsRecordRead (part_of run) s.core.program (Some b) o.answered.recorded → IsKeyKnown run s.core o.answered
+    → o.answered.recorded ≡ Some text → Holds run t o
+
+-- the line of the first seal that does not hold under a key, if there is a key
+abbrev pub false_in : (key : Option (List ℕ)) (text : List ℕ) → Option ℕ
+false_in None text = None
+false_in (Some key) text = false_seal key text
 
 abbrev pub Keeps : List Feature → State → State → Type 0
 Keeps kept s t = (run : Run) (o : Outside) → IsNearlyOpened run s.core o.answered → IsSetupRead s.core.setup o.answered.setup
@@ -426,11 +464,11 @@ is_ending stage.Ending = true
 is_ending stage.Exiting = true
 is_ending s = false
 
--- only names of files were taken out of what is asked for
+-- only names of files, and the key, were taken out of what is asked for
 pub record HasGiven (s t : State) : Type 0 where
   pub stage : t.stage ≡ s.stage
   pub confirm : t.core.order.confirm ≡ s.core.order.confirm
-  pub core : t.core ≡ record (s.core) { order = t.core.order }
+  pub core : t.core ≡ record (s.core) { order = t.core.order; key = t.core.key }
 
 -- the run has its client
 abbrev pub HasClient : ClientEnd → Start → State → State → Type 0

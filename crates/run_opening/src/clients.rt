@@ -231,6 +231,7 @@ impl Opening {
         let contacts = output(alloc, self.order.contacts.take(), self.has_contacts)?;
         let record = output(alloc, self.order.record.take(), true)?;
         let notes = self.notes()?;
+        let key = self.key.take();
         Ok(Run {
             host: std::mem::replace(&mut self.order.host, String::new(alloc)),
             port: self.order.port,
@@ -244,6 +245,7 @@ impl Opening {
             contacts,
             record,
             notes,
+            key,
         })
     }
 }

@@ -12,6 +12,7 @@ pub fn meeting_rows()
     ensures features { is_written written 2 ≡ true }
     ensures log { is_written written 5 ≡ true }
     ensures stop { is_written written 6 ≡ false }
+    ensures key { is_written written 7 ≡ false }
     ensures input { given (codes "-") ≡ None }
     ensures file { given (codes "a") ≡ Some (codes "a") }
     ensures place { Disturbs (record { at = 3; place = codes "r"; node = None })
@@ -28,7 +29,7 @@ pub fn meeting_rows()
         (record { at = 5; place = codes "l"; node = None }) → ⊥ }
     ensures met { AreApart (record { at = 3; place = codes "r"; node = None }
         ∷ record { at = 5; place = codes "r"; node = None } ∷ []) → ⊥ }
-    ensures unseen { (run : Run) → is_some (name_at 3 run) ≡ true → Covers run 7 [] [] → ⊥ }
+    ensures unseen { (run : Run) → is_some (name_at 3 run) ≡ true → Covers run 8 [] [] → ⊥ }
 {}
 
 /// Bytes of a text are added to those before; the text is read once its end was answered, and not before; a record that is not there is one

@@ -13,7 +13,7 @@ use named_files::{Called, bytes_of, is_beside, kept, met, refusal};
 use std::alloc::AllocError;
 
 /// How many files a run may name.
-const COUNT: usize = 7;
+const COUNT: usize = 8;
 
 /// The option of a file, in the order in which they are compared.
 fn option_of(at: usize) -> &'static str {
@@ -24,7 +24,8 @@ fn option_of(at: usize) -> &'static str {
         3 => "--record",
         4 => "--contacts",
         5 => "--log",
-        _ => "--stop",
+        6 => "--stop",
+        _ => "--seal-key",
     }
 }
 
@@ -32,7 +33,7 @@ fn option_of(at: usize) -> &'static str {
 fn written() -> [bool; COUNT]
     ensures { result ≡ written }
 {
-    [false, false, true, true, true, true, false]
+    [false, false, true, true, true, true, false, false]
 }
 
 /// A name that is not that of standard input.
@@ -54,6 +55,7 @@ fn name_of(order: &Run, at: usize) -> Option<&str>
         4 => order.contacts.as_deref(),
         5 => order.log.as_deref(),
         6 => order.stop.as_deref(),
+        7 => order.seal_key.as_deref(),
         _ => None,
     }
 }

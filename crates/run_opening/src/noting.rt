@@ -1,4 +1,4 @@
-// What the record notes of a run whose operator is named.
+// What the record notes of a run whose operator is named, or that seals it.
 
 ghost use Rattle.std.specs.Prelude.{◌≡◌, IfOk, OnOk, string_bytes};
 ghost use Rattle.hex.specs.Hex.{encode_lower};
@@ -39,17 +39,20 @@ impl Opening {
         Noted::new(self.alloc, note, text.as_bytes())
     }
 
-    /// What the record notes, if the operator is named: the program that runs, the operator, the DMIS program and the setup.
+    /// What the record notes, if the operator is named or it is sealed: the program that runs, the operator, the DMIS program and the setup.
     pub(crate) fn notes(&mut self) -> Result<Option<Vec<Noted>>, AllocError>
         ensures { spec.HasGiven self.old self.new }
     {
-        let Some(operator) = self.order.operator.take() else {
+        let operator = self.order.operator.take();
+        if operator.is_none() && self.key.is_none() {
             return Ok(None);
-        };
+        }
         let by = format!(in self.alloc; "dme {VERSION} {COMMIT}")?;
         let mut notes = Vec::new(self.alloc);
         notes.push(Noted::new(self.alloc, Note::By, by.as_bytes())?)?;
-        notes.push(Noted::new(self.alloc, Note::Operator, operator.as_bytes())?)?;
+        if let Some(operator) = operator {
+            notes.push(Noted::new(self.alloc, Note::Operator, operator.as_bytes())?)?;
+        }
         notes.push(self.note_of(Note::Program, &self.files.program)?)?;
         notes.push(self.note_of(Note::Setup, &self.files.setup)?)?;
         Ok(Some(notes))

@@ -39,6 +39,7 @@ pub struct Opening {
     pub(crate) setup: Option<Setup>,
     pub(crate) features: Option<FeatureLedger>,
     pub(crate) program: Option<Program>,
+    pub(crate) key: Option<Vec<u8>>,
     /// How many features the program asks for.
     pub(crate) asked: usize,
     pub(crate) tasks: Vec<TaskLine>,
@@ -62,7 +63,7 @@ impl Model for Opening {
     ghost use Rattle.run_opening.specs.Openings.{State as OneState};
     ghost use Rattle.client_core.specs.Clients.{is_window};
     ghost use Rattle.named_files.specs.Naming.{seen_of};
-    ghost use Rattle.std.specs.Prelude.{◌≡◌, true, map};
+    ghost use Rattle.std.specs.Prelude.{◌≡◌, true, map, option_map};
 
     ghost Value = { OneState };
 
@@ -76,6 +77,7 @@ impl Model for Opening {
         setup = s.setup;
         features = s.features;
         program = s.program;
+        key = option_map (λ key. key.items) s.key;
         stopped = s.is_stopped;
         beginning = s.beginning;
         client = s.client;
@@ -105,6 +107,7 @@ impl Opening {
             setup: None,
             features: None,
             program: None,
+            key: None,
             asked: 0,
             tasks: Vec::new(alloc),
             texts: Vec::new(alloc),
@@ -138,6 +141,7 @@ impl Opening {
             Text::Setup => self.order.setup.as_str(),
             Text::Features => self.order.features.as_deref().unwrap_or(""),
             Text::Program => self.order.program.as_str(),
+            Text::Key => self.order.seal_key.as_deref().unwrap_or(""),
             Text::Record => self.order.record.as_deref().unwrap_or(""),
         }
     }

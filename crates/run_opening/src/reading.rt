@@ -10,7 +10,7 @@ use crate::stages::{Stage, Text};
 use contact_ledger::{FeatureLedger, TextFault, read_features};
 use dmis_program::{Frames, Program, ProgramFault};
 use effects::Answer;
-use order_parts::{FilesFault, Role, RunEnding, last_line};
+use order_parts::{FilesFault, OrderFault, Role, RunEnding, last_line};
 use program_review::{operator_texts, read, task_lines};
 use refusal_guide::InputFile;
 use std::alloc::AllocError;
@@ -25,6 +25,7 @@ fn role_of(text: Text) -> Role {
         Text::Setup => Role::Setup,
         Text::Features => Role::Features,
         Text::Program => Role::Program,
+        Text::Key => Role::Key,
         Text::Record => Role::Record,
     }
 }
@@ -56,6 +57,7 @@ impl Opening {
             Text::Setup => &mut self.files.setup.name,
             Text::Features => &mut self.files.features.name,
             Text::Program => &mut self.files.program.name,
+            Text::Key => &mut self.files.key.name,
             Text::Record => &mut self.files.record.name,
         }
     }
@@ -104,6 +106,7 @@ impl Opening {
             Text::Setup => self.take_setup(bytes),
             Text::Features => self.take_features(bytes),
             Text::Program => self.take_program(bytes),
+            Text::Key => self.take_key(bytes),
             Text::Record => self.take_record(bytes),
         }
     }
@@ -223,12 +226,28 @@ impl Opening {
         self.continue_record()
     }
 
-    /// The record is read, if one is named.
+    /// The key of the record's seals, which is read next.
+    fn take_key(&mut self, bytes: Vec<u8>) -> Result<(), AllocError>
+        ensures { OnOk result (spec.Takes Text.Key bytes.items self.old self.new) }
+    {
+        if bytes.is_empty() {
+            return self.refuse_order(OrderFault::EmptyKey);
+        }
+        self.key = Some(bytes);
+        self.stage = Stage::Opening(Text::Record);
+        Ok(())
+    }
+
+    /// The record is read, if one is named, and its key before it.
     fn continue_record(&mut self) -> Result<(), AllocError>
         ensures { OnOk result (spec.Leads spec.IsLookedAt self.old self.new) }
     {
         if self.order.record.is_some() {
-            self.stage = Stage::Opening(Text::Record);
+            self.stage = if self.order.seal_key.is_some() {
+                Stage::Opening(Text::Key)
+            } else {
+                Stage::Opening(Text::Record)
+            };
             return Ok(());
         }
         if self.is_stopped {

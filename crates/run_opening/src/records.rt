@@ -10,6 +10,7 @@ use contact_ledger::Feature;
 use dmis_program::Program;
 use effects::Answer;
 use order_parts::{FilesFault, OrderFault};
+use record_seal::false_seal;
 use record_text::{Beginning, RecordFault, RecordRefusal, begin_record, read_record};
 use refusal_guide::{write_other_part, write_other_program, write_place};
 use std::alloc::{AllocError, Global};
@@ -87,7 +88,7 @@ impl Opening {
             };
         }
         match beginning {
-            Ok(beginning) => self.fill(beginning, text.len()),
+            Ok(beginning) => self.check(beginning, text.as_slice()),
             Err(refusal) => self.refuse_record(refusal, text.as_slice()),
         }
     }
@@ -117,6 +118,26 @@ impl Opening {
         let said = format!(in self.alloc; "dme: {refusal} in record\n{note}")?;
         self.refuse(said, 1);
         Ok(())
+    }
+
+    /// The line of the first seal that does not hold, if there is a key.
+    fn false_seal(&self, text: &[u8]) -> Result<Option<u64>, AllocError>
+        ensures { IfOk result (λ found. found ≡ spec.false_in self.now.core.key text.now) }
+    {
+        match &self.key {
+            Some(key) => false_seal(self.alloc, key.as_slice(), text),
+            None => Ok(None),
+        }
+    }
+
+    /// The run continues from this text of its record, unless a seal does not hold.
+    fn check(&mut self, beginning: Beginning, text: &[u8]) -> Result<(), AllocError>
+        ensures { OnOk result (spec.Checks beginning text.now self.old self.new) }
+    {
+        match self.false_seal(text)? {
+            Some(line) => self.refuse_order(OrderFault::BadSeal(line)),
+            None => self.fill(beginning, text.len()),
+        }
     }
 
     /// The record is to get the text that the run continues from, unless it does not give back the features of the file.

@@ -6,6 +6,8 @@ pub enum Text {
     Setup,
     Features,
     Program,
+    /// The key of the record's seals.
+    Key,
     Record,
 }
 

@@ -82,6 +82,7 @@ fn order(alloc: Global) -> Result<Run, AllocError>
         record: Some(text(alloc, "part.record")?),
         part: Some(text(alloc, "0042/7")?),
         operator: None,
+        seal_key: None,
         contacts: Some(text(alloc, "part.contacts")?),
         progress: true,
         trace: false,

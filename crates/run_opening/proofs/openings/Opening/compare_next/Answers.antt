@@ -13,5 +13,5 @@ pub returns-in-None : goal.returns-in-None
 returns-in-None c = λ run o h. c.hold_record.ensures run o (
   h.fresh,
   all_compared run c.args.from _ _ o.answered h
-      (subst (λ (s : State). AreNone c.args.from 7 s.core.order) c.self.view_is (c.in-None.ensures.none refl)),
+      (subst (λ (s : State). AreNone c.args.from 8 s.core.order) c.self.view_is (c.in-None.ensures.none refl)),
 )

@@ -1,5 +1,5 @@
 use Rattle.run_opening.proofs.Names.{◌≡◌, false, is_some, IsLookedAt, Leads, None, rules, Some, State, subst}
-use Rattle.std.proofs.Common.{map}
+use Rattle.std.proofs.Common.{map, option_map}
 use Rattle.named_files.specs.Naming.{seen_of}
 use Rattle.run_opening.proofs.Beginnings.{none_leads, on_ok, some_leads}
 use Rattle.run_opening.proofs.openings.Opening.continue_record.Goals as goal
@@ -20,6 +20,7 @@ returns-in-Some c =
         setup = c.self.inside.setup;
         features = c.self.inside.features;
         program = c.self.inside.program;
+        key = option_map (λ key. key.items) c.self.inside.key;
         stopped = c.self.inside.is_stopped;
         beginning = c.self.inside.beginning;
         client = c.self.inside.client;
@@ -43,6 +44,7 @@ returns-in-None c =
         setup = c.self.inside.setup;
         features = c.self.inside.features;
         program = c.self.inside.program;
+        key = option_map (λ key. key.items) c.self.inside.key;
         stopped = c.self.inside.is_stopped;
         beginning = c.self.inside.beginning;
         client = c.self.inside.client;

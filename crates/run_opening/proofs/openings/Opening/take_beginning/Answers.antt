@@ -1,5 +1,5 @@
 use Rattle.run_opening.proofs.Names.{◌≡◌, ap, rules, Some, State}
-use Rattle.std.proofs.Common.{map}
+use Rattle.std.proofs.Common.{map, option_map}
 use Rattle.named_files.specs.Naming.{seen_of}
 use Rattle.run_opening.proofs.Beginnings.{filled_leads, on_ok}
 use Rattle.run_opening.proofs.openings.Opening.take_beginning.Goals as goal
@@ -18,6 +18,7 @@ returns c =
         setup = c.self.inside.setup;
         features = c.self.inside.features;
         program = c.self.inside.program;
+        key = option_map (λ key. key.items) c.self.inside.key;
         stopped = c.self.inside.is_stopped;
         beginning = c.take.new.self;
         client = c.self.inside.client;
