@@ -1,0 +1,13 @@
+-- How the code holds the parts of a condition: no public clause cites it.
+use Rattle.program_flow.specs.Conditions.{Parts}
+use Rattle.program_flow.specs.Conditions.Parts.{Either, Both, Opposite, Compared, Inside, Neither}
+use Rattle.program_flow.specs.declared.conditions.Cut.{Cut}
+use Rattle.program_flow.specs.declared.conditions.Cut.TheVariants as cut
+
+abbrev pub seen : Cut → Parts
+seen (cut.Either left right) = Either left.now right.now
+seen (cut.Both left right) = Both left.now right.now
+seen (cut.Opposite rest) = Opposite rest.now
+seen (cut.Compared left how right) = Compared left.now how right.now
+seen (cut.Inside text) = Inside text.now
+seen cut.Neither = Neither

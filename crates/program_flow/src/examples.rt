@@ -1,0 +1,87 @@
+// Examples: which statements of a text come out.
+
+ghost use Rattle.std.specs.Prelude.{◌≡◌, ◌<◌, ◌∷◌, [], Err, List, Ok, Some, codes, false, length, true};
+ghost use Rattle.std.specs.List.{AllByRecursion};
+ghost use Rattle.dmis_text.specs.declared.elements.Statement.{Statement};
+ghost use Rattle.program_flow.specs.Conditions.{holds};
+ghost use Rattle.program_flow.specs.Blocks.{part_of};
+ghost use Rattle.program_flow.specs.Examples.{alone, assigned, branching, changing, jumping, lines_of, looping, nested, with_one};
+ghost use Rattle.program_flow.specs.Flow.{assignment, flow_of, to, trace};
+ghost use Rattle.program_flow.specs.declared.blocks.Part.TheVariants.{Other};
+ghost use Rattle.program_values.specs.Examples.{a_is_seven};
+ghost use Rattle.program_values.specs.declared.faults.ValueFault.TheVariants as fault;
+
+/// Comparisons are exact; `.NOT.` applies first, then `.AND.`, then `.OR.`.
+#[tactic(auto, unfolding(crate::specs::Conditions::holds_within, crate::specs::Conditions::parts_of, program_values::specs::Values::value_within, program_values::specs::Values::numeral_value, program_values::specs::Parts::parts_of, program_values::specs::Numbers::reduced, program_values::specs::Numbers::gcd_within))]
+pub fn conditions_hold_or_not()
+    ensures below { holds a_is_seven (codes "(A .LT. 8)") ≡ Ok true }
+    ensures not_below { holds a_is_seven (codes "A.LT.7") ≡ Ok false }
+    ensures at_most { holds a_is_seven (codes "A .LE. 7.") ≡ Ok true }
+    ensures equal { holds a_is_seven (codes "A/3 .EQ. 2+1/3") ≡ Ok true }
+    ensures unequal { holds a_is_seven (codes "A .NE. 7") ≡ Ok false }
+    ensures at_least { holds a_is_seven (codes "A .GE. 8") ≡ Ok false }
+    ensures above { holds a_is_seven (codes "A .GT. 7") ≡ Ok false }
+    ensures far { holds a_is_seven (codes "A .GT. -1") ≡ Ok true }
+    ensures either { holds a_is_seven (codes "A .EQ. 7 .OR. A .EQ. 8 .AND. A .EQ. 9") ≡ Ok true }
+    ensures inside { holds a_is_seven (codes "(A .EQ. 7 .OR. A .EQ. 8) .AND. A .EQ. 9")
+        ≡ Ok false }
+    ensures negation { holds a_is_seven (codes ".NOT. (A .EQ. 8) .AND. A .EQ. 7") ≡ Ok true }
+    ensures number { holds a_is_seven (codes "(A)") ≡ Err fault.NotExpression }
+    ensures half { holds a_is_seven (codes "A .LT.") ≡ Err fault.NotExpression }
+    ensures unknown { holds a_is_seven (codes "C .LT. 1") ≡ Err fault.UnknownName }
+{}
+
+/// A text without the words of control flow comes out as it is.
+pub fn straight_texts_come_out()
+    ensures { (statements : List Statement)
+        → AllByRecursion (λ (s : Statement). part_of s ≡ Other) statements
+        → length statements < 1000000 → flow_of statements ≡ statements }
+{}
+
+/// An IF has one branch or the other, and its own words do not come out.
+#[tactic(auto, unfolding(crate::specs::Flow::trace, crate::specs::Flow::turn, crate::specs::Flow::assignment, crate::specs::Blocks::part_of, crate::specs::Blocks::end_of, crate::specs::Conditions::holds_within, crate::specs::Conditions::parts_of, program_values::specs::Values::value_within, program_values::specs::Values::numeral_value, program_values::specs::Parts::parts_of, program_values::specs::Numbers::reduced, program_values::specs::Numbers::gcd_within))]
+pub fn branches_are_carried_out()
+    ensures first { lines_of (branching (codes "(I .LT. 6)")) ≡ 1 ∷ (2 ∷ (4 ∷ (8 ∷ []))) }
+    ensures second { lines_of (branching (codes "(I .LT. 5)")) ≡ 1 ∷ (2 ∷ (6 ∷ (8 ∷ []))) }
+    ensures unassigned { lines_of (branching (codes "(J .LT. 5)")) ≡ 1 ∷ (2 ∷ (3 ∷ [])) }
+    ensures number { lines_of (branching (codes "(I)")) ≡ 1 ∷ (2 ∷ (3 ∷ [])) }
+{}
+
+/// A DO has its rounds: up or down, with a step, in another DO, or none.
+#[tactic(auto, unfolding(crate::specs::Flow::trace, crate::specs::Flow::turn, crate::specs::Flow::is_kept, crate::specs::Flow::assignment, crate::specs::Blocks::part_of, crate::specs::Blocks::end_of, program_values::specs::Values::value_within, program_values::specs::Values::numeral_value, program_values::specs::Parts::parts_of, program_values::specs::Numbers::reduced, program_values::specs::Numbers::gcd_within))]
+pub fn loops_have_their_rounds()
+    ensures three { lines_of (looping (codes "I" ∷ (codes "1" ∷ (codes "3" ∷ []))))
+        ≡ 1 ∷ (2 ∷ (3 ∷ (4 ∷ (3 ∷ (4 ∷ (3 ∷ (4 ∷ (5 ∷ [])))))))) }
+    ensures down { lines_of (looping (codes "I" ∷ (codes "3" ∷ (codes "2" ∷ (codes "-1" ∷ [])))))
+        ≡ 1 ∷ (2 ∷ (3 ∷ (4 ∷ (3 ∷ (4 ∷ (5 ∷ [])))))) }
+    ensures step { lines_of (looping (codes "I" ∷ (codes "1" ∷ (codes "4" ∷ (codes "2" ∷ [])))))
+        ≡ 1 ∷ (2 ∷ (3 ∷ (4 ∷ (3 ∷ (4 ∷ (5 ∷ [])))))) }
+    ensures none { lines_of (looping (codes "I" ∷ (codes "1" ∷ (codes "0" ∷ []))))
+        ≡ 1 ∷ (2 ∷ (5 ∷ [])) }
+    ensures zero { lines_of (looping (codes "I" ∷ (codes "1" ∷ (codes "3" ∷ (codes "0" ∷ [])))))
+        ≡ 1 ∷ (2 ∷ []) }
+    ensures fraction { lines_of (looping (codes "I" ∷ (codes ".5" ∷ (codes "3" ∷ []))))
+        ≡ 1 ∷ (2 ∷ []) }
+    ensures nested { lines_of nested
+        ≡ 1 ∷ (2 ∷ (3 ∷ (4 ∷ (5 ∷ (4 ∷ (5 ∷ (6 ∷ (3 ∷ (4 ∷ (5 ∷ (6 ∷ (3 ∷ (6 ∷ []))))))))))))) }
+    ensures changed { lines_of changing ≡ 1 ∷ (2 ∷ (3 ∷ (4 ∷ (5 ∷ [])))) }
+    ensures assigns { assignment 4 (codes "I=ASSIGN/I+(1)")
+        ≡ Some (assigned 4 (codes "I") (codes "I+(1)")) }
+{}
+
+/// A jump leaves a loop and enters none; what has no beginning or no end comes out as it is.
+#[tactic(auto, unfolding(crate::specs::Flow::trace, crate::specs::Flow::turn, crate::specs::Flow::assignment, crate::specs::Blocks::part_of, crate::specs::Blocks::end_of, crate::specs::Blocks::is_level, crate::specs::Blocks::label_place, crate::specs::Conditions::holds_within, crate::specs::Conditions::parts_of, program_values::specs::Values::value_within, program_values::specs::Values::numeral_value, program_values::specs::Parts::parts_of, program_values::specs::Numbers::reduced, program_values::specs::Numbers::gcd_within))]
+pub fn jumps_enter_no_block()
+    ensures out { lines_of (jumping (codes "(OUT)")) ≡ 1 ∷ (2 ∷ (9 ∷ [])) }
+    ensures into { lines_of (jumping (codes "(IN)")) ≡ 1 ∷ (2 ∷ (3 ∷ [])) }
+    ensures unknown { lines_of (jumping (codes "(X)")) ≡ 1 ∷ (2 ∷ (3 ∷ [])) }
+    ensures no_end { lines_of (with_one 1 (codes "IF") (codes "(1 .LT. 2)")
+        ∷ (alone 2 (codes "A") ∷ [])) ≡ 1 ∷ [] }
+    ensures crossed { lines_of (with_one 1 (codes "IF") (codes "(1 .LT. 2)")
+        ∷ (alone 2 (codes "ENDDO") ∷ [])) ≡ 1 ∷ [] }
+    ensures no_beginning { lines_of (alone 1 (codes "A")
+        ∷ (alone 2 (codes "ENDIF") ∷ (alone 3 (codes "B") ∷ []))) ≡ 1 ∷ (2 ∷ []) }
+    ensures no_if { lines_of (alone 1 (codes "ELSE") ∷ (alone 2 (codes "ENDIF") ∷ [])) ≡ 1 ∷ [] }
+    ensures no_do { lines_of (alone 1 (codes "ENDDO") ∷ []) ≡ 1 ∷ [] }
+    ensures given_up { trace 0 (alone 7 (codes "A") ∷ []) (to 0 []) [] ≡ alone 7 (codes "ENDDO") ∷ [] }
+{}
