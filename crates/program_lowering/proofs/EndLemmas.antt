@@ -1,9 +1,8 @@
 -- What the code gives at each end of a text.
 use Rattle.program_lowering.proofs.Names.{[], ◌∙◌, ◌∷◌, ◌≡◌, ap, AreLines, Carried, Choices, ended_lines, Err, false, fault_at, flat_lines}
-use Rattle.program_lowering.proofs.Names.{GivesLines, GivesStep, IsDue, IsErrAnd, kept, length, lines, List, lowered_meaning, meaning_with, meant}
-use Rattle.program_lowering.proofs.Names.{None, notes_from, nothing_carried, Ok, Option, Point, refl, Refusal, refused_at, Result, Some, Statement}
-use Rattle.program_lowering.proofs.Names.{Step, step, subst, sym, text_reading, text_refused, TextFault, true, Unread, without_end, ℕ}
-use Rattle.dmis_text.specs.declared.reading.TextFault.TheVariants as text_fault
+use Rattle.program_lowering.proofs.Names.{GivesLines, GivesStep, kept, length, lines, List, lowered_meaning, meaning_with, meant}
+use Rattle.program_lowering.proofs.Names.{notes_from, nothing_carried, Ok, Option, Point, refl, Refusal, refused_at, Result, Statement}
+use Rattle.program_lowering.proofs.Names.{Step, step, sym, text_reading, TextFault, true, ℕ}
 use Rattle.dmis_program.specs.Meaning.{ended, meaning_of}
 use Rattle.dmis_program.specs.declared.faults.ProgramFault.{ProgramFault}
 use Rattle.dmis_program.specs.declared.faults.ProgramFault.TheVariants as program
@@ -18,7 +17,6 @@ use Rattle.program_lowering.specs.Inches.{all_stated}
 use Rattle.program_lowering.proofs.Names.{◌++◌}
 use Rattle.program_lowering.specs.Carried.{frames_closed}
 use Rattle.program_lowering.specs.Lowering.{valued_statements}
-use Rattle.program_lowering.specs.Valued.{all_valued}
 use Rattle.program_lowering.specs.StoredFrames.{frame_notes, if_stored}
 
 -- all of a text
@@ -106,37 +104,13 @@ at_statement frames choices text (faults.Refused refusal) s fault n all left c d
     (sym same ∙ refused_at_statement frames choices fault n s all left c refusal split given)
 at_statement frames choices text faults.Memory s fault n all left c d split given same = tt
 
--- where a line cannot be read
-at_line : (frames : List (List ℕ × Point)) (choices : Choices) (text : List ℕ) (due fault : Option TextFault) (n : ℕ) (all : List Statement)
-    (c : Carried) → all ≡ [] → fault ≡ due → run frames choices fault n all c ≡ run_of frames choices text
-    → lowered_meaning frames choices text ≡ Err (ended due c.above.number n)
-at_line frames choices text due fault n all c none is same =
-    refused_of frames choices text (ended due c.above.number n)
-    (sym same ∙ ends_at frames choices fault n all c none ∙ ap (λ (f : Option TextFault). Err (ended f c.above.number n)) is)
-
-pub at_fault : (frames : List (List ℕ × Point)) (choices : Choices) (text : List ℕ) (fault : TextFault) (u : Unread) (above : List Statement) (c : Carried)
-    → IsDue u fault → run frames choices u.fault u.lines (all_valued above u.left) c ≡ run_of frames choices text
-    → GivesLines frames choices text (Err (text_refused fault))
-at_fault frames choices text (text_fault.LineTooLong line) u above c due same =
-    at_line frames choices text (Some (text_fault.LineTooLong line)) u.fault u.lines (all_valued above u.left) c (ap (all_valued above) due.0) due.1 same
-at_fault frames choices text (text_fault.BadByte line) u above c due same =
-    at_line frames choices text (Some (text_fault.BadByte line)) u.fault u.lines (all_valued above u.left) c (ap (all_valued above) due.0) due.1 same
-at_fault frames choices text text_fault.Memory u above c due same = tt
-
--- and where the text ends
-pub at_end : (frames : List (List ℕ × Point)) (choices : Choices) (text : List ℕ) (u : Unread) (above : List Statement) (c : Carried) → u.left ≡ [] → u.fault ≡ None
-    → run frames choices u.fault u.lines (all_valued above u.left) c ≡ run_of frames choices text
-    → GivesLines frames choices text (Err (refused_at (without_end c.above.number u.lines)))
-at_end frames choices text u above c none is same =
-    at_line frames choices text None u.fault u.lines (all_valued above u.left) c (ap (all_valued above) none) is same
-
--- where the reader answers that
-pub at_error : (frames : List (List ℕ × Point)) (choices : Choices) (text : List ℕ) (u : Unread) (above : List Statement) (c : Carried) (r : Result Lowered ProgramFault)
-    (f : ProgramFault) → IsErrAnd r (λ given. given ≡ f) → ((due : TextFault) × (f ≡ text_refused due) × IsDue u due)
-    → run frames choices u.fault u.lines (all_valued above u.left) c ≡ run_of frames choices text → GivesLines frames choices text r
-at_error frames choices text u above c (Ok lines) f is due same = absurd is
-at_error frames choices text u above c (Err given) f is due same =
-    subst (λ (g : ProgramFault). GivesLines frames choices text (Err g)) (sym (is ∙ due.1)) (at_fault frames choices text due.0 u above c due.2 same)
+-- where nothing is left
+pub at_end : (frames : List (List ℕ × Point)) (choices : Choices) (text : List ℕ) (all : List Statement) (c : Carried) → all ≡ []
+    → run frames choices (text_reading text).fault (length (lines text)) all c ≡ run_of frames choices text
+    → GivesLines frames choices text (Err (refused_at (ended (text_reading text).fault c.above.number (length (lines text)))))
+at_end frames choices text all c none same =
+    refused_of frames choices text (ended (text_reading text).fault c.above.number (length (lines text)))
+    (sym same ∙ ends_at frames choices (text_reading text).fault (length (lines text)) all c none)
 
 -- where the program ends
 pub finished : (frames : List (List ℕ × Point)) (choices : Choices) (source text notes : List ℕ) (r : Result Lowered ProgramFault)

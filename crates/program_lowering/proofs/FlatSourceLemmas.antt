@@ -31,7 +31,13 @@ use Rattle.program_lowering.proofs.Names.{is_none, is_operator_text}
 use Rattle.program_lowering.proofs.TextLemmas.{is_text}
 use Rattle.dmis_program.specs.Keywords.{is_among}
 use Rattle.program_values.specs.LookBack.{fault_of, is_declaration, kind_said, value_said}
-use Rattle.program_lowering.specs.Valued.{all_valued, assigned_params, carried, commanding, has_variables, held_or_none, valued, valued_params, with_params}
+use Rattle.program_flow.specs.Blocks.{is_label, part_named, part_of}
+use Rattle.program_flow.specs.Flow.{carried, flow_of, most, to, trace}
+use Rattle.program_flow.specs.declared.blocks.Part.TheVariants.{Other}
+use Rattle.program_flow.proofs.Comes.{comes_all}
+use Rattle.program_flow.proofs.Straight.{drop-next, trace-other}
+use Rattle.program_lowering.proofs.Names.{◌+◌, ◌≤◌, and_parts, arith, drop, eqb-true, nat_tests, suc, zero}
+use Rattle.program_lowering.specs.Valued.{all_valued, assigned_params, commanding, has_variables, held_or_none, valued, valued_params, with_params}
 
 -- what follows a statement that says this may be exchanged for what has the same steps
 same_front : (b : Bool) (front : List Step) (r q : Result (List Step) (Refusal × ℕ)) (steps : List Step)
@@ -338,10 +344,86 @@ valued_fits : (above statements : List Statement) → Fit statements → Fit (al
 valued_fits above [] h = tt
 valued_fits above (s ∷ statements) h = (valued_text above s h.0, valued_fits (carried above s) statements h.1)
 
+-- nor has it a word of control flow, so each statement comes out in its place
+label_unknown : (word : List ℕ) → is_label word ≡ true → is_unknown (keyword_of word) ≡ true
+unfolding keyword_of
+label_unknown [] h = absurd cc
+label_unknown (c ∷ cs) h = let is : c ≡ 40 = eqb-true c 40 (and_parts _ _ h).0 in rw is refl
+
+not_label : (word : List ℕ) → is_unknown (keyword_of word) ≡ false → is_label word ≡ false
+not_label word known = go (is_label word) refl
+  where
+    go : (b : Bool) → is_label word ≡ b → b ≡ false
+    go false e = refl
+    go true e = let h = label_unknown word e in absurd cc
+
+flow_words : AllByRecursion (λ (w : List ℕ). is_unknown (keyword_of w) ≡ true)
+    (codes "IF" ∷ codes "DO" ∷ codes "JUMPTO" ∷ codes "ELSE" ∷ codes "ENDIF" ∷ codes "ENDDO" ∷ [])
+unfolding keyword_of
+flow_words = (refl, (refl, (refl, (refl, (refl, (refl, tt))))))
+
+other_named : (word : List ℕ) (params : List (List ℕ)) → is_unknown (keyword_of word) ≡ false → part_named word params ≡ Other
+other_named word [] known = rw (
+  other_word word (codes "ELSE") flow_words.1.1.1.0 known,
+  other_word word (codes "ENDIF") flow_words.1.1.1.1.0 known,
+  other_word word (codes "ENDDO") flow_words.1.1.1.1.1.0 known,
+  not_label word known,
+) refl
+other_named word (param ∷ params) known = rw (
+  other_word word (codes "IF") flow_words.0 known,
+  other_word word (codes "DO") flow_words.1.0 known,
+  other_word word (codes "JUMPTO") flow_words.1.1.0 known,
+) refl
+
+other_part : (s : Statement) → is_unknown (keyword_of s.word) ≡ false → part_of s ≡ Other
+unfolding part_of
+other_part s known = go (is_none s.label)
+  where
+    go : (b : Bool) → cond b (part_named s.word s.params) Other ≡ Other
+    go true = other_named s.word s.params known
+    go false = refl
+
+flow_on : (frames : List (List ℕ × Point)) (fault : Option TextFault) (lines : ℕ) (aboves above all : List Statement) (n place : ℕ)
+    (s : Statement) (below : List Statement) (steps : List Step) (r : Result StatementMeaning Refusal) → judged frames (context_at frames aboves) s ≡ r
+    → drop place all ≡ s ∷ below → 10000 ≤ n + length aboves
+    → ((more : List Step) (m : ℕ) → n ≡ suc m → steps_from frames fault lines (s ∷ aboves) below ≡ Ok more
+    → steps_from frames fault lines (s ∷ aboves) (trace m all (to (place + 1) []) (carried above s)) ≡ Ok more)
+    → continued s.line r (steps_of frames (context_at frames aboves)) (steps_from frames fault lines (s ∷ aboves) below) ≡ Ok steps
+    → steps_from frames fault lines aboves (trace n all (to place []) above) ≡ Ok steps
+flow_on frames fault lines aboves above all n place s below steps (Err refusal) e d few behind h = absurd cc
+flow_on frames fault lines aboves above all zero place s below steps (Ok m) e d few behind h =
+    let short = (accepted_if frames (context_at frames aboves) s m e).few in absurd (grind (arith, nat_tests, few, short))
+flow_on frames fault lines aboves above all (suc n) place s below steps (Ok m) e d few behind h =
+    let known = accepted_known frames (context_at frames aboves) s m (accepted_if frames (context_at frames aboves) s m e) in
+    rw (trace-other n place all [] above s below d (other_part s known), e) (same_front (closes m) (steps_of frames (context_at frames aboves) m)
+    (steps_from frames fault lines (s ∷ aboves) below) (steps_from frames fault lines (s ∷ aboves) (trace n all (to (place + 1) []) (carried above s)))
+    steps (λ more g. behind more n refl g) h)
+
+flow_alike : (frames : List (List ℕ × Point)) (fault : Option TextFault) (lines : ℕ) (aboves above all : List Statement) (n place : ℕ)
+    (below : List Statement) (steps : List Step) → drop place all ≡ below → 10000 ≤ n + length aboves
+    → steps_from frames fault lines aboves below ≡ Ok steps → steps_from frames fault lines aboves (trace n all (to place []) above) ≡ Ok steps
+flow_alike frames fault lines aboves above all n place [] steps d few h = absurd cc
+flow_alike frames fault lines aboves above all n place (s ∷ below) steps d few h =
+    flow_on frames fault lines aboves above all n place s below steps (judged frames (context_at frames aboves) s) refl d few
+    (λ more m e g. flow_alike frames fault lines (s ∷ aboves) (carried above s) all m (place + 1) below more (drop-next place all s below d)
+    (omega (arith, few, e)) g) h
+
+-- what comes out besides the statements of a text is no text for the operator
+assignment_fits : (s a : Statement) → text_refusal s ≡ None → bytes_eq a.word (codes "ASSIGN") ≡ true → a.line ≡ s.line → text_refusal a ≡ None
+assignment_fits s a h e l = go (is_operator_text a) refl
+  where
+    go : (b : Bool) → is_operator_text a ≡ b → text_refusal a ≡ None
+    go false f = rw f refl
+    go true f = let is = (is_text a f).word_is in let same = rw is at e in absurd cc
+
+flow_fits : (statements : List Statement) → Fit statements → Fit (flow_of statements)
+flow_fits statements h = comes_all (λ (s : Statement). text_refusal s ≡ None) assignment_fits (λ s g. refl) most statements (to 0 []) [] h
+
 pub valued_source : (frames : List (List ℕ × Point)) (choices : Choices) (fault : Option TextFault) (lines : ℕ) (statements : List Statement)
     (m : Meaning) → AllByRecursion (λ (s : Statement). text_refusal s ≡ None) statements → meant (steps_from frames fault lines [] statements) ≡ Ok m
-    → meant (steps_up_to frames fault lines [] (all_stated [] (kept choices (all_valued [] statements)))) ≡ Ok m
+    → meant (steps_up_to frames fault lines [] (all_stated [] (kept choices (all_valued [] (flow_of statements))))) ≡ Ok m
 valued_source frames choices fault lines statements m fit h =
     let found = meant_steps m (steps_from frames fault lines [] statements) h in
-    flat_source frames choices fault lines (all_valued [] statements) m (valued_fits [] statements fit)
-    (ap meant (valued_alike frames fault lines [] [] statements found.0 refl found.1) ∙ ap (λ (all : Meaning). Ok all) (sym found.2))
+    let flows = flow_alike frames fault lines [] [] statements most 0 statements found.0 refl (omega arith) found.1 in
+    flat_source frames choices fault lines (all_valued [] (flow_of statements)) m (valued_fits [] (flow_of statements) (flow_fits statements fit))
+    (ap meant (valued_alike frames fault lines [] [] (flow_of statements) found.0 refl flows) ∙ ap (λ (all : Meaning). Ok all) (sym found.2))

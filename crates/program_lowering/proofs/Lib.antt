@@ -17,6 +17,7 @@ pub mod ReadBackLemmas
 pub mod FlatSourceLemmas
 pub mod LawLemmas
 pub mod EndLemmas
+pub mod GivenLemmas
 pub mod HeadLemmas
 pub mod WholeLemmas
 pub mod LineCounts

@@ -1,5 +1,5 @@
 -- The frames that touches refer to: what is carried of them is what is above.
-use Rattle.program_lowering.proofs.Names.{[], ◌&&◌, ◌++◌, ◌||◌, ◌∙◌, ◌∷◌, ◌≡◌, ap, Bool, Carried, Choices, cond, Err, false, followed, frame_said}
+use Rattle.program_lowering.proofs.Names.{[], ◌&&◌, ◌||◌, ◌∙◌, ◌∷◌, ◌≡◌, ap, Bool, Carried, Choices, cond, Err, false, followed, frame_said}
 use Rattle.program_lowering.proofs.Names.{has_open_text, Keyword, keyword_of, left_out_at, List, nearest, None, not, noted, Ok, Option, Reason, refl, Refusal}
 use Rattle.program_lowering.proofs.Names.{Result, SaidBy, saying, Some, Statement, StatementMeaning, sym, true, ℕ}
 use Rattle.std.proofs.Common.{◌⊎◌, inl, inr}

@@ -1,5 +1,5 @@
 -- Statements with their values: what the code carries, and the lines from which they are read back.
-use Rattle.program_lowering.proofs.Names.{[], ◌&&◌, ◌++◌, ◌+◌, ◌<◌, ◌||◌, ◌∙◌, ◌∷◌, ◌≡◌, ◌≤◌, AllByRecursion, and_from, ap, append-nil}
+use Rattle.program_lowering.proofs.Names.{[], ◌&&◌, ◌++◌, ◌<◌, ◌||◌, ◌∙◌, ◌∷◌, ◌≡◌, ◌≤◌, AllByRecursion, and_from, ap, append-nil}
 use Rattle.program_lowering.proofs.Names.{arith, Bool, bytes_eq, codes, cond, decimal, drop, Err, false, Flat, flat, flat_line, flat_text}
 use Rattle.program_lowering.proofs.Names.{is_line, is_none, is_plain, leb-true, length, length-append, length-decimal-le}
 use Rattle.program_lowering.proofs.Names.{lines, List, list_all, marked, nat_le, nat_tests, None, take, Ok, OnOk, Option, reading_of, refl, Result, Some, Statement, subst, sym}
@@ -12,10 +12,10 @@ use Rattle.program_values.specs.LookBack.{Holds, fault_in, fault_of, is_declarat
 use Rattle.program_values.specs.Numbers.{Fraction, and_then, numeral}
 use Rattle.program_values.specs.Variables.{Entry, entry_value}
 use Rattle.program_values.specs.declared.faults.ValueFault.{ValueFault}
-use Rattle.program_values.specs.declared.faults.ValueFault.TheVariants as value
 use Rattle.program_lowering.specs.Carried.{GivesLine, IsRead, Knows, all_pushed, line_with, pair_of, pushed}
 use Rattle.program_lowering.specs.Lowering.{ended}
-use Rattle.program_lowering.specs.Valued.{assigned_params, carried, commanding, has_variables, held, held_or_none, new_params, valued, valued_param, valued_params, with_params}
+use Rattle.program_flow.specs.Flow.{carried}
+use Rattle.program_lowering.specs.Valued.{assigned_params, commanding, has_variables, held, held_or_none, new_params, valued, valued_param, valued_params, with_params}
 use Rattle.program_lowering.proofs.LineLemmas.{IsHeld, flat_is_line, flat_statement}
 use Rattle.program_lowering.proofs.LineParts.{marked_is}
 use Rattle.program_lowering.proofs.ReadBackLemmas.{line_first}

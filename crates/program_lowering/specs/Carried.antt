@@ -23,7 +23,8 @@ use Rattle.program_values.specs.Variables.{Entry}
 use Rattle.program_values.specs.declared.faults.ValueFault.{ValueFault}
 use Rattle.program_values.specs.declared.faults.ValueFault.TheVariants as value
 use Rattle.program_lowering.specs.Flats.{flat, flat_line}
-use Rattle.program_lowering.specs.Valued.{carried, has_variables, held_or_none}
+use Rattle.program_flow.specs.Flow.{carried}
+use Rattle.program_lowering.specs.Valued.{has_variables, held_or_none}
 use Rattle.program_lowering.specs.Manual.{manual_after}
 use Rattle.program_lowering.specs.Inches.{inches_after, said_stated}
 use Rattle.program_lowering.specs.OperatorTexts.{flat_meant, is_plain, marked, text_refusal}

@@ -17,6 +17,7 @@ use Rattle.program_lowering.specs.Flats.{Flat, flat_line, note_line}
 use Rattle.program_lowering.specs.StoredFrames.{by_frame, frame_notes, if_stored, is_used}
 use Rattle.program_review.specs.Texts.{is_operator_text}
 use Rattle.program_lowering.specs.Inches.{all_stated}
+use Rattle.program_flow.specs.Flow.{flow_of, flow_reading}
 use Rattle.program_lowering.specs.Valued.{all_valued, valued_reading}
 use Rattle.program_lowering.specs.OperatorTexts.{flat_meant, up_to_refused}
 use Rattle.program_lowering.specs.Reasons.{detail, reason_text}
@@ -57,13 +58,13 @@ kept choices statements = kept_below choices [] statements
 abbrev pub kept_reading : Choices → Reading → Reading
 kept_reading choices reading = up_to_refused reading.fault (all_stated [] (kept choices reading.statements))
 
--- the statements of a text with their values
+-- the statements of a text as they are carried out, with their values
 abbrev pub valued_statements : List ℕ → List Statement
-valued_statements text = all_valued [] (text_reading text).statements
+valued_statements text = all_valued [] (flow_of (text_reading text).statements)
 
 -- what the text means with its values and without those that are left out, or its first refusal with its line
 abbrev pub lowered_meaning : List (List ℕ × Point) → Choices → List ℕ → Result Meaning (Refusal × ℕ)
-lowered_meaning frames choices text = meaning_of frames (kept_reading choices (valued_reading (text_reading text))) (length (lines text))
+lowered_meaning frames choices text = meaning_of frames (kept_reading choices (valued_reading (flow_reading (text_reading text)))) (length (lines text))
 
 -- a statement that closes the program
 abbrev pub is_closing : Result StatementMeaning Refusal → Bool

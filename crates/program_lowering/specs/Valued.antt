@@ -7,7 +7,8 @@ use Rattle.std.specs.List.{list_all}
 use Rattle.dmis_text.specs.Reading.{Reading}
 use Rattle.dmis_text.specs.declared.elements.Statement.{Statement}
 use Rattle.dmis_program.specs.Keywords.{is_among}
-use Rattle.program_values.specs.LookBack.{fault_of, is_declaration, kind_said, value_said}
+use Rattle.program_flow.specs.Flow.{carried}
+use Rattle.program_values.specs.LookBack.{is_declaration, value_said}
 use Rattle.program_values.specs.Numbers.{Fraction, and_then, numeral}
 use Rattle.program_values.specs.Texts.{expanded}
 use Rattle.program_values.specs.Values.{computed}
@@ -15,10 +16,6 @@ use Rattle.program_values.specs.declared.faults.ValueFault.{ValueFault}
 use Rattle.program_values.specs.declared.faults.ValueFault.TheVariants.{UnknownName}
 use Rattle.program_lowering.specs.Flats.{flat, flat_text}
 use Rattle.program_lowering.specs.OperatorTexts.{is_plain}
-
--- what is carried out by a statement and those above: one whose value has a fault is not
-abbrev pub carried : List Statement → Statement → List Statement
-carried above s = if is_none (fault_of (kind_said above) (value_said above) s) then s ∷ above else above
 
 -- whether a variable is declared
 abbrev pub has_variables : List Statement → Bool

@@ -1,12 +1,11 @@
 // The flat program of a text.
 
-ghost use Rattle.std.specs.Prelude.{◌≡◌, ◌≤◌, ◌<◌, ◌++◌, ◌∷◌, [], OnOk, IfOk, IfSome, IfNone, IfErr, List, Ok, None, Option, Some};
+ghost use Rattle.std.specs.Prelude.{◌≡◌, ◌≤◌, ◌<◌, ◌++◌, ◌∷◌, [], OnOk, IfOk, IfErr, List, Ok, Option};
 ghost use Rattle.dmis_program.specs.Keywords.{keyword_of};
-ghost use Rattle.dmis_program.specs.Meaning.{closes, without_end};
-ghost use Rattle.dmis_program.specs.Outcomes.{fault_at, refused_at, text_refused, Gives};
-ghost use Rattle.dmis_text.specs.Reading.{IsDue};
-ghost use Rattle.dmis_text.specs.declared.reading.TextFault.{TextFault};
+ghost use Rattle.dmis_program.specs.Meaning.{closes, ended};
+ghost use Rattle.dmis_program.specs.Outcomes.{fault_at, refused_at, Gives};
 ghost use Rattle.dmis_text.specs.declared.elements.Statement.{Statement};
+ghost use Rattle.program_flow.specs.Left.{IsGiven};
 ghost use Rattle.program_lowering.specs.Valued.{valued};
 ghost use Rattle.program_lowering.specs.Carried.{GivesLines, GivesStep, Knows, TakesValued, followed, left_out_after, nothing_carried, step, frames_closed, judged_next};
 ghost use Rattle.program_lowering.specs.Heads.{names_of};
@@ -28,7 +27,8 @@ use crate::words::{Choices, Reason, left_out, passed_reason, push_detail, reason
 use dmis_program::{
     Frames, Keyword, ProgramFault, Refusal, StatementFault, StatementMeaning, keyword_of_word,
 };
-use dmis_text::{Statement, Statements};
+use dmis_text::{Statement, Statements, TextFault};
+use program_flow::{Flow, Given};
 use program_review::is_operator_text;
 use std::alloc::{AllocError, Global};
 use std::marker::Model;
@@ -129,20 +129,35 @@ fn fault_at(fault: StatementFault, line: u64) -> ProgramFault
     }
 }
 
-/// The next statement of a text, or none at its end.
-fn next_statement<'a>(
+/// The statements of a text up to its end, or up to a line that cannot be read, with the refusal of that.
+fn read_all<'a>(
+    alloc: Global,
     statements: &mut Statements<'a>,
-) -> Result<Option<Statement<'a>>, ProgramFault>
-    ensures statement { IfOk result (λ given. IfSome given
-        (λ s. statements.old.left ≡ s ∷ statements.new.left)) }
-    ensures end { IfOk result (λ given. IfNone given ((statements.old.left ≡ [])
-        × (statements.old.fault ≡ None) × (statements.new ≡ statements.old))) }
-    ensures due { IfErr result (λ fault. (text : TextFault) × (fault ≡ text_refused text)
-        × IsDue statements.old text) }
-    ensures fault { statements.new.fault ≡ statements.old.fault }
+) -> Result<(Vec<Statement<'a>>, Option<TextFault>), AllocError>
+    ensures all { IfOk result (λ r. r.0.items ≡ statements.old.left) }
+    ensures end { IfOk result (λ r. r.1 ≡ statements.old.fault) }
     ensures lines { statements.new.lines ≡ statements.old.lines }
 {
-    Ok(statements.next()?)
+    let mut all = Vec::new(alloc);
+    loop {
+        match statements.next() {
+            Ok(Some(statement)) => all.push(statement)?,
+            Ok(None) => return Ok((all, None)),
+            Err(TextFault::Memory) => return Err(AllocError),
+            Err(fault) => return Ok((all, Some(fault))),
+        }
+    }
+}
+
+/// The line of a statement that comes out.
+fn line_of(statements: &[Statement], given: &Given) -> u64
+    requires { (s : Statement) × IsGiven statements.now given.now s }
+    ensures { (s : Statement) → IsGiven statements.now given.now s → result ≡ s.line }
+{
+    match given {
+        Given::Stated(place) => statements[*place].line,
+        Given::Made(line, _) => *line,
+    }
 }
 
 impl Lowering {
@@ -260,14 +275,15 @@ impl Lowering {
         Ok(closes(&meaning))
     }
 
-    /// The refusal of a text that ends here, without an `ENDFIL`, and has that many lines.
-    fn missing_end(&self, lines: u64) -> ProgramFault
-        ensures { result ≡ refused_at (without_end self.now.above.number lines) }
+    /// The refusal of a text that ends here, without an `ENDFIL`, for this fault or for none, and has that many lines.
+    fn missing_end(&self, end: Option<TextFault>, lines: u64) -> ProgramFault
+        ensures { result ≡ refused_at (ended end self.now.above.number lines) }
     {
-        if self.above.number == 0 {
-            ProgramFault::Refused(Refusal::NotDmis, 1)
-        } else {
-            ProgramFault::Refused(Refusal::Truncated, lines)
+        match end {
+            Some(TextFault::LineTooLong(line)) => ProgramFault::Refused(Refusal::LineTooLong, line),
+            Some(TextFault::BadByte(line)) => ProgramFault::Refused(Refusal::BadByte, line),
+            _ if self.above.number == 0 => ProgramFault::Refused(Refusal::NotDmis, 1),
+            _ => ProgramFault::Refused(Refusal::Truncated, lines),
         }
     }
 
@@ -314,6 +330,32 @@ fn take_valued(
     lowering.take(choices, frames, &valued)
 }
 
+/// Likewise the next statement that comes out of a text.
+fn take_given(
+    lowering: &mut Lowering,
+    values: &mut Values,
+    choices: Choices,
+    frames: &Frames,
+    statements: &[Statement],
+    given: &Given,
+) -> Result<bool, StatementFault>
+    requires { (s : Statement) × IsGiven statements.now given.now s }
+    ensures { (above : List Statement) (s : Statement) → IsGiven statements.now given.now s
+        → Knows above values.old.variables values.old.declared
+        → TakesValued result lowering.new values.new.variables values.new.declared above s
+        (step frames.now choices lowering.old (valued above s)) }
+{
+    match given {
+        Given::Stated(place) => {
+            take_valued(lowering, values, choices, frames, &statements[*place])
+        }
+        Given::Made(line, text) => {
+            let made = read_back(lowering.alloc, *line, text)?;
+            take_valued(lowering, values, choices, frames, &made)
+        }
+    }
+}
+
 /// The lines of the flat program of a text, up to its `ENDFIL`, with what was decided.
 fn lines_of(
     alloc: Global,
@@ -324,16 +366,26 @@ fn lines_of(
     ensures { GivesLines frames.now choices bytes.now result }
 {
     let mut statements = Statements::new(alloc, bytes);
+    let Ok((all, end)) = read_all(alloc, &mut statements) else {
+        return Err(ProgramFault::Memory);
+    };
+    let mut flow = Flow::new(alloc, all);
     let mut lowering = Lowering::new(alloc);
     let mut values = Values::new(alloc);
-    while let Some(statement) = next_statement(&mut statements)? {
-        match take_valued(&mut lowering, &mut values, choices, frames, &statement) {
+    loop {
+        let Ok(next) = flow.next(alloc, &values.variables) else {
+            return Err(ProgramFault::Memory);
+        };
+        let Some(given) = next else {
+            return Err(lowering.missing_end(end, statements.lines()));
+        };
+        let all = flow.statements();
+        match take_given(&mut lowering, &mut values, choices, frames, all, &given) {
             Ok(true) => return lowering.finish(choices),
-            Ok(false) => statements.take_back(statement),
-            Err(fault) => return Err(fault_at(fault, statement.line)),
+            Ok(false) => {}
+            Err(fault) => return Err(fault_at(fault, line_of(all, &given))),
         }
     }
-    Err(lowering.missing_end(statements.lines()))
 }
 
 /// The flat program that a text stands for, up to its `ENDFIL`, with a head and with what was decided; `frames` are those that it may

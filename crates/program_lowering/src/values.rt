@@ -5,6 +5,7 @@ ghost use Rattle.std.specs.List.{list_all};
 ghost use Rattle.std.specs.Option.{option_map};
 ghost use Rattle.dmis_text.specs.declared.elements.Statement.{Statement};
 ghost use Rattle.dmis_program.specs.Keywords.{is_among};
+ghost use Rattle.program_flow.specs.Flow.{carried};
 ghost use Rattle.program_values.specs.LookBack.{fault_of, kind_said, value_said};
 ghost use Rattle.program_values.specs.Numbers.{numeral};
 ghost use Rattle.program_values.specs.Variables.{entry_value};
@@ -124,7 +125,7 @@ impl Values {
     /// Carries a statement out. False if a value has a fault.
     fn carry_out(&mut self, statement: &Statement) -> Result<bool, AllocError>
         ensures { (above : List Statement) → code.Knows above self.old.variables self.old.declared
-            → IfOk result (λ done. code.Knows (spec.carried above statement.now) self.new.variables
+            → IfOk result (λ done. code.Knows (carried above statement.now) self.new.variables
             self.new.declared × (done ≡ is_none (fault_of (kind_said above) (value_said above)
             statement.now))) }
     {
@@ -205,7 +206,7 @@ impl Values {
             × code.IsRead l.items s)) }
         ensures valued { (above : List Statement)
             → code.Knows above self.old.variables self.old.declared
-            → IfOk result (λ line. code.Knows (spec.carried above statement.now)
+            → IfOk result (λ line. code.Knows (carried above statement.now)
             self.new.variables self.new.declared × code.GivesLine
             (option_map (λ l. l.items) line) statement.now (spec.valued above statement.now)) }
     {

@@ -1,15 +1,16 @@
 use Rattle.program_lowering.proofs.Names.{◌≡◌, length, lines, List, nothing_carried, Statement, text_reading}
+use Rattle.program_flow.specs.Left.{left_of, size}
 use Rattle.program_lowering.proofs.Runs.{run}
 use Rattle.program_lowering.proofs.lowering.lines_of.Given as goal
 use Rattle.program_lowering.specs.Carried.{Knows}
 use Rattle.program_lowering.specs.Lowering.{valued_statements}
 use Rattle.program_lowering.specs.Valued.{all_valued}
 
--- what is carried and the statements left, with their values, give what the whole text gives
-abbrev pub invariant-loop-values : goal.invariant-loop-values
-invariant-loop-values l = (above : List Statement) × Knows above l.values.variables l.values.declared
-    × (run l.frames l.choices l.statements.fault l.statements.lines (all_valued above l.statements.left) l.lowering
+-- what is carried and what still comes out, with its values, give what the whole text gives
+abbrev pub invariant-loop-next : goal.invariant-loop-next
+invariant-loop-next l = (above : List Statement) × Knows above l.values.variables l.values.declared
+    × (run l.frames l.choices (text_reading l.bytes).fault (length (lines l.bytes)) (all_valued above (left_of l.flow above)) l.lowering
     ≡ run l.frames l.choices (text_reading l.bytes).fault (length (lines l.bytes)) (valued_statements l.bytes) nothing_carried)
 
-abbrev pub decreases-loop-values : goal.decreases-loop-values
-decreases-loop-values l = length l.statements.left
+abbrev pub decreases-loop-next : goal.decreases-loop-next
+decreases-loop-next l = size l.flow

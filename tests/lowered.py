@@ -1,0 +1,294 @@
+"""Programs with variables, branches, loops and jumps, made at random and lowered.
+
+Each is carried out here, too, by a second reading: of the tree that its text is written from, with exact fractions. The moves, their lines
+and their order have to be those of `dme lower`; or the line of the first statement that cannot be carried out that of its refusal. Some of
+the programs are flat already. What is lowered is lowered again, and stays.
+
+`run` calls this with a few programs; by itself: tests/lowered.py [COUNT], 3000 by default.
+"""
+
+import fractions
+import random
+import subprocess
+import sys
+import tempfile
+
+from growths import PROGRAM, Wrong, must
+
+WHOLE, REAL = ("I", "J", "K"), ("X", "Y")
+COMPARISONS = {".LT.": "__lt__", ".LE.": "__le__", ".EQ.": "__eq__", ".NE.": "__ne__", ".GE.": "__ge__", ".GT.": "__gt__"}
+MOST = 10_000
+
+
+class Refused(Exception):
+    """The statement of this line cannot be carried out."""
+
+
+class Jumped(Exception):
+    """To the label of this name."""
+
+
+class Made:
+    """A program: its lines, and what they mean, as a list of parts, each with its line."""
+
+    def __init__(self, seed):
+        self.random, self.lines, self.loops, self.labels = random.Random(seed), [], [], 0
+
+    def add(self, text):
+        self.lines.append(text)
+        return len(self.lines)
+
+    # An expression is its text, how strongly it binds (0 a sum, 1 a product, 2 an operand), and what it gives for values of names.
+    def operand(self, names):
+        if names and self.random.random() < 0.5:
+            name = self.random.choice(names)
+            return name, 2, lambda values: values[name]
+        number = self.random.randint(0, 9)
+        return str(number), 2, lambda values: fractions.Fraction(number)
+
+    def expression(self, names, depth=2):
+        if depth == 0 or self.random.random() < 0.4:
+            return self.operand(names)
+        rank = self.random.choice((0, 0, 1))
+        one, other = self.expression(names, depth - 1), self.expression(names, depth - 1)
+        sign = "*" if rank else self.random.choice("+-")
+        left = one[0] if one[1] >= rank else f"({one[0]})"
+        right = other[0] if other[1] > rank else f"({other[0]})"
+        apply = {"+": lambda a, b: a + b, "-": lambda a, b: a - b, "*": lambda a, b: a * b}[sign]
+        return f"{left}{self.blank()}{sign}{self.blank()}{right}", rank, lambda values: apply(one[2](values), other[2](values))
+
+    def blank(self):
+        return self.random.choice(("", "", " "))
+
+    def condition(self, depth=2):
+        """Likewise: an alternative binds least, then what holds together, then an opposite or a comparison."""
+        kind = self.random.choice(("compare", "compare", "or", "and", "not")) if depth else "compare"
+        if kind == "compare":
+            one, other, mark = self.expression(WHOLE, 1), self.expression(WHOLE, 1), self.random.choice(list(COMPARISONS))
+            return f"{one[0]} {mark} {other[0]}", 2, lambda values: getattr(one[2](values), COMPARISONS[mark])(other[2](values))
+        if kind == "not":
+            inner = self.condition(depth - 1)
+            return f".NOT. ({inner[0]})", 2, lambda values: not inner[2](values)
+        rank = 0 if kind == "or" else 1
+        parts = [self.condition(depth - 1) for _ in range(2)]
+        texts = [it[0] if it[1] >= rank else f"({it[0]})" for it in parts]
+        join = any if kind == "or" else all
+        return f" .{kind.upper()}. ".join(texts), rank, lambda values: join([it[2](values) for it in parts])
+
+    def number(self):
+        """The text of a coordinate, which is a whole number of micrometres, and its value in millimetres."""
+        inner, name = self.expression(WHOLE), self.random.choice(REAL)
+        return self.random.choice([
+            (inner[0], inner[2]),
+            (f"({inner[0]})/8", lambda values: inner[2](values) / 8),
+            (f"{name}-({inner[0]})", lambda values: values[name] - inner[2](values)),
+        ])
+
+    def move(self):
+        texts = [self.number() for _ in range(3)]
+        line = self.add(f"GOTO/{','.join(it[0] for it in texts)}")
+
+        def carry_out(flow):
+            values = [it[1](flow.values) * 1000 for it in texts]
+            if any(abs(it) > 1_000_000_000 for it in values):
+                raise Refused(line)
+            flow.move(line, [int(it) for it in values])
+
+        return carry_out
+
+    def touch(self):
+        """A block of one touch, whose label ends with a whole number."""
+        name, texts = self.random.choice(WHOLE), [self.number() for _ in range(3)]
+        first = self.add(f"MEAS/POINT,F(P@{name}),1")
+        line = self.add(f"PTMEAS/CART,{','.join(it[0] for it in texts)},0,0,1")
+        last = self.add("ENDMES")
+
+        def carry_out(flow):
+            flow.out.append(f"MEAS/POINT,F(P{flow.values[name]}),1 $$ line {first}")
+            flow.out.append(f"PTMEAS/CART,{','.join(written(int(it[1](flow.values) * 1000)) for it in texts)},0.000000,0.000000,1.000000 $$ line {line}")
+            flow.out.append(f"ENDMES $$ line {last}")
+
+        return carry_out
+
+    def assignment(self):
+        name = self.random.choice([it for it in WHOLE + REAL if it not in self.loops])
+        value = self.expression(WHOLE, 1)
+        if name in REAL:
+            value = f"({value[0]})/4", 1, lambda values, inner=value[2]: inner(values) / 4
+        line = self.add(f"{name}=ASSIGN/{value[0]}")
+
+        def carry_out(flow):
+            flow.assign(line, name, value[2](flow.values))
+
+        return carry_out
+
+    def branch(self, depth, targets):
+        condition = self.condition()
+        self.add(f"IF/({condition[0]})")
+        first = self.block(depth - 1, targets)
+        second = []
+        if self.random.random() < 0.5:
+            self.add("ELSE")
+            second = self.block(depth - 1, targets)
+        self.add("ENDIF")
+        return lambda flow: flow.block(first if condition[2](flow.values) else second)
+
+    def loop(self, depth, targets):
+        free = [it for it in WHOLE if it not in self.loops]
+        if not free:
+            return self.move()
+        name, step = self.random.choice(free), self.random.choice((None, 1, 2, 3, -1, -2))
+        first = self.random.randint(-3, 5)
+        others = [it for it in WHOLE if it != name]
+        limit = (lambda n: (str(n) if n >= 0 else f"-{-n}", 2, lambda values: fractions.Fraction(n)))(self.random.randint(-3, 6))
+        if self.random.random() < 0.3:
+            other = self.random.choice(others)
+            limit = other, 2, lambda values: values[other]
+        line = self.add(f"DO/{name},{first},{limit[0]}" + (f",{step}" if step is not None else ""))
+        self.loops.append(name)
+        inner = self.block(depth - 1, targets)
+        self.loops.pop()
+        end, by = self.add("ENDDO"), step or 1
+
+        def carry_out(flow):
+            last = limit[2](flow.values)
+            if last.denominator != 1:
+                raise Refused(line)
+            flow.assign(line, name, fractions.Fraction(first))
+            while flow.values[name] <= last if by > 0 else flow.values[name] >= last:
+                flow.block(inner)
+                if limit[2](flow.values) != last:
+                    raise Refused(end)
+                flow.assign(end, name, flow.values[name] + by)
+
+        return carry_out
+
+    def jump(self, targets):
+        if not targets:
+            return self.move()
+        name = self.random.choice(targets)
+        self.add(f"JUMPTO/({name})")
+
+        def carry_out(flow):
+            raise Jumped(name)
+
+        return carry_out
+
+    def part(self, depth, targets):
+        kinds = ["move", "move", "touch", "assignment"] + (["branch", "loop", "jump"] if depth else [])
+        kind = self.random.choice(kinds)
+        if kind in ("branch", "loop"):
+            return getattr(self, kind)(depth, targets)
+        return self.jump(targets) if kind == "jump" else getattr(self, kind)()
+
+    def block(self, depth, targets):
+        """Some parts, and perhaps a label below them, to which those above may jump; each part with the label that stands above it."""
+        label = None
+        if self.random.random() < 0.4:
+            self.labels += 1
+            label = f"L{self.labels}"
+        parts = [(None, self.part(depth, targets + [label] * (label is not None))) for _ in range(self.random.randint(1, 4))]
+        if label is not None:
+            self.add(f"({label})")
+            parts.append((label, self.part(depth, targets)))
+        return parts
+
+
+class Flow:
+    """A program as it is carried out."""
+
+    def __init__(self):
+        self.values, self.out = {}, []
+
+    def move(self, line, values):
+        self.out.append(f"GOTO/CART,{','.join(written(it) for it in values)} $$ line {line}")
+
+    def assign(self, line, name, value):
+        whole = abs(value.numerator) // value.denominator * (1 if value >= 0 else -1)
+        self.values[name] = fractions.Fraction(whole) if name in WHOLE else value
+
+    def block(self, parts):
+        at = 0
+        while at < len(parts):
+            try:
+                parts[at][1](self)
+                at += 1
+            except Jumped as jumped:
+                to = [index for index, (label, _) in enumerate(parts) if label == jumped.args[0]]
+                if not to:
+                    raise
+                at = to[0]
+
+
+def written(micrometres):
+    return f"{'-' if micrometres < 0 else ''}{abs(micrometres) // 1000}.{abs(micrometres) % 1000:03}"
+
+
+def made(seed):
+    """The text of a program, and what comes out: its statements, or the line that is refused."""
+    program = Made(seed)
+    program.add("DMISMN/'MADE',05.2")
+    selected = program.add("SNSLCT/S(P1)")
+    flow, parts = Flow(), []
+    if seed % 10 == 0:
+        parts = [(None, flat_move(program)) for _ in range(program.random.randint(1, 9))]
+    else:
+        program.add("DECL/GLOBAL,INTGR,I,J,K")
+        program.add("DECL/GLOBAL,REAL,X,Y")
+        for name in WHOLE + REAL:
+            number = program.random.randint(0, 9)
+            program.add(f"{name}=ASSIGN/{number}")
+            flow.values[name] = fractions.Fraction(number)
+        parts = program.block(3, [])
+    last = program.add("ENDFIL")
+    text = "\n".join(program.lines) + "\n"
+    try:
+        flow.block(parts)
+    except Refused as refused:
+        return text, refused.args[0]
+    return text, ["DMISMN $$ line 1", f"SNSLCT/S(P1) $$ line {selected}", *flow.out, f"ENDFIL $$ line {last}"]
+
+
+def flat_move(program):
+    values = [program.random.randint(-9_999, 9_999) for _ in range(3)]
+    line = program.add(f"GOTO/{','.join(written(it) for it in values)}")
+    return lambda flow: flow.move(line, values)
+
+
+def lowered(text):
+    it = subprocess.run([str(PROGRAM), "lower"], input=text, capture_output=True, text=True, check=False)
+    return it.returncode, it.stdout, it.stderr
+
+
+def without_lines(statements):
+    return [it.partition(" $$ ")[0] for it in statements]
+
+
+def check_one(seed):
+    """Whether it was refused."""
+    text, expected = made(seed)
+    status, out, errors = lowered(text)
+    if isinstance(expected, int):
+        must(status == 1 and errors.endswith(f" at line {expected}\n"), seed, expected, errors, text)
+        return True
+    statements = [it for it in out.splitlines() if not it.startswith("$$")]
+    must(status == 0 and statements == expected, seed, status, errors, text, out, expected)
+    status, again, errors = lowered(out)
+    must(status == 0 and without_lines([it for it in again.splitlines() if not it.startswith("$$")]) == without_lines(statements), seed, "again", errors)
+    return False
+
+
+def check_lowered(count=300):
+    """(passed, failed)."""
+    try:
+        refused = sum(check_one(seed) for seed in range(count))
+        must(0 < refused < count, "how many are refused", refused)
+    except Wrong as wrong:
+        print(f"FAILED lowered: {wrong}")
+        return 0, 1
+    print(f"ok lowered: {count} programs, {refused} of them refused")
+    return 1, 0
+
+
+if __name__ == "__main__":
+    sys.exit(1 if check_lowered(*map(int, sys.argv[1:2] or ["3000"]))[1] else 0)
