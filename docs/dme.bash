@@ -39,7 +39,7 @@ _dme()
         judge) options="--up --down" ;;
         watch) options="--listen --host --port --told --record-bytes --connections --endless --trace --log --timeout" ;;
         explain)
-            options="P1 P2 P3 P4 P5 P6 P7 P8 P9 P10 P11 P12 P13 P14 P15 P16 N1 N2 N3 S1 S2 S3 H1 M1 M2 M3 D1 D2 K1 J1 J2 J3 C4"
+            options="P1 P2 P3 P4 P5 P6 P7 P8 P9 P10 P11 P12 P13 P14 P15 P16 N1 N2 N3 S1 S2 S3 H1 M1 M2 M3 D1 D2 K1 J1 J2 J3 J4 J5 C4"
             options+=" 9001 9002 9003 9004 9005 9006 9007 9008 9009 9010 9011 9012 9013 9014 9015"
             [[ $word == [a-z]* ]] && options=${options,,}
             [[ $word == -* ]] && options=--help

@@ -3,13 +3,16 @@
 The connection of one run breaks and one run is killed: the same call again measures the rest. One part is never finished, and one is off by
 0.030 mm at each third touch. Then each part has its record under its name in the folder of records; its page says what is missing and what is
 out of limits; and the summary of all, of one unfinished part, has the figures that are computed here from the tables of the parts, as a table
-and as text.
+and as text. Each record is sealed: each of its seals is the HMAC that Python gives, the audit with the key accepts it, and refuses it once a
+point is edited or the last seal is taken away.
 
 `run` calls this; by itself: tests/batch.py
 """
 
 import csv
 import fractions
+import hashlib
+import hmac
 import io
 import json
 import pathlib
@@ -30,6 +33,7 @@ TOOLS = "TOOL P1\nTOOL P2\nFRAME PART 100 50 10\n"
 SHIFTS = "SHIFT 0.002 0 0\nSHIFT 0 0 0.001\nSHIFT 0 0 -0.004\n"
 LIMITS = "LIMIT * -0.010 0.010\n"
 LEAST, MOST = -10, 10
+KEY = bytes(range(100, 132))
 
 
 def relayed(port, lines, end):
@@ -123,6 +127,33 @@ def check_page(folder, number):
     must(("Out of limits" in page) == (number == OUT), "page", name_of(number), "what is out of limits")
 
 
+def audited(folder, number, *key):
+    status, text, errors = ended(dme(folder, "audit", "--setup", "machine.setup", "--record", record_of(number), *key, "part.dmis"))
+    return status, text, errors.partition("\n")[0]
+
+
+def check_seals(folder, number):
+    """Each run of the part that was not killed has sealed its record."""
+    path, key = folder / record_of(number), ("--seal-key", "cell.key")
+    text, above, sealed = path.read_bytes(), b"", set()
+    for line in text.splitlines(keepends=True):
+        connection, _, rest = line.partition(b" ")
+        if rest.startswith(b"SEAL "):
+            must(rest[5:-1].decode() == hmac.new(KEY, above, hashlib.sha256).hexdigest(), "a seal", name_of(number))
+            sealed.add(int(connection))
+        above += line
+    runs = {2} if number == KILLED else {1, 2} if number == BROKEN else {1}
+    must(sealed == runs and rest.startswith(b"SEAL "), "the seals", name_of(number), sealed)
+    must(audited(folder, number, *key)[0] == 0, "the audit with its key", name_of(number))
+    at = text.index(b"\n", text.index(b" CONTACT ")) - 1
+    path.write_bytes(text[:at] + (b"3" if text[at : at + 1] == b"2" else b"2") + text[at + 1 :])
+    found = audited(folder, number, *key)
+    must(found[2].startswith("dme: J4 BadSeal at line "), "an edited point", name_of(number), found)
+    path.write_bytes(text[: text.rindex(b"\n", 0, -1) + 1])
+    must(audited(folder, number)[0] == 0 and audited(folder, number, *key)[2].startswith("dme: J4 BadSeal"), "no last seal", name_of(number))
+    path.write_bytes(text)
+
+
 def check_summary(folder):
     tables = [table_of(folder, number) for number in range(1, PARTS + 1)]
     expected = [[feature, str(touch), *figures([it[feature, touch] for it in tables])] for feature, touch in tables[0]]
@@ -144,7 +175,8 @@ def batch(folder):
     (folder / "part.limits").write_text(LIMITS)
     (folder / "parts").mkdir()
     ports = free_port(), free_port()
-    (folder / "cell.machine").write_text(f"# cell 3\nSETUP machine.setup\nHOST 127.0.0.1\nPORT {ports[0]}\nWINDOW 4\nRECORDS parts\n")
+    (folder / "cell.machine").write_text(f"# cell 3\nSETUP machine.setup\nHOST 127.0.0.1\nPORT {ports[0]}\nWINDOW 4\nRECORDS parts\nSEALKEY cell.key\n")
+    (folder / "cell.key").write_bytes(KEY)
     servers = [
         listening(folder, port, "serve", "--setup", setup, "--port", str(port), "--endless") for port, setup in zip(ports, ("machine.setup", "other.setup"))
     ]
@@ -159,6 +191,7 @@ def batch(folder):
     must({it.name for it in (folder / "parts").iterdir()} == names, "the records of the parts")
     for number in (1, BROKEN, KILLED, UNFINISHED, OUT):
         check_page(folder, number)
+        check_seals(folder, number)
     check_summary(folder)
 
 

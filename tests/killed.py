@@ -76,7 +76,7 @@ class Record:
         if "END" not in lines:
             return
         end = lines.index("END")
-        must(lines[:2] == ["DME-RECORD 1", "PART 0042/7"], "head", lines[:2])
+        must(lines[:2] == ["DME-RECORD 2", "PART 0042/7"], "head", lines[:2])
         for line in lines[2:end]:
             word, *fields = line.split(" ")
             if word == "FEATURE":

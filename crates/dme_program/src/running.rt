@@ -17,7 +17,7 @@ use crate::version;
 use byte_ports::Writing;
 use dme_orders::{
     AuditFiles, Judged, JudgedLine, RecordFiles, SimulationFiles, audit_files, audit_record,
-    check_under_setup, read_machine, review_program, simulate,
+    check_under_setup, read_key, read_machine, review_program, simulate,
 };
 use dme_words::{Audit, Check, Lower, Order, RecordAudit, Review, Simulation, read_words};
 use machine_file::{Machine, named_machine, names_option, with_machine};
@@ -263,10 +263,35 @@ fn audit(rt: HostRuntime, order: Audit) -> u8 {
     audit_end(rt, result, files, order.explain)
 }
 
+/// The key of this name, if one is named; if it is refused, standard error shows why, and this is the exit status.
+fn key_of(
+    rt: HostRuntime,
+    source: Option<NamedSource>,
+    is_explained: bool,
+) -> Result<Option<Vec<u8>>, u8> {
+    let Some(mut source) = source else {
+        return Ok(None);
+    };
+    let read = read_key(rt.alloc(), &mut source);
+    let files = InputFiles {
+        key: source.into_file(),
+        ..InputFiles::unnamed(rt.alloc())
+    };
+    match read {
+        Ok(key) => Ok(Some(key)),
+        Err(fault) => Err(refused(rt, fault, files, is_explained)),
+    }
+}
+
 /// The order `audit` for a record: its exit status. Standard error shows the part, which features are missing, and the errors of the server.
 #[inline(never)]
 fn audit_of_record(rt: HostRuntime, order: RecordAudit) -> u8 {
     let mut sources = Sources::new(rt, order.explain);
+    let source = sources.maybe(order.seal_key);
+    let key = match key_of(rt, source, order.explain) {
+        Ok(key) => key,
+        Err(status) => return status,
+    };
     let setup = sources.maybe(order.setup);
     let mut sought = RecordFiles {
         setup: setup.map(Judged::new),
@@ -274,7 +299,7 @@ fn audit_of_record(rt: HostRuntime, order: RecordAudit) -> u8 {
         program: Judged::new(sources.file(order.program)),
     };
     let mut sink = Writing::new(io::writer(&rt));
-    let result = audit_record(rt.alloc(), &mut sought, &mut sink).map(|(status, notes)| {
+    let result = audit_record(rt.alloc(), &key, &mut sought, &mut sink).map(|(status, notes)| {
         let (part, missing, errors) = (&notes.part, &notes.missing.sentence, &notes.errors);
         let _ = eprint!(rt; "{part}{missing}{errors}");
         status
