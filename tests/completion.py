@@ -49,7 +49,7 @@ def is_whole(name):
         codes = completed("explain", "")
         small = completed("explain", "p")
         known = all(told("explain", it)[0] == 0 and told("explain", it)[1].startswith(it.upper() + " ") for it in codes | small)
-        return len(codes) == 48 and small == {it.lower() for it in codes if it[0] == "P"} and known
+        return len(codes) == 50 and small == {it.lower() for it in codes if it[0] == "P"} and known
     if name == "forms":
         return forms_are_whole("export", "--features", "none") and forms_are_whole("review") and forms_are_whole("summary", "none")
     return completed(name, "--") == options(name)
