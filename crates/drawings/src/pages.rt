@@ -1,16 +1,18 @@
 // The whole page.
 
 ghost use Rattle.std.specs.Prelude.{◌≡◌, ◌<◌, ◌++◌, drop, length, IfOk, OnOk};
-ghost use Rattle.drawings.specs.Names.{flat_map, Adds, style, page_head, complete_start, missing_label, complete_text, within_start, within_line, within_text, limits_text, audit_start, verdict_text, errors_text, audit_text, names_text, notes_text, program_line, program_text, summary_text, page_end, IsPage};
+ghost use Rattle.drawings.specs.Names.{flat_map, Adds, style, page_head, complete_start, missing_label, complete_text, within_start, within_line, within_text, limits_text, broken_start, broken_end, broken_text, seals_text, audit_start, verdict_text, errors_text, audit_text, names_text, notes_text, program_line, program_text, summary_text, title_of, page_end, IsPage};
 
 use crate::bar_cells::greatest;
 use crate::drawing::write_drawing;
 use crate::markup::{put_between, put_count};
 use crate::sections::put_sections;
-use crate::texts::put_markup;
+use crate::texts::{put_markup, put_number};
+use crate::title::Title;
 use contact_ledger::Feature;
 use deviations::{Limits, Row, compared_count, out_count};
 use dmis_program::{Program, Wanted};
+use record_seal::SealVerdict;
 use std::alloc::{AllocError, Global};
 use std::marker::Model;
 
@@ -21,6 +23,10 @@ pub struct Facts<'a> {
     pub part: &'a [u8],
     /// The name of the program.
     pub program: &'a [u8],
+    /// When its last feature was complete; empty if that is not noted.
+    pub time: &'a [u8],
+    /// What the seals of the record say.
+    pub seals: SealVerdict,
     /// Whether each feature has its run of contacts.
     pub sound: bool,
     /// The line of the audit.
@@ -39,6 +45,8 @@ impl<'a> Model for Facts<'a> {
     ghost view = { λ f. record {
       part = f.part.now;
       program = f.program.now;
+      time = f.time.now;
+      seals = f.seals;
       sound = f.sound;
       verdict = f.verdict.now;
       errors = f.errors.now;
@@ -57,6 +65,18 @@ impl<'a> Facts<'a> {
         ensures { result.now ≡ self.now.program }
     {
         self.program
+    }
+
+    fn time(&self) -> &[u8]
+        ensures { result.now ≡ self.now.time }
+    {
+        self.time
+    }
+
+    fn seals(&self) -> SealVerdict
+        ensures { result ≡ self.now.seals }
+    {
+        self.seals
     }
 
     fn is_sound(&self) -> bool
@@ -84,8 +104,8 @@ impl<'a> Facts<'a> {
     }
 }
 
-/// How a browser shows the page: light or dark as its reader has it, and also on A4.
-fn style() -> &'static [u8]
+/// How a browser shows a page, from its title to its body: light or dark as its reader has it, and also on A4.
+pub fn style() -> &'static [u8]
     ensures { result.now ≡ style }
 {
     b"</title>\n<style>\n\
@@ -178,8 +198,9 @@ fn within_start(outside: usize, compared: usize, complete: bool, others: usize) 
     }
 }
 
+/// Appends how many points are out of limits, of how many that are compared, and how many others there are. Fails only if out of memory.
 #[tactic(auto, unfolding(crate::specs::Pages::within_line))]
-fn put_within_line(
+pub fn put_within_line(
     out: &mut Vec<u8>,
     outside: usize,
     compared: usize,
@@ -231,6 +252,48 @@ fn put_limits(
             out,
             b"<p class=\"open\"><b>Not compared with limits:</b> none were named.</p>\n",
         ),
+    }
+}
+
+#[tactic(auto, unfolding(crate::specs::Pages::broken_start))]
+fn broken_start() -> &'static [u8]
+    ensures { result.now ≡ broken_start }
+{
+    b"<p class=\"no\"><b>Seals do not hold:</b> no true seal stands for line "
+}
+
+#[tactic(auto, unfolding(crate::specs::Pages::broken_end))]
+fn broken_end() -> &'static [u8]
+    ensures { result.now ≡ broken_end }
+{
+    b" of the record.</p>\n"
+}
+
+fn put_broken(out: &mut Vec<u8>, line: u64) -> Result<(), AllocError>
+    ensures { OnOk result (out.new.items ≡ out.old.items ++ broken_text line) }
+{
+    put_markup(out, broken_start())?;
+    put_number(out, line)?;
+    put_markup(out, broken_end())
+}
+
+fn put_seals(out: &mut Vec<u8>, seals: SealVerdict) -> Result<(), AllocError>
+    ensures { OnOk result (out.new.items ≡ out.old.items ++ seals_text seals) }
+{
+    match seals {
+        SealVerdict::Unsealed => put_markup(
+            out,
+            b"<p class=\"open\"><b>Not sealed:</b> the record has no seal.</p>\n",
+        ),
+        SealVerdict::Unjudged => put_markup(
+            out,
+            b"<p class=\"open\"><b>Seals not checked:</b> no key was named.</p>\n",
+        ),
+        SealVerdict::Sealed => put_markup(
+            out,
+            b"<p class=\"yes\"><b>Sealed:</b> a true seal stands for each line of the record.</p>\n",
+        ),
+        SealVerdict::Open(line) => put_broken(out, line),
     }
 }
 
@@ -320,6 +383,7 @@ fn put_summary(
     put_names(out, facts)?;
     put_complete(out, measured, wanted)?;
     put_limits(out, limits, measured == wanted.len(), rows)?;
+    put_seals(out, facts.seals())?;
     put_audit(out, facts, measured)?;
     put_markup(
         out,
@@ -333,12 +397,22 @@ fn put_end(out: &mut Vec<u8>) -> Result<(), AllocError>
 {
     put_markup(
         out,
-        b"<h2>How to check this page</h2>\n<p><code>dme audit --record FILE [--setup FILE] PROGRAM</code> audits the record again, ",
+        b"<h2>How to check this page</h2>\n<p><code>dme audit --record FILE [--setup FILE] [--seal-key FILE] PROGRAM</code> audits the record again, ",
     )?;
     put_markup(
         out,
         b"<code>dme export --as csv --record FILE [--setup FILE] [--limits FILE] PROGRAM</code> prints the same numbers.</p>\n</body></html>\n",
     )
+}
+
+fn title_of<'a>(facts: &'a Facts<'_>) -> Title<'a>
+    ensures { result ≡ title_of facts.now }
+{
+    Title {
+        part: facts.part(),
+        program: facts.program(),
+        time: facts.time(),
+    }
 }
 
 fn put_page(
@@ -358,7 +432,7 @@ fn put_page(
     put_head(out, facts)?;
     put_summary(out, facts, measured, wanted, limits, rows)?;
     put_sections(alloc, out, greatest(rows), limits, measured, wanted, rows)?;
-    write_drawing(alloc, out, program, features)?;
+    write_drawing(alloc, out, &title_of(facts), program, features)?;
     put_end(out)
 }
 
