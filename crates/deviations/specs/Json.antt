@@ -1,8 +1,8 @@
 -- The table of deviations as JSON (RFC 8259): an array with an object for each row, whose members are named as the columns of the
 -- comma-separated values are. Lengths are numbers in millimetres with three decimals, components of normals have six; null is written where
 -- there is no value.
-use Rattle.std.specs.Prelude.{◌≡◌, ℕ, List, [], ◌∷◌, ◌++◌, codes, decimal, ℤ, Option, Some, None, Result, OnOk}
-use Rattle.json.specs.Token.{Token, begin_object, end_object, begin_array, end_array, key, string, number, null}
+use Rattle.std.specs.Prelude.{◌≡◌, ℕ, List, [], ◌∷◌, ◌++◌, codes, decimal, ℤ, Option, Some, None, Result, OnOk, is_none}
+use Rattle.json.specs.Token.{Token, begin_object, end_object, begin_array, end_array, key, string, number, boolean, null}
 use Rattle.json.specs.Print.{print}
 use Rattle.json.specs.Written.{Written}
 use Rattle.fixed_um.specs.Points.{zero_point}
@@ -14,6 +14,7 @@ use Rattle.fixed_um.specs.declared.lengths.Point.{Point}
 use Rattle.deviations.specs.declared.along.Deviation.{Deviation}
 use Rattle.deviations.specs.Judged.{row_verdict, verdict_word}
 use Rattle.deviations.specs.Rows.{Row}
+use Rattle.deviations.specs.Styles.{RowsOf}
 use Rattle.deviations.specs.declared.entries.Limit.{Limit}
 use Rattle.deviations.specs.declared.ranges.Verdict.{Verdict}
 
@@ -114,24 +115,30 @@ unfoldable pub means_members : Row → List Token
 means_members r = tool_member r.place.touch.tool ++ (kind_member r.place.touch.frame ++ (place_members (place_of r.place.touch.frame)
     ++ connection_member r.place.connection))
 
+-- what a row says first
+unfoldable pub of_members : Option RowsOf → Option Point → List Token
+of_members None measured = []
+of_members (Some of) measured = key (codes "part") ∷ string of.part ∷ key (codes "program") ∷ string of.program
+    ∷ key (codes "missing") ∷ boolean (is_none measured) ∷ []
+
 -- the object of a row
-unfoldable pub row_tokens : Option (List Limit) → Row → List Token
-row_tokens limits r = begin_object ∷ (asked_members r ++ (found_members r ++ (means_members r ++ (limit_member limits r
-    ++ end_object ∷ []))))
+unfoldable pub row_tokens : Option RowsOf → Option (List Limit) → Row → List Token
+row_tokens of limits r = begin_object ∷ (of_members of r.place.measured ++ (asked_members r ++ (found_members r ++ (means_members r ++ (limit_member limits r
+    ++ end_object ∷ [])))))
 
 -- the objects of rows
-abbrev pub rows_tokens : Option (List Limit) → List Row → List Token
-rows_tokens limits [] = []
-rows_tokens limits (r ∷ rows) = row_tokens limits r ++ rows_tokens limits rows
+abbrev pub rows_tokens : Option RowsOf → Option (List Limit) → List Row → List Token
+rows_tokens of limits [] = []
+rows_tokens of limits (r ∷ rows) = row_tokens of limits r ++ rows_tokens of limits rows
 
 -- the array of a table
-abbrev pub json_tokens : Option (List Limit) → List Row → List Token
-json_tokens limits rows = begin_array ∷ (rows_tokens limits rows ++ end_array ∷ [])
+abbrev pub json_tokens : Option RowsOf → Option (List Limit) → List Row → List Token
+json_tokens of limits rows = begin_array ∷ (rows_tokens of limits rows ++ end_array ∷ [])
 
 -- its text
-abbrev pub array_text : Option (List Limit) → List Row → List ℕ
-array_text limits rows = print (json_tokens limits rows)
+abbrev pub array_text : Option RowsOf → Option (List Limit) → List Row → List ℕ
+array_text of limits rows = print (json_tokens of limits rows)
 
 -- the text of a table
-abbrev pub json_of : Option (List Limit) → List Row → List ℕ
-json_of limits rows = array_text limits rows ++ codes "\n"
+abbrev pub json_of : Option RowsOf → Option (List Limit) → List Row → List ℕ
+json_of of limits rows = array_text of limits rows ++ codes "\n"

@@ -1,3 +1,4 @@
+pub mod Styles
 pub mod Along
 pub mod Rows
 pub mod Judged

@@ -2,7 +2,7 @@
 -- components of normals have six; a field is empty where there is no value.
 use Rattle.std.specs.Prelude.{◌≡◌, ℕ, List, [], ◌∷◌, ◌++◌, codes, decimal, ℤ, Option, Some, None, Result, OnOk}
 use Rattle.csv.specs.Records.{fields_of, partial_of}
-use Rattle.csv.specs.Writing.{default_writer, row_text}
+use Rattle.csv.specs.Writing.{row_text}
 use Rattle.csv.specs.declared.record.ByteRecord.{ByteRecord}
 use Rattle.fixed_um.specs.Points.{zero_point}
 use Rattle.fixed_um.specs.Shapes.{Direction}
@@ -14,6 +14,8 @@ use Rattle.contact_ledger.specs.Fields.{point_fields}
 use Rattle.deviations.specs.declared.along.Deviation.{Deviation}
 use Rattle.deviations.specs.Judged.{row_verdict, verdict_word}
 use Rattle.deviations.specs.Rows.{Row}
+use Rattle.deviations.specs.Styles.{TableStyle, of_fields, of_header, styled, writer_with}
+use Rattle.deviations.specs.declared.styles.DecimalSign.{DecimalSign}
 use Rattle.deviations.specs.declared.entries.Limit.{Limit}
 use Rattle.deviations.specs.declared.ranges.Verdict.{Verdict}
 
@@ -42,9 +44,9 @@ along_fields (Some r) = written r ∷ []
 along_fields None = [] ∷ []
 
 -- whose axes, and where their zero point is in machine axes
-abbrev pub frame_columns : Frame → List (List ℕ)
-frame_columns Machine = codes "MACHINE" ∷ point_fields zero_point
-frame_columns (Part offset) = codes "PART" ∷ point_fields offset
+abbrev pub frame_columns : DecimalSign → Frame → List (List ℕ)
+frame_columns sign Machine = codes "MACHINE" ∷ styled sign (point_fields zero_point)
+frame_columns sign (Part offset) = codes "PART" ∷ styled sign (point_fields offset)
 
 -- the number of a connection
 abbrev pub connection_fields : Option ℕ → List (List ℕ)
@@ -59,10 +61,12 @@ header = codes "feature" ∷ codes "point" ∷ codes "nominal_x" ∷ codes "nomi
     ∷ codes "frame_z" ∷ codes "connection" ∷ []
 
 -- the record of a row
-abbrev pub record_of : Row → List (List ℕ)
-record_of r = (r.place.feature ∷ decimal r.place.number ∷ []) ++ (point_fields r.place.touch.target ++ (normal_fields r.place.touch.dir
-    ++ (measured_fields r.place.measured ++ (deviation_fields r.deviation ++ (along_fields r.along ++ ((r.place.touch.tool ∷ [])
-    ++ (frame_columns r.place.touch.frame ++ connection_fields r.place.connection)))))))
+abbrev pub record_of : TableStyle → Row → List (List ℕ)
+record_of s r = of_fields s.of r.place.measured ++ ((r.place.feature ∷ decimal r.place.number ∷ [])
+    ++ (styled s.sign (point_fields r.place.touch.target) ++ (styled s.sign (normal_fields r.place.touch.dir)
+    ++ (styled s.sign (measured_fields r.place.measured) ++ (styled s.sign (deviation_fields r.deviation)
+    ++ (styled s.sign (along_fields r.along) ++ ((r.place.touch.tool ∷ [])
+    ++ (frame_columns s.sign r.place.touch.frame ++ connection_fields r.place.connection))))))))
 
 -- whether a point is within its limit, or an empty field
 abbrev pub verdict_field : Option Verdict → List ℕ
@@ -79,10 +83,10 @@ limit_fields (Some limits) r = verdict_field (row_verdict limits r) ∷ []
 limit_fields None r = []
 
 -- the text of a list of rows
-abbrev pub records_text : Option (List Limit) → List Row → List ℕ
-records_text limits [] = []
-records_text limits (r ∷ rows) = row_text default_writer (record_of r ++ limit_fields limits r) ++ records_text limits rows
+abbrev pub records_text : TableStyle → Option (List Limit) → List Row → List ℕ
+records_text s limits [] = []
+records_text s limits (r ∷ rows) = row_text (writer_with s.separator) (record_of s r ++ limit_fields limits r) ++ records_text s limits rows
 
 -- the text of a table
-abbrev pub csv_text : Option (List Limit) → List Row → List ℕ
-csv_text limits rows = row_text default_writer (header ++ limit_header limits) ++ records_text limits rows
+abbrev pub csv_text : TableStyle → Option (List Limit) → List Row → List ℕ
+csv_text s limits rows = row_text (writer_with s.separator) (of_header s.of ++ (header ++ limit_header limits)) ++ records_text s limits rows

@@ -1,12 +1,14 @@
 // The table as JSON.
 
 ghost use Rattle.std.specs.Prelude.{◌≡◌, ◌++◌, ◌∷◌, [], IfOk, OnOk, decimal};
+ghost use Rattle.deviations.specs.Json.{of_members};
 ghost use Rattle.deviations.specs.Names.{key, number, string, null, tokens, Writes, Puts, length_member, length_members, null_members, component_member, components_of, length_or_null, kind_of, place_of, feature_member, count_member, nominal_members, normal_members, measured_members, deviation_members, along_member, tool_member, kind_member, place_members, connection_member, verdict_member, limit_member, asked_members, found_members, means_members, row_tokens, json_tokens, array_text, json_of};
 
 use crate::along::Deviation;
 use crate::judged::{row_verdict, verdict_word};
 use crate::printed::{Micrometres, Millionths};
 use crate::rows::Row;
+use crate::styles::RowsOf;
 use crate::{Limits, Verdict};
 use fixed_um::{Dir, Frame, Name, Point};
 use json::Writer;
@@ -323,16 +325,32 @@ fn put_means(alloc: Global, json: &mut Writer, row: &Row<'_>) -> Result<(), Allo
     Ok(())
 }
 
+/// What a row says first.
+#[tactic(auto, unfolding(crate::specs::Json::of_members))]
+fn put_of(json: &mut Writer, of: &Option<RowsOf<'_>>, row: &Row<'_>) -> Result<(), AllocError>
+    ensures { Puts result json.old json.new (of_members of.now row.now.place.measured) }
+{
+    let Some(of) = of else {
+        return Ok(());
+    };
+    put_text(json, "part", of.part)?;
+    put_text(json, "program", of.program)?;
+    json.key("missing")?;
+    json.boolean(row.measured().is_none())
+}
+
 #[tactic(auto, unfolding(crate::specs::Json::row_tokens))]
 fn put_row(
     alloc: Global,
     json: &mut Writer,
+    of: &Option<RowsOf<'_>>,
     limits: &Option<Limits>,
     row: &Row<'_>,
 ) -> Result<(), AllocError>
-    ensures { Puts result json.old json.new (row_tokens limits.now row.now) }
+    ensures { Puts result json.old json.new (row_tokens of.now limits.now row.now) }
 {
     json.begin_object()?;
+    put_of(json, of, row)?;
     put_asked(alloc, json, row)?;
     put_found(alloc, json, row)?;
     put_means(alloc, json, row)?;
@@ -344,23 +362,25 @@ fn put_row(
 /// Appends a table as JSON (RFC 8259), in one line that ends with LF: an array with an object for each row, its members named as the
 /// columns of `write_csv` are. A length is a number in millimetres with three decimals, a component of a normal one with six, each written
 /// exactly and without floating point; `null` is written if there is no normal, if it is not known which connection a feature comes from,
-/// or if a point was not measured. With limits each object has a member `limit` too, `"in"`, `"out"`, or `null` if no limit is for the
+/// or if a point was not measured. If part and program are given, each object says them first, and `missing`, which is whether its point was
+/// not measured. With limits each object has a member `limit` too, `"in"`, `"out"`, or `null` if no limit is for the
 /// point. Fails only if out of memory, and then appends nothing.
 pub fn write_json(
     out: &mut Vec<u8>,
+    of: &Option<RowsOf<'_>>,
     limits: &Option<Limits>,
     rows: &[Row<'_>],
 ) -> Result<(), AllocError>
-    ensures text { Writes result out.old out.new (json_of limits.now rows.now) }
-    ensures reads_back { OnOk result (tokens (array_text limits.now rows.now)
-        ≡ json_tokens limits.now rows.now) }
+    ensures text { Writes result out.old out.new (json_of of.now limits.now rows.now) }
+    ensures reads_back { OnOk result (tokens (array_text of.now limits.now rows.now)
+        ≡ json_tokens of.now limits.now rows.now) }
 {
     let alloc = *out.allocator();
     let mut json = Writer::new(Vec::new(alloc));
     json.begin_array()?;
     let mut left = rows;
     while let [row, others @ ..] = left {
-        put_row(alloc, &mut json, limits, row)?;
+        put_row(alloc, &mut json, of, limits, row)?;
         left = others;
     }
     json.end_array()?;

@@ -1,35 +1,66 @@
 // The table as comma-separated values.
 
 ghost use Rattle.std.specs.Prelude.{◌≡◌, ◌++◌, ◌∷◌, [], IfOk, OnOk, map, decimal};
-ghost use Rattle.deviations.specs.Names.{partial_of, default_writer, row_text, Writes, written, written_component, point_fields, Joins, normal_fields, measured_fields, deviation_fields, along_fields, frame_columns, connection_fields, header, record_of, verdict_field, limit_header, records_text, csv_text};
+ghost use Rattle.deviations.specs.Names.{partial_of, row_text, Writes, written, written_component, point_fields, Joins, normal_fields, measured_fields, deviation_fields, along_fields, frame_columns, connection_fields, header, record_of, verdict_field, limit_header, records_text, csv_text};
 ghost use Rattle.csv.specs.Records.{fields_of};
+ghost use Rattle.deviations.specs.Styles.{of_fields, of_header, styled, writer_with};
 ghost use Rattle.deviations.specs.Records.{limit_fields};
 
 use crate::along::Deviation;
 use crate::judged::{row_verdict, verdict_word};
 use crate::printed::{Micrometres, Millionths};
 use crate::rows::Row;
+use crate::styles::{
+    DecimalSign, RowsOf, Separator, TableStyle, missing_word, signed, writer_with,
+};
 use crate::{Limits, Verdict};
-use csv::{ByteRecord, WriterBuilder};
+use csv::ByteRecord;
 use fixed_um::{Dir, Frame, Point};
 use std::alloc::{AllocError, Global};
 
-fn push_length(alloc: Global, columns: &mut ByteRecord, length: i128) -> Result<(), AllocError>
+/// Adds a number with its decimal sign.
+fn push_numeral(
+    alloc: Global,
+    columns: &mut ByteRecord,
+    sign: DecimalSign,
+    numeral: &[u8],
+) -> Result<(), AllocError>
     requires { partial_of columns.old ≡ [] }
-    ensures { Joins result columns.old columns.new (written length ∷ []) }
+    ensures { Joins result columns.old columns.new (styled sign (numeral.now ∷ [])) }
+{
+    let mut shown = Vec::new(alloc);
+    for byte in numeral {
+        shown.push(signed(sign, *byte))?;
+    }
+    columns.push_field(shown.as_slice())
+}
+
+fn push_length(
+    alloc: Global,
+    columns: &mut ByteRecord,
+    sign: DecimalSign,
+    length: i128,
+) -> Result<(), AllocError>
+    requires { partial_of columns.old ≡ [] }
+    ensures { Joins result columns.old columns.new (styled sign (written length ∷ [])) }
 {
     let length = Micrometres(length);
     let text = format!(in alloc; "{length}")?;
-    columns.push_field(text.as_str().as_bytes())
+    push_numeral(alloc, columns, sign, text.as_bytes())
 }
 
-fn push_component(alloc: Global, columns: &mut ByteRecord, component: i64) -> Result<(), AllocError>
+fn push_component(
+    alloc: Global,
+    columns: &mut ByteRecord,
+    sign: DecimalSign,
+    component: i64,
+) -> Result<(), AllocError>
     requires { partial_of columns.old ≡ [] }
-    ensures { Joins result columns.old columns.new (written_component component ∷ []) }
+    ensures { Joins result columns.old columns.new (styled sign (written_component component ∷ [])) }
 {
     let component = Millionths(component);
     let text = format!(in alloc; "{component}")?;
-    columns.push_field(text.as_str().as_bytes())
+    push_numeral(alloc, columns, sign, text.as_bytes())
 }
 
 fn push_number(alloc: Global, columns: &mut ByteRecord, number: u64) -> Result<(), AllocError>
@@ -40,28 +71,34 @@ fn push_number(alloc: Global, columns: &mut ByteRecord, number: u64) -> Result<(
     columns.push_field(text.as_str().as_bytes())
 }
 
-fn push_point(alloc: Global, columns: &mut ByteRecord, point: Point) -> Result<(), AllocError>
+fn push_point(
+    alloc: Global,
+    columns: &mut ByteRecord,
+    sign: DecimalSign,
+    point: Point,
+) -> Result<(), AllocError>
     requires { partial_of columns.old ≡ [] }
-    ensures { Joins result columns.old columns.new (point_fields point) }
+    ensures { Joins result columns.old columns.new (styled sign (point_fields point)) }
 {
-    push_length(alloc, columns, i128::from(point.x.get()))?;
-    push_length(alloc, columns, i128::from(point.y.get()))?;
-    push_length(alloc, columns, i128::from(point.z.get()))
+    push_length(alloc, columns, sign, i128::from(point.x.get()))?;
+    push_length(alloc, columns, sign, i128::from(point.y.get()))?;
+    push_length(alloc, columns, sign, i128::from(point.z.get()))
 }
 
 fn push_normal(
     alloc: Global,
     columns: &mut ByteRecord,
+    sign: DecimalSign,
     normal: Option<Dir>,
 ) -> Result<(), AllocError>
     requires { partial_of columns.old ≡ [] }
-    ensures { Joins result columns.old columns.new (normal_fields normal) }
+    ensures { Joins result columns.old columns.new (styled sign (normal_fields normal)) }
 {
     match normal {
         Some(direction) => {
-            push_component(alloc, columns, i64::from(direction.i))?;
-            push_component(alloc, columns, i64::from(direction.j))?;
-            push_component(alloc, columns, i64::from(direction.k))
+            push_component(alloc, columns, sign, i64::from(direction.i))?;
+            push_component(alloc, columns, sign, i64::from(direction.j))?;
+            push_component(alloc, columns, sign, i64::from(direction.k))
         }
         None => push_nothing(columns),
     }
@@ -79,13 +116,14 @@ fn push_nothing(columns: &mut ByteRecord) -> Result<(), AllocError>
 fn push_measured(
     alloc: Global,
     columns: &mut ByteRecord,
+    sign: DecimalSign,
     measured: Option<Point>,
 ) -> Result<(), AllocError>
     requires { partial_of columns.old ≡ [] }
-    ensures { Joins result columns.old columns.new (measured_fields measured) }
+    ensures { Joins result columns.old columns.new (styled sign (measured_fields measured)) }
 {
     match measured {
-        Some(point) => push_point(alloc, columns, point),
+        Some(point) => push_point(alloc, columns, sign, point),
         None => push_nothing(columns),
     }
 }
@@ -93,16 +131,17 @@ fn push_measured(
 fn push_deviation(
     alloc: Global,
     columns: &mut ByteRecord,
+    sign: DecimalSign,
     deviation: Option<Deviation>,
 ) -> Result<(), AllocError>
     requires { partial_of columns.old ≡ [] }
-    ensures { Joins result columns.old columns.new (deviation_fields deviation) }
+    ensures { Joins result columns.old columns.new (styled sign (deviation_fields deviation)) }
 {
     match deviation {
         Some(deviation) => {
-            push_length(alloc, columns, i128::from(deviation.x))?;
-            push_length(alloc, columns, i128::from(deviation.y))?;
-            push_length(alloc, columns, i128::from(deviation.z))
+            push_length(alloc, columns, sign, i128::from(deviation.x))?;
+            push_length(alloc, columns, sign, i128::from(deviation.y))?;
+            push_length(alloc, columns, sign, i128::from(deviation.z))
         }
         None => push_nothing(columns),
     }
@@ -111,29 +150,35 @@ fn push_deviation(
 fn push_along(
     alloc: Global,
     columns: &mut ByteRecord,
+    sign: DecimalSign,
     along: Option<i128>,
 ) -> Result<(), AllocError>
     requires { partial_of columns.old ≡ [] }
-    ensures { Joins result columns.old columns.new (along_fields along) }
+    ensures { Joins result columns.old columns.new (styled sign (along_fields along)) }
 {
     match along {
-        Some(length) => push_length(alloc, columns, length),
+        Some(length) => push_length(alloc, columns, sign, length),
         None => columns.push_field(b""),
     }
 }
 
-fn push_frame(alloc: Global, columns: &mut ByteRecord, frame: Frame) -> Result<(), AllocError>
+fn push_frame(
+    alloc: Global,
+    columns: &mut ByteRecord,
+    sign: DecimalSign,
+    frame: Frame,
+) -> Result<(), AllocError>
     requires { partial_of columns.old ≡ [] }
-    ensures { Joins result columns.old columns.new (frame_columns frame) }
+    ensures { Joins result columns.old columns.new (frame_columns sign frame) }
 {
     match frame {
         Frame::Machine => {
             columns.push_field(b"MACHINE")?;
-            push_point(alloc, columns, Point::zero())
+            push_point(alloc, columns, sign, Point::zero())
         }
         Frame::Part(offset) => {
             columns.push_field(b"PART")?;
-            push_point(alloc, columns, offset)
+            push_point(alloc, columns, sign, offset)
         }
     }
 }
@@ -152,20 +197,38 @@ fn push_connection(
     }
 }
 
-fn record_of(alloc: Global, row: &Row<'_>) -> Result<ByteRecord, AllocError>
-    ensures fields { IfOk result (λ columns. fields_of columns ≡ record_of row.now) }
+/// Adds what a row says first.
+fn push_of(
+    columns: &mut ByteRecord,
+    of: &Option<RowsOf<'_>>,
+    row: &Row<'_>,
+) -> Result<(), AllocError>
+    requires { partial_of columns.old ≡ [] }
+    ensures { Joins result columns.old columns.new (of_fields of.now row.now.place.measured) }
+{
+    let Some(of) = of else {
+        return Ok(());
+    };
+    columns.push_field(of.part.as_bytes())?;
+    columns.push_field(of.program.as_bytes())?;
+    columns.push_field(missing_word(row.measured().is_none()).as_bytes())
+}
+
+fn record_of(alloc: Global, style: &TableStyle<'_>, row: &Row<'_>) -> Result<ByteRecord, AllocError>
+    ensures fields { IfOk result (λ columns. fields_of columns ≡ record_of style.now row.now) }
     ensures whole { IfOk result (λ columns. partial_of columns ≡ []) }
 {
     let mut columns = ByteRecord::new(alloc);
+    push_of(&mut columns, &style.of, row)?;
     columns.push_field(row.feature().as_bytes())?;
     push_number(alloc, &mut columns, row.number())?;
-    push_point(alloc, &mut columns, row.nominal())?;
-    push_normal(alloc, &mut columns, row.normal())?;
-    push_measured(alloc, &mut columns, row.measured())?;
-    push_deviation(alloc, &mut columns, row.deviation())?;
-    push_along(alloc, &mut columns, row.along())?;
+    push_point(alloc, &mut columns, style.sign, row.nominal())?;
+    push_normal(alloc, &mut columns, style.sign, row.normal())?;
+    push_measured(alloc, &mut columns, style.sign, row.measured())?;
+    push_deviation(alloc, &mut columns, style.sign, row.deviation())?;
+    push_along(alloc, &mut columns, style.sign, row.along())?;
     columns.push_field(row.tool().as_bytes())?;
-    push_frame(alloc, &mut columns, row.frame())?;
+    push_frame(alloc, &mut columns, style.sign, row.frame())?;
     push_connection(alloc, &mut columns, row.connection())?;
     Ok(columns)
 }
@@ -196,21 +259,27 @@ fn push_limit(
 /// The record of a row, with its limit's column if there are limits.
 fn judged_record(
     alloc: Global,
+    style: &TableStyle<'_>,
     limits: &Option<Limits>,
     row: &Row<'_>,
 ) -> Result<ByteRecord, AllocError>
     ensures { IfOk result (λ columns. fields_of columns
-        ≡ record_of row.now ++ limit_fields limits.now row.now) }
+        ≡ record_of style.now row.now ++ limit_fields limits.now row.now) }
 {
-    let mut columns = record_of(alloc, row)?;
+    let mut columns = record_of(alloc, style, row)?;
     push_limit(&mut columns, limits, row)?;
     Ok(columns)
 }
 
-fn record_text(alloc: Global, columns: &ByteRecord) -> Result<Vec<u8>, AllocError>
-    ensures { IfOk result (λ text. text.items ≡ row_text default_writer (fields_of columns.now)) }
+fn record_text(
+    alloc: Global,
+    separator: Separator,
+    columns: &ByteRecord,
+) -> Result<Vec<u8>, AllocError>
+    ensures { IfOk result (λ text. text.items
+        ≡ row_text (writer_with separator) (fields_of columns.now)) }
 {
-    let mut writer = WriterBuilder::new().from_writer(Vec::new(alloc));
+    let mut writer = writer_with(separator).from_writer(Vec::new(alloc));
     match writer.write_byte_record(columns) {
         Ok(()) => {}
         Err(_) => return Err(AllocError),
@@ -221,12 +290,34 @@ fn record_text(alloc: Global, columns: &ByteRecord) -> Result<Vec<u8>, AllocErro
     }
 }
 
-fn header(alloc: Global) -> Result<ByteRecord, AllocError>
-    ensures fields { IfOk result (λ columns. fields_of columns ≡ header) }
-    ensures whole { IfOk result (λ columns. partial_of columns ≡ []) }
+/// Adds these fields.
+fn push_all(columns: &mut ByteRecord, fields: &[&[u8]]) -> Result<(), AllocError>
+    requires { partial_of columns.old ≡ [] }
+    ensures { Joins result columns.old columns.new (map (λ f. f.now) fields.now) }
 {
-    ByteRecord::from_fields(
-        alloc,
+    for field in fields {
+        columns.push_field(field)?;
+    }
+    Ok(())
+}
+
+/// The names of what a row says first.
+fn push_of_header(columns: &mut ByteRecord, of: &Option<RowsOf<'_>>) -> Result<(), AllocError>
+    requires { partial_of columns.old ≡ [] }
+    ensures { Joins result columns.old columns.new (of_header of.now) }
+{
+    match of {
+        Some(_) => push_all(columns, &[b"part", b"program", b"missing"]),
+        None => Ok(()),
+    }
+}
+
+fn push_header(columns: &mut ByteRecord) -> Result<(), AllocError>
+    requires { partial_of columns.old ≡ [] }
+    ensures { Joins result columns.old columns.new header }
+{
+    push_all(
+        columns,
         &[
             b"feature",
             b"point",
@@ -254,10 +345,17 @@ fn header(alloc: Global) -> Result<ByteRecord, AllocError>
 }
 
 /// The names of the columns, with that of limits if there are limits.
-fn judged_header(alloc: Global, limits: &Option<Limits>) -> Result<ByteRecord, AllocError>
-    ensures { IfOk result (λ columns. fields_of columns ≡ header ++ limit_header limits.now) }
+fn judged_header(
+    alloc: Global,
+    style: &TableStyle<'_>,
+    limits: &Option<Limits>,
+) -> Result<ByteRecord, AllocError>
+    ensures { IfOk result (λ columns. fields_of columns
+        ≡ of_header style.now.of ++ (header ++ limit_header limits.now)) }
 {
-    let mut columns = header(alloc)?;
+    let mut columns = ByteRecord::new(alloc);
+    push_of_header(&mut columns, &style.of)?;
+    push_header(&mut columns)?;
     match limits {
         Some(_) => columns.push_field(b"limit")?,
         None => {}
@@ -265,23 +363,29 @@ fn judged_header(alloc: Global, limits: &Option<Limits>) -> Result<ByteRecord, A
     Ok(columns)
 }
 
-/// Appends a table as comma-separated values (RFC 4180), a header and a record for each row: lengths in millimetres with three decimals,
-/// normals with six. A field is empty if there is no normal, if it is not known which connection a feature comes from, or if a point was
+/// Appends a table as comma-separated values (RFC 4180) in a style, a header and a record for each row: lengths in millimetres with three
+/// decimals, normals with six. If the style names part and program, the first columns are `part`, `program` and `missing`, which is `yes`
+/// for a point that was not measured, else `no`. A field is empty if there is no normal, if it is not known which connection a feature comes from, or if a point was
 /// not measured. With limits there is a last column `limit`: `in`, `out`, or empty if no limit is for the point. Lines end with LF. Fails
 /// only if out of memory, and then appends nothing.
 pub fn write_csv(
     out: &mut Vec<u8>,
+    style: &TableStyle<'_>,
     limits: &Option<Limits>,
     rows: &[Row<'_>],
 ) -> Result<(), AllocError>
-    ensures { Writes result out.old out.new (csv_text limits.now rows.now) }
+    ensures { Writes result out.old out.new (csv_text style.now limits.now rows.now) }
 {
     let alloc = *out.allocator();
-    let mut text = record_text(alloc, &judged_header(alloc, limits)?)?;
+    let mut text = record_text(
+        alloc,
+        style.separator,
+        &judged_header(alloc, style, limits)?,
+    )?;
     let mut left = rows;
     while let [row, others @ ..] = left {
-        let columns = judged_record(alloc, limits, row)?;
-        let line = record_text(alloc, &columns)?;
+        let columns = judged_record(alloc, style, limits, row)?;
+        let line = record_text(alloc, style.separator, &columns)?;
         text.extend_from_slice(line.as_slice())?;
         left = others;
     }

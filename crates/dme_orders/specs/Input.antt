@@ -5,11 +5,13 @@ use Rattle.contact_ledger.specs.declared.features.Feature.{Feature}
 use Rattle.dmis_program.specs.Meaning.{Meaning}
 use Rattle.link_world.specs.declared.texts.schedules.Instruction.{Instruction}
 use Rattle.deviations.specs.declared.entries.Limit.{Limit}
+use Rattle.record_seal.specs.Seals.{seal_verdict}
+use Rattle.record_seal.specs.declared.seals.SealVerdict.{SealVerdict}
 use Rattle.record_text.specs.Records.{Recorded}
 use Rattle.tool_rack.specs.Setups.{SetupValue}
 use Rattle.program_review.specs.Reviews.{frames_under}
 use Rattle.order_parts.specs.declared.faults.FilesFault.{FilesFault}
-use Rattle.dme_orders.specs.Reading.{Came, came, IsUntouched, ReadsSetup, WhyNoSetup, ReadsSchedule, WhyNoSchedule, ReadsFeatures}
+use Rattle.dme_orders.specs.Reading.{Came, came, IsUntouched, Reads, ReadsSetup, WhyNoSetup, ReadsSchedule, WhyNoSchedule, ReadsFeatures}
 use Rattle.dme_orders.specs.Reading.{WhyNoFeatures, ReadsContacts, WhyNoContacts, ReadsRecord, WhyNoRecord, ReadsLimits, WhyNoLimits, WhyNoSealed}
 use Rattle.dme_orders.specs.Reading.{ReadsProgram, WhyNoProgram}
 
@@ -176,3 +178,14 @@ module _ {S J R : Type 0} (s : Named S) (j : Came J) (r : Came R) where
   abbrev pub WhyNoneSealed : Option (List ℕ) → FilesFault → Type 0
   WhyNoneSealed key = InTurn (ReadsNamed s) (WhyNoNamed s) (IsUntouched j × IsUntouched r) (λ setup.
       InTurn (ReadsRecord j) (WhyNoSealed j key) (IsUntouched r) (λ held. WhyNoProgram r (frames_under setup)))
+
+-- likewise, and what the seals of the record say
+pub record JudgedInput : Type 0 where
+  pub seals : SealVerdict
+  pub files : RecordInput
+
+module _ {S J R : Type 0} (s : Named S) (j : Came J) (r : Came R) where
+  -- the files were read, and the seals of the record's text are judged under a key, if one is given
+  pub record ReadsJudged (key : Option (List ℕ)) (input : JudgedInput) : Type 0 where
+    pub read : ReadsHeld s j r input.files
+    pub judged : Reads j (λ text. input.seals ≡ seal_verdict key text)

@@ -10,6 +10,7 @@ pub mod Auditing
 pub mod Looping
 pub mod Reviewing
 pub mod Missing
+pub mod Named
 pub mod Exporting
 pub mod Recorded
 pub mod OfRecords

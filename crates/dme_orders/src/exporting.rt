@@ -12,10 +12,13 @@ ghost use Rattle.dme_orders.specs.Reading.{came};
 
 use crate::missing::{Missing, missing_of};
 use crate::reading::{features_from, named_limits, named_setup, program_under};
+use crate::reporting::shown_name;
 use crate::simulating::write_text;
 use byte_ports::{Sink, Source};
 use contact_ledger::{Feature, FeatureLedger};
-use deviations::{Form, Limits, Row, limit_lines, rows_of, write_csv, write_json};
+use deviations::{
+    Form, Limits, Row, RowsOf, TableOptions, limit_lines, rows_of, style_of, write_csv, write_json,
+};
 use dmis_program::Program;
 use drawings::write_drawing;
 use order_parts::FilesFault;
@@ -119,19 +122,22 @@ fn drawn(alloc: Global, program: &Program, features: &[Feature]) -> Result<Vec<u
 fn form_text(
     alloc: Global,
     form: Form,
+    table: TableOptions,
+    of: RowsOf<'_>,
     limits: &Option<Limits>,
     rows: &[Row<'_>],
     program: &Program,
     features: &[Feature],
 ) -> Result<Vec<u8>, AllocError>
-    ensures text { IfOk result (λ text. IsInForm form limits.now program.now features.now
-        rows.now text.items) }
+    ensures text { IfOk result (λ text. IsInForm form table of.now limits.now program.now
+        features.now rows.now text.items) }
     ensures some { IfOk result (λ text. 0 < length text.items) }
 {
     let mut text = Vec::new(alloc);
+    let style = style_of(table, of);
     match form {
-        Form::Csv => write_csv(&mut text, limits, rows)?,
-        Form::Json => write_json(&mut text, limits, rows)?,
+        Form::Csv => write_csv(&mut text, &style, limits, rows)?,
+        Form::Json => write_json(&mut text, &style.of, limits, rows)?,
         Form::Svg => return drawn(alloc, program, features),
     }
     Ok(text)
@@ -141,17 +147,28 @@ fn form_text(
 pub(crate) fn table_text(
     alloc: Global,
     form: Form,
+    table: TableOptions,
+    of: RowsOf<'_>,
     limits: &Option<Limits>,
     program: &Program,
     features: &[Feature],
 ) -> Result<Vec<u8>, FilesFault>
-    ensures leaves { IfOk result (λ text. LeavesTable form limits.now program.now features.now
-        text.items) }
+    ensures leaves { IfOk result (λ text. LeavesTable form table of.now limits.now program.now
+        features.now text.items) }
     ensures some { IfOk result (λ text. 0 < length text.items) }
     ensures refused { IfErr result (RefusesFeatures program.now features.now) }
 {
     let rows = rows_of(alloc, program, features)?;
-    Ok(form_text(alloc, form, limits, rows.as_slice(), program, features)?)
+    Ok(form_text(
+        alloc,
+        form,
+        table,
+        of,
+        limits,
+        rows.as_slice(),
+        program,
+        features,
+    )?)
 }
 
 /// The lines that compare features with limits; none without limits. They are refused only if they are not the first ones of the program.
@@ -176,12 +193,14 @@ pub(crate) fn compared_lines(
 fn table_of_part(
     alloc: Global,
     form: Form,
+    table: TableOptions,
+    of: RowsOf<'_>,
     limits: &Option<Limits>,
     program: &Program,
     features: &[Feature],
 ) -> Result<(Exported, Vec<u8>), FilesFault>
-    ensures leaves { IfOk result (λ end. LeavesTable form limits.now program.now features.now
-        end.1.items) }
+    ensures leaves { IfOk result (λ end. LeavesTable form table of.now limits.now program.now
+        features.now end.1.items) }
     ensures lacks { IfOk result (λ end. IsMissing program.now.features features.now
         end.0.missing) }
     ensures compares { IfOk result (λ end. Compares limits.now program.now features.now
@@ -191,31 +210,46 @@ fn table_of_part(
 {
     let missing = missing_of(alloc, program, features)?;
     let compared = compared_lines(alloc, limits, program, features)?;
-    let text = table_text(alloc, form, limits, program, features)?;
+    let text = table_text(alloc, form, table, of, limits, program, features)?;
     Ok((Exported { missing, compared }, text))
 }
 
 /// Reads limits if they are named, then a setup if one is named, then features, then a program under the setup's frames, each to the end of
 /// its text and understood before the next is read; and writes the table of the features in a form: a row for each touch of the program, and how far the measured
 /// point lies from where the program asks for it. Features that are not the first ones of the program are `NotOurs`. The answer is which
-/// features are missing, whose rows have no measured point, and with limits what they say of the points.
+/// features are missing, whose rows have no measured point, and with limits what they say of the points. The program's name is that on the
+/// command line: `-` is standard input; features are of no named part.
 ///
 /// It writes only once the whole table is there. A file is blamed only for its own first refusal, or because it could not be read.
 pub fn export_files<L: Source, S: Source, F: Source, R: Source, W: Sink>(
     alloc: Global,
+    name: &str,
     form: Form,
+    table: TableOptions,
     limits: &mut Option<L>,
     files: &mut ExportFiles<S, F, R>,
     sink: &mut W,
 ) -> Result<Exported, FilesFault>
-    ensures { Exports form (named S.left S.has_failed files.old.setup files.new.setup)
+    ensures { Exports form table name.now (named S.left S.has_failed files.old.setup files.new.setup)
         (came F.left F.has_failed files.old.features files.new.features)
         (came R.left R.has_failed files.old.program files.new.program)
         (went W.taken W.has_failed sink.old sink.new)
         (named L.left L.has_failed limits.old limits.new) result }
 {
     let (ranges, features, program) = limited_input(alloc, limits, files)?;
-    let (exported, text) = table_of_part(alloc, form, &ranges, &program, features.list())?;
+    let of = RowsOf {
+        part: "",
+        program: shown_name(name),
+    };
+    let (exported, text) = table_of_part(
+        alloc,
+        form,
+        table,
+        of,
+        &ranges,
+        &program,
+        features.list(),
+    )?;
     write_text(sink, text.as_slice())?;
     Ok(exported)
 }

@@ -9,8 +9,9 @@ ghost use Rattle.dme_orders.specs.Auditing.{LeavesVerdict};
 ghost use Rattle.order_parts.specs.Kept.{IsFeaturesText};
 ghost use Rattle.dme_orders.specs.OfRecords.{RefusesRecord, IsRecordText, AuditsRecord, ExportsRecord};
 ghost use Rattle.dme_orders.specs.Exporting.{Compares, RefusesFeatures};
-ghost use Rattle.dme_orders.specs.Input.{named, ReadsHeld, WhyNoneHeld, WhyNoneSealed, AreUntouched, ReadsLimited, WhyNoLimited};
+ghost use Rattle.dme_orders.specs.Input.{named, ReadsHeld, WhyNoneHeld, WhyNoneSealed, AreUntouched, ReadsJudged, ReadsLimited, WhyNoLimited};
 ghost use Rattle.dme_orders.specs.Missing.{IsMissing};
+ghost use Rattle.dme_orders.specs.Named.{part_text};
 ghost use Rattle.dme_orders.specs.Orders.{went};
 ghost use Rattle.dme_orders.specs.Reading.{came, Reads, IsSealed};
 ghost use Rattle.dme_orders.specs.Recorded.{IsOfProgram, features_in, told_in};
@@ -19,15 +20,20 @@ use crate::auditing::audited;
 use crate::digests::part_line;
 use crate::exporting::{Exported, compared_lines, table_text};
 use crate::missing::{Missing, missing_of};
-use crate::reading::{named_limits, named_setup, program_under, record_from, sealed_from};
+use crate::reading::{
+    judged_from, named_limits, named_setup, program_under, record_from, sealed_from,
+};
+use crate::reporting::shown_name;
 use crate::run_errors::errors_of;
 use crate::simulating::write_text;
 use byte_ports::{Sink, Source};
 use contact_ledger::{Feature, FeatureLedger, ServerLedger, write_contacts, write_features};
-use deviations::{Form, Limits, rows_of};
+use deviations::{Form, Limits, RowsOf, TableOptions, rows_of};
 use dmis_program::Program;
 use order_parts::FilesFault;
+use record_seal::SealVerdict;
 use record_text::{Record, other_feature};
+use session_telling::visible;
 use std::alloc::{AllocError, Global};
 
 /// The files of an order over a record, as sources.
@@ -98,7 +104,7 @@ fn sealed_input<S: Source, J: Source, R: Source>(
 }
 
 /// Likewise without a key, and before them limits if they are named.
-pub(crate) fn limited_input<L: Source, S: Source, J: Source, R: Source>(
+fn limited_input<L: Source, S: Source, J: Source, R: Source>(
     alloc: Global,
     limits: &mut Option<L>,
     files: &mut RecordFiles<S, J, R>,
@@ -127,6 +133,64 @@ pub(crate) fn limited_input<L: Source, S: Source, J: Source, R: Source>(
     let limits = named_limits(alloc, limits)?;
     let (held, program) = record_input(alloc, files)?;
     Ok((limits, held, program))
+}
+
+/// Likewise, and what the seals of the record say under a key, if one is given.
+fn judged_record<S: Source, J: Source, R: Source>(
+    alloc: Global,
+    key: &Option<Vec<u8>>,
+    files: &mut RecordFiles<S, J, R>,
+) -> Result<(SealVerdict, Option<Record>, Program), FilesFault>
+    ensures ok { IfOk result (λ read. (said : Option SetupValue)
+        × ReadsJudged (named S.left S.has_failed files.old.setup files.new.setup)
+        (came J.left J.has_failed files.old.record files.new.record)
+        (came R.left R.has_failed files.old.program files.new.program)
+        (option_map (λ key. key.items) key.now)
+        (record {
+          seals = read.0;
+          files = record { setup = said; held = read.1; program = read.2 };
+        })) }
+    ensures err { IfErr result (WhyNoneHeld (named S.left S.has_failed files.old.setup files.new.setup)
+        (came J.left J.has_failed files.old.record files.new.record)
+        (came R.left R.has_failed files.old.program files.new.program)) }
+{
+    let setup = named_setup(alloc, &mut files.setup)?;
+    let (seals, held) = judged_from(alloc, key, &mut files.record)?;
+    let program = program_under(alloc, &setup, &mut files.program)?;
+    Ok((seals, held, program))
+}
+
+/// Likewise, and before them limits if they are named.
+pub(crate) fn judged_input<L: Source, S: Source, J: Source, R: Source>(
+    alloc: Global,
+    limits: &mut Option<L>,
+    key: &Option<Vec<u8>>,
+    files: &mut RecordFiles<S, J, R>,
+) -> Result<(Option<Limits>, SealVerdict, Option<Record>, Program), FilesFault>
+    ensures ok { IfOk result (λ read. (said : Option SetupValue)
+        × ReadsLimited (named L.left L.has_failed limits.old limits.new)
+        (ReadsJudged (named S.left S.has_failed files.old.setup files.new.setup)
+        (came J.left J.has_failed files.old.record files.new.record)
+        (came R.left R.has_failed files.old.program files.new.program)
+        (option_map (λ key. key.items) key.now))
+        (record {
+          limits = read.0;
+          input = record {
+            seals = read.1;
+            files = record { setup = said; held = read.2; program = read.3 };
+          };
+        })) }
+    ensures err { IfErr result (WhyNoLimited (named L.left L.has_failed limits.old limits.new)
+        (AreUntouched (named S.left S.has_failed files.old.setup files.new.setup)
+        (came J.left J.has_failed files.old.record files.new.record)
+        (came R.left R.has_failed files.old.program files.new.program))
+        (WhyNoneHeld (named S.left S.has_failed files.old.setup files.new.setup)
+        (came J.left J.has_failed files.old.record files.new.record)
+        (came R.left R.has_failed files.old.program files.new.program))) }
+{
+    let limits = named_limits(alloc, limits)?;
+    let (seals, held, program) = judged_record(alloc, key, files)?;
+    Ok((limits, seals, held, program))
 }
 
 /// Refuses a record that is not of this program. One that is not begun is of any.
@@ -218,6 +282,19 @@ pub fn audit_record<S: Source, J: Source, R: Source, W: Sink>(
     Ok((status, notes))
 }
 
+/// The part that a record names, as it is shown; nothing if it names none. Fails only if out of memory.
+fn part_text(alloc: Global, held: &Option<Record>) -> Result<String, AllocError>
+    ensures { IfOk result (λ text. string_bytes text ≡ part_text held.now) }
+{
+    let Some(held) = held else {
+        return Ok(String::new(alloc));
+    };
+    match held.part() {
+        Some(part) => visible(alloc, part),
+        None => Ok(String::new(alloc)),
+    }
+}
+
 /// The text of a features file. The features are refused only if they are not the first ones of the program.
 #[tactic(auto, using(crate::proofs::RecordLemmas::ours_can_be_written, crate::proofs::RecordLemmas::features_have_text))]
 fn features_text(
@@ -252,19 +329,21 @@ fn contacts_text(alloc: Global, ledger: &ServerLedger) -> Result<Vec<u8>, AllocE
 fn text_in(
     alloc: Global,
     form: RecordText,
+    table: TableOptions,
+    of: RowsOf<'_>,
     limits: &Option<Limits>,
     program: &Program,
     features: &[Feature],
     ledger: &ServerLedger,
 ) -> Result<Vec<u8>, FilesFault>
     requires { HaveOrigins features.now }
-    ensures leaves { IfOk result (λ text. IsRecordText form limits.now program.now features.now
-        ledger.now text.items) }
+    ensures leaves { IfOk result (λ text. IsRecordText form table of.now limits.now program.now
+        features.now ledger.now text.items) }
     ensures some { IfOk result (λ text. 0 < length text.items) }
     ensures refused { IfErr result (RefusesFeatures program.now features.now) }
 {
     match form {
-        RecordText::Table(form) => table_text(alloc, form, limits, program, features),
+        RecordText::Table(form) => table_text(alloc, form, table, of, limits, program, features),
         RecordText::Features => features_text(alloc, program, features),
         RecordText::Contacts => Ok(contacts_text(alloc, ledger)?),
     }
@@ -274,14 +353,16 @@ fn text_in(
 fn text_of_part(
     alloc: Global,
     form: RecordText,
+    table: TableOptions,
+    of: RowsOf<'_>,
     limits: &Option<Limits>,
     program: &Program,
     features: &[Feature],
     ledger: &ServerLedger,
 ) -> Result<(Exported, Vec<u8>), FilesFault>
     requires { HaveOrigins features.now }
-    ensures leaves { IfOk result (λ end. IsRecordText form limits.now program.now features.now
-        ledger.now end.1.items) }
+    ensures leaves { IfOk result (λ end. IsRecordText form table of.now limits.now program.now
+        features.now ledger.now end.1.items) }
     ensures lacks { IfOk result (λ end. IsMissing program.now.features features.now
         end.0.missing) }
     ensures compares { IfOk result (λ end. Compares limits.now program.now features.now
@@ -291,7 +372,7 @@ fn text_of_part(
 {
     let missing = missing_of(alloc, program, features)?;
     let compared = compared_lines(alloc, limits, program, features)?;
-    let text = text_in(alloc, form, limits, program, features, ledger)?;
+    let text = text_in(alloc, form, table, of, limits, program, features, ledger)?;
     Ok((Exported { missing, compared }, text))
 }
 
@@ -299,12 +380,14 @@ fn text_of_part(
 /// its text and understood before the next is read; and writes what the record holds in a form: the table of its features as `export_files` writes it, or the text of a
 /// features file or of a contacts file. The answer is which features of the program are missing, and with limits what they say of the
 /// points. A record of another program is
-/// `OtherProgram`; its part is not compared.
+/// `OtherProgram`; its part is not compared. The program's name is that on the command line: `-` is standard input.
 ///
 /// It writes only once the whole text is there. A file is blamed only for its own first refusal, or because it could not be read.
 pub fn export_record<L: Source, S: Source, J: Source, R: Source, W: Sink>(
     alloc: Global,
+    name: &str,
     form: RecordText,
+    table: TableOptions,
     limits: &mut Option<L>,
     files: &mut RecordFiles<S, J, R>,
     sink: &mut W,
@@ -313,12 +396,26 @@ pub fn export_record<L: Source, S: Source, J: Source, R: Source, W: Sink>(
         (came J.left J.has_failed files.old.record files.new.record)
         (came R.left R.has_failed files.old.program files.new.program)
         (went W.taken W.has_failed sink.old sink.new)
-        (named L.left L.has_failed limits.old limits.new) form result }
+        (named L.left L.has_failed limits.old limits.new) form table name.now result }
 {
     let (ranges, held, program) = limited_input(alloc, limits, files)?;
     of_program(alloc, &held, &program)?;
+    let part = part_text(alloc, &held)?;
     let (features, ledger) = parts_of(alloc, held);
-    let (exported, text) = text_of_part(alloc, form, &ranges, &program, features.list(), &ledger)?;
+    let of = RowsOf {
+        part: part.as_str(),
+        program: shown_name(name),
+    };
+    let (exported, text) = text_of_part(
+        alloc,
+        form,
+        table,
+        of,
+        &ranges,
+        &program,
+        features.list(),
+        &ledger,
+    )?;
     write_text(sink, text.as_slice())?;
     Ok(exported)
 }

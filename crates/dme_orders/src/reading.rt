@@ -6,6 +6,7 @@ ghost use Rattle.dme_orders.specs.Reading.{ReadsFeatures, WhyNoFeatures, ReadsCo
 ghost use Rattle.dme_orders.specs.Reading.{ReadsLimits, WhyNoLimits, ReadsMachine, WhyNoMachine};
 ghost use Rattle.dme_orders.specs.Reading.{IsSealed, IsUnsealed, ReadsKey, WhyNoKey, WhyNoSealed};
 ghost use Rattle.program_review.specs.Reviews.{frames_under};
+ghost use Rattle.record_seal.specs.Seals.{seal_verdict};
 ghost use Rattle.dme_orders.specs.Input.{named, ReadsNamed, WhyNoNamed, ReadsNamedLimits, WhyNoNamedLimits};
 
 use byte_ports::{PullFault, Source, pull_all};
@@ -15,7 +16,7 @@ use dmis_program::{Frames, Program, ProgramFault};
 use link_world::{Schedule, ScheduleFault};
 use machine_file::{Machine, MachineFault};
 use order_parts::{FilesFault, Role};
-use record_seal::open_line;
+use record_seal::{SealVerdict, open_line, seal_verdict};
 use record_text::{Record, RecordFault, read_record};
 use std::alloc::Global;
 use tool_rack::{Setup, SetupFault};
@@ -168,6 +169,29 @@ pub(crate) fn sealed_from<S: Source>(
             sealed?;
             Ok(held)
         }
+        Err(RecordFault::Memory) => Err(FilesFault::Memory),
+        Err(refused) => Err(FilesFault::Record(refused)),
+    }
+}
+
+/// The record that a source gives, if it is begun, and what its seals say under a key, if one is given.
+pub(crate) fn judged_from<S: Source>(
+    alloc: Global,
+    key: &Option<Vec<u8>>,
+    source: &mut S,
+) -> Result<(SealVerdict, Option<Record>), FilesFault>
+    ensures ok { IfOk result (λ read. ReadsRecord (came S.left S.has_failed source.old source.new)
+        read.1) }
+    ensures judged { IfOk result (λ read. Reads (came S.left S.has_failed source.old source.new)
+        (λ text. read.0 ≡ seal_verdict (option_map (λ key. key.items) key.now) text)) }
+    ensures err { IfErr result (WhyNoRecord (came S.left S.has_failed source.old source.new)) }
+{
+    let text = read_text(alloc, source, Role::Record)?;
+    let read = read_record(alloc, text.as_slice());
+    let seals = seal_verdict(alloc, key, text.as_slice());
+    drop(text);
+    match read {
+        Ok(held) => Ok((seals?, held)),
         Err(RecordFault::Memory) => Err(FilesFault::Memory),
         Err(refused) => Err(FilesFault::Record(refused)),
     }

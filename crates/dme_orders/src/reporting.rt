@@ -1,20 +1,21 @@
 // The page of a record's part, over ports.
 
-ghost use Rattle.std.specs.Prelude.{◌≡◌, ◌<◌, length, IfOk, IfErr, string_bytes};
+ghost use Rattle.std.specs.Prelude.{◌≡◌, ◌<◌, length, option_map, IfOk, IfErr, string_bytes};
 ghost use Rattle.drawings.specs.Pages.{IsPage};
 ghost use Rattle.std.specs.List.{flat_map};
 ghost use Rattle.dme_orders.specs.Exporting.{RefusesFeatures};
 ghost use Rattle.dme_orders.specs.Input.{named};
 ghost use Rattle.dme_orders.specs.Missing.{IsMissing};
+ghost use Rattle.dme_orders.specs.Named.{shown_name};
 ghost use Rattle.dme_orders.specs.Orders.{went};
 ghost use Rattle.dme_orders.specs.Reading.{came};
-ghost use Rattle.dme_orders.specs.Reporting.{facts_of, part_in, shown_name, IsPageOf, ReportsRecord};
+ghost use Rattle.dme_orders.specs.Reporting.{facts_of, part_in, IsPageOf, ReportsRecord};
 ghost use Rattle.dme_orders.specs.RunErrors.{errors_in, error_line};
 ghost use Rattle.dme_orders.specs.RunNotes.{notes_in, note_line};
 
 use crate::auditing::verdict_line;
 use crate::missing::{Missing, missing_of};
-use crate::of_records::{RecordFiles, limited_input, of_program, parts_of};
+use crate::of_records::{RecordFiles, judged_input, of_program, parts_of};
 use crate::run_errors::errors_of;
 use crate::run_notes::notes_of;
 use crate::simulating::write_text;
@@ -24,6 +25,7 @@ use deviations::{Limits, Row, rows_of};
 use dmis_program::Program;
 use drawings::{Facts, report_text};
 use order_parts::FilesFault;
+use record_seal::SealVerdict;
 use record_text::Record;
 use std::alloc::{AllocError, Global};
 
@@ -39,8 +41,8 @@ fn part_of(held: &Option<Record>) -> &[u8]
     }
 }
 
-/// How a page names a program.
-fn shown_name(name: &str) -> &str
+/// How a page or a table names a program.
+pub(crate) fn shown_name(name: &str) -> &str
     ensures { result.now ≡ shown_name name.now }
 {
     if name == "-" { "standard input" } else { name }
@@ -76,6 +78,7 @@ fn page_text(
     alloc: Global,
     name: &str,
     texts: &Texts,
+    seals: SealVerdict,
     limits: &Option<Limits>,
     program: &Program,
     features: &[Feature],
@@ -84,7 +87,7 @@ fn page_text(
     verdict: &[u8],
 ) -> Result<Vec<u8>, AllocError>
     ensures page { IfOk result (λ text. IsPage (facts_of texts.now.part.items name.now
-        (string_bytes texts.now.errors) (string_bytes texts.now.notes) status verdict.now)
+        (string_bytes texts.now.errors) (string_bytes texts.now.notes) seals status verdict.now)
         program.now features.now limits.now
         rows.now text.items) }
     ensures some { IfOk result (λ text. 0 < length text.items) }
@@ -92,6 +95,7 @@ fn page_text(
     let facts = Facts {
         part: texts.part.as_slice(),
         program: name.as_bytes(),
+        seals,
         sound: status == 0,
         verdict,
         errors: texts.errors.as_bytes(),
@@ -105,13 +109,14 @@ fn page_of(
     alloc: Global,
     name: &str,
     texts: &Texts,
+    seals: SealVerdict,
     limits: &Option<Limits>,
     program: &Program,
     features: &[Feature],
     ledger: &ServerLedger,
 ) -> Result<(Missing, Vec<u8>), FilesFault>
     ensures page { IfOk result (λ end. IsPageOf texts.now.part.items name.now
-        (string_bytes texts.now.errors) (string_bytes texts.now.notes) limits.now program.now
+        (string_bytes texts.now.errors) (string_bytes texts.now.notes) seals limits.now program.now
         features.now ledger.now end.1.items) }
     ensures lacks { IfOk result (λ end. IsMissing program.now.features features.now end.0) }
     ensures some { IfOk result (λ end. 0 < length end.1.items) }
@@ -124,6 +129,7 @@ fn page_of(
         alloc,
         name,
         texts,
+        seals,
         limits,
         program,
         features,
@@ -135,13 +141,14 @@ fn page_of(
 }
 
 /// Reads limits if they are named, then a setup if one is named, then a record, then a program under the setup's frames, each to the end of
-/// its text and understood before the next is read; and writes the page of the record's part. The answer is which features of the program
-/// are missing. A record of another program is `OtherProgram`. The program's name is that on the command line: `-` is standard input.
+/// its text and understood before the next is read; and writes the page of the record's part, which says what its seals are under a key, if
+/// one is given. The answer is which features of the program are missing. A record of another program is `OtherProgram`. The program's name is that on the command line: `-` is standard input.
 ///
 /// It writes only once the whole page is there. A file is blamed only for its own first refusal, or because it could not be read.
 pub fn report_record<L: Source, S: Source, J: Source, R: Source, W: Sink>(
     alloc: Global,
     name: &str,
+    key: &Option<Vec<u8>>,
     limits: &mut Option<L>,
     files: &mut RecordFiles<S, J, R>,
     sink: &mut W,
@@ -150,9 +157,10 @@ pub fn report_record<L: Source, S: Source, J: Source, R: Source, W: Sink>(
         (came J.left J.has_failed files.old.record files.new.record)
         (came R.left R.has_failed files.old.program files.new.program)
         (went W.taken W.has_failed sink.old sink.new)
-        (named L.left L.has_failed limits.old limits.new) name.now result }
+        (named L.left L.has_failed limits.old limits.new) name.now
+        (option_map (λ key. key.items) key.now) result }
 {
-    let (ranges, held, program) = limited_input(alloc, limits, files)?;
+    let (ranges, seals, held, program) = judged_input(alloc, limits, key, files)?;
     of_program(alloc, &held, &program)?;
     let texts = texts_of(alloc, &held)?;
     let (features, ledger) = parts_of(alloc, held);
@@ -160,6 +168,7 @@ pub fn report_record<L: Source, S: Source, J: Source, R: Source, W: Sink>(
         alloc,
         shown_name(name),
         &texts,
+        seals,
         &ranges,
         &program,
         features.list(),

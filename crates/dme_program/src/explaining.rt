@@ -1,6 +1,7 @@
 // What is shown for an order whose files are refused.
 
-use dme_orders::{audit_notes, other_program_notes};
+use crate::files::NamedSource;
+use dme_orders::{audit_notes, other_program_notes, read_key};
 use order_parts::FilesFault;
 use refusal_guide::{InputFiles, place_of, shown_fault};
 use std::alloc::AllocError;
@@ -30,4 +31,24 @@ pub fn refused(rt: HostRuntime, fault: FilesFault, files: InputFiles, is_explain
     let _ = eprint!(rt; "{cause}");
     show(rt, place);
     cause.status()
+}
+
+/// The key of this name, if one is named; if it is refused, standard error shows why, and this is the exit status.
+pub fn key_of(
+    rt: HostRuntime,
+    source: Option<NamedSource>,
+    is_explained: bool,
+) -> Result<Option<Vec<u8>>, u8> {
+    let Some(mut source) = source else {
+        return Ok(None);
+    };
+    let read = read_key(rt.alloc(), &mut source);
+    let files = InputFiles {
+        key: source.into_file(),
+        ..InputFiles::unnamed(rt.alloc())
+    };
+    match read {
+        Ok(key) => Ok(Some(key)),
+        Err(fault) => Err(refused(rt, fault, files, is_explained)),
+    }
 }

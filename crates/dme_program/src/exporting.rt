@@ -1,6 +1,6 @@
 // The orders `export`, `report`, `summary` and `explain`, on files and the standard streams.
 
-use crate::explaining::refused;
+use crate::explaining::{key_of, refused};
 use crate::files::{NamedSource, Sources, file_of};
 use byte_ports::{Failed, Writing, push_all};
 use deviations::Limits;
@@ -34,7 +34,8 @@ fn export_end(
 
 /// The order `export`: its exit status.
 #[inline(never)]
-pub fn export(rt: HostRuntime, order: Export) -> u8 {
+pub fn export(rt: HostRuntime, order: Export) -> Result<u8, AllocError> {
+    let name = order.program.clone()?;
     let mut sources = Sources::new(rt, order.explain);
     let mut sought = ExportFiles {
         setup: sources.maybe(order.setup),
@@ -43,7 +44,15 @@ pub fn export(rt: HostRuntime, order: Export) -> u8 {
     };
     let mut limits = sources.maybe(order.limits);
     let mut sink = Writing::new(io::writer(&rt));
-    let exported = export_files(rt.alloc(), order.form, &mut limits, &mut sought, &mut sink);
+    let exported = export_files(
+        rt.alloc(),
+        name.as_str(),
+        order.form,
+        order.table,
+        &mut limits,
+        &mut sought,
+        &mut sink,
+    );
     let files = InputFiles {
         setup: file_of(rt, sought.setup),
         features: sought.features.into_file(),
@@ -51,7 +60,7 @@ pub fn export(rt: HostRuntime, order: Export) -> u8 {
         limits: file_of(rt, limits),
         ..InputFiles::unnamed(rt.alloc())
     };
-    export_end(rt, exported, files, order.explain)
+    Ok(export_end(rt, exported, files, order.explain))
 }
 
 /// What is printed of a record in a form.
@@ -78,27 +87,7 @@ pub fn record_files(
 
 /// The order `export` for a record: its exit status.
 #[inline(never)]
-pub fn export_of_record(rt: HostRuntime, order: RecordExport) -> u8 {
-    let mut sources = Sources::new(rt, order.explain);
-    let mut sought = RecordFiles {
-        setup: sources.maybe(order.setup),
-        record: sources.file(order.record),
-        program: sources.file(order.program),
-    };
-    let mut limits = sources.maybe(order.limits);
-    let mut sink = Writing::new(io::writer(&rt));
-    let form = text_of(order.form);
-    let exported = export_record(rt.alloc(), form, &mut limits, &mut sought, &mut sink);
-    let files = InputFiles {
-        limits: file_of(rt, limits),
-        ..record_files(rt, sought)
-    };
-    export_end(rt, exported, files, order.explain)
-}
-
-/// The order `report`: its exit status.
-#[inline(never)]
-pub fn report_of_record(rt: HostRuntime, order: PartReport) -> Result<u8, AllocError> {
+pub fn export_of_record(rt: HostRuntime, order: RecordExport) -> Result<u8, AllocError> {
     let name = order.program.clone()?;
     let mut sources = Sources::new(rt, order.explain);
     let mut sought = RecordFiles {
@@ -108,8 +97,42 @@ pub fn report_of_record(rt: HostRuntime, order: PartReport) -> Result<u8, AllocE
     };
     let mut limits = sources.maybe(order.limits);
     let mut sink = Writing::new(io::writer(&rt));
+    let form = text_of(order.form);
+    let exported = export_record(
+        rt.alloc(),
+        name.as_str(),
+        form,
+        order.table,
+        &mut limits,
+        &mut sought,
+        &mut sink,
+    );
+    let files = InputFiles {
+        limits: file_of(rt, limits),
+        ..record_files(rt, sought)
+    };
+    Ok(export_end(rt, exported, files, order.explain))
+}
+
+/// The order `report`: its exit status.
+#[inline(never)]
+pub fn report_of_record(rt: HostRuntime, order: PartReport) -> Result<u8, AllocError> {
+    let name = order.program.clone()?;
+    let mut sources = Sources::new(rt, order.explain);
+    let source = sources.maybe(order.seal_key);
+    let key = match key_of(rt, source, order.explain) {
+        Ok(key) => key,
+        Err(status) => return Ok(status),
+    };
+    let mut sought = RecordFiles {
+        setup: sources.maybe(order.setup),
+        record: sources.file(order.record),
+        program: sources.file(order.program),
+    };
+    let mut limits = sources.maybe(order.limits);
+    let mut sink = Writing::new(io::writer(&rt));
     let name = name.as_str();
-    let reported = report_record(rt.alloc(), name, &mut limits, &mut sought, &mut sink);
+    let reported = report_record(rt.alloc(), name, &key, &mut limits, &mut sought, &mut sink);
     let files = InputFiles {
         limits: file_of(rt, limits),
         ..record_files(rt, sought)

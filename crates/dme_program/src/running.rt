@@ -6,7 +6,7 @@ ghost use Rattle.dme_words.specs.Ordered.{IsReady};
 ghost use Rattle.dme_program.specs.Blamed.{OnSetup};
 
 use crate::connecting::loop_program;
-use crate::explaining::{refused, tell_audit};
+use crate::explaining::{key_of, refused, tell_audit};
 use crate::exporting::{
     explain_topic, export, export_of_record, report_of_record, summary_of_records,
 };
@@ -17,7 +17,7 @@ use crate::version;
 use byte_ports::Writing;
 use dme_orders::{
     AuditFiles, Judged, JudgedLine, RecordFiles, SimulationFiles, audit_files, audit_record,
-    check_under_setup, read_key, read_machine, review_program, simulate,
+    check_under_setup, read_machine, review_program, simulate,
 };
 use dme_words::{Audit, Check, Lower, Order, RecordAudit, Review, Simulation, read_words};
 use machine_file::{Machine, named_machine, names_option, with_machine};
@@ -263,26 +263,6 @@ fn audit(rt: HostRuntime, order: Audit) -> u8 {
     audit_end(rt, result, files, order.explain)
 }
 
-/// The key of this name, if one is named; if it is refused, standard error shows why, and this is the exit status.
-fn key_of(
-    rt: HostRuntime,
-    source: Option<NamedSource>,
-    is_explained: bool,
-) -> Result<Option<Vec<u8>>, u8> {
-    let Some(mut source) = source else {
-        return Ok(None);
-    };
-    let read = read_key(rt.alloc(), &mut source);
-    let files = InputFiles {
-        key: source.into_file(),
-        ..InputFiles::unnamed(rt.alloc())
-    };
-    match read {
-        Ok(key) => Ok(Some(key)),
-        Err(fault) => Err(refused(rt, fault, files, is_explained)),
-    }
-}
-
 /// The order `audit` for a record: its exit status. Standard error shows the part, which features are missing, and the errors of the server.
 #[inline(never)]
 fn audit_of_record(rt: HostRuntime, order: RecordAudit) -> u8 {
@@ -327,8 +307,8 @@ fn carry_out(rt: HostRuntime, order: Order) -> Result<u8, Fault>
         Order::Serve(order) => Ok(serve(rt, order)?),
         Order::Run(order) => Ok(run_program(rt, order)),
         Order::Explain(topic) => Ok(explain_topic(rt, topic)),
-        Order::Export(order) => Ok(export(rt, order)),
-        Order::ExportRecord(order) => Ok(export_of_record(rt, order)),
+        Order::Export(order) => Ok(export(rt, order)?),
+        Order::ExportRecord(order) => Ok(export_of_record(rt, order)?),
         Order::Review(order) => Ok(review(rt, order)?),
         Order::Ledger(order) => {
             let job = Job::Ledger(u64::from(order.connection));

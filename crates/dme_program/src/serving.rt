@@ -121,7 +121,8 @@ pub fn watch(rt: HostRuntime, order: Watch) -> Result<u8, AllocError> {
 pub fn run_program(rt: HostRuntime, order: Run) -> u8
     requires { is_window order.window ≡ true }
 {
-    let mut opening = Opening::new(rt.alloc(), order);
+    let on_terminal = rt.stderr().is_terminal();
+    let mut opening = Opening::new(rt.alloc(), order, on_terminal);
     let mut hands = RealHands::new(rt);
     let status = run_opening::run(&mut opening, &mut hands).unwrap_or(ENDLESS);
     drop(opening);

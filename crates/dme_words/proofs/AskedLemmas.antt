@@ -76,7 +76,7 @@ explained words none = level_has (leaf explain_line) words refl
 
 export : (words : List Text) → level_fault (leaf export_line) [] nothing_held words false [] ≡ [] → Has export_line (rows_after (leaf export_line).rules [] words)
 export words none = level_has (leaf export_line) words refl
-    ((refl, inl (refl, refl)), ((refl, inl (refl, refl)), ((refl, inl (refl, refl)), ((refl, inl (refl, refl)), ((refl, inl (refl, refl)), ((refl, inr (inl (refl, omega arith))), ((refl, inl (refl, refl)), ((refl, inr (inr refl)), tt))))))))
+    ((refl, inl (refl, refl)), ((refl, inl (refl, refl)), ((refl, inl (refl, refl)), ((refl, inl (refl, refl)), ((refl, inl (refl, refl)), ((refl, inl (refl, refl)), ((refl, inl (refl, refl)), ((refl, inr (inl (refl, omega arith))), ((refl, inr (inl (refl, omega arith))), ((refl, inl (refl, refl)), ((refl, inr (inr refl)), tt)))))))))))
     none
 
 witnessed : (words : List Text) → level_fault (leaf ledger_line) [] nothing_held words false [] ≡ [] → Has ledger_line (rows_after (leaf ledger_line).rules [] words)
@@ -101,7 +101,7 @@ lowered words none = level_has (leaf lower_line) words refl
 
 reported : (words : List Text) → level_fault (leaf report_line) [] nothing_held words false [] ≡ [] → Has report_line (rows_after (leaf report_line).rules [] words)
 reported words none = level_has (leaf report_line) words refl
-    ((refl, inl (refl, refl)), ((refl, inl (refl, refl)), ((refl, inl (refl, refl)), ((refl, inr (inl (refl, omega arith))), ((refl, inl (refl, refl)), ((refl, inr (inr refl)), tt))))))
+    ((refl, inl (refl, refl)), ((refl, inl (refl, refl)), ((refl, inl (refl, refl)), ((refl, inl (refl, refl)), ((refl, inr (inl (refl, omega arith))), ((refl, inl (refl, refl)), ((refl, inr (inr refl)), tt)))))))
     none
 
 -- each subcommand of `dme` may be asked for, and `help` was not met

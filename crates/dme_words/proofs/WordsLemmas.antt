@@ -8,7 +8,7 @@ use Rattle.std.specs.declared.alloc.Global.{Global}
 use Rattle.clap.specs.declared.parser.matches.ArgMatches.{ArgMatches}
 use Rattle.dme_words.specs.declared.orders.Order.{Order}
 use Rattle.dme_words.specs.declared.words.WordsFault.{WordsFault}
-use Rattle.dme_words.specs.declared.words.WordsFault.TheVariants.{Control, Line, Memory, Misfits, NoCode, NoFindingForm, NoForm, NoName, NoSeconds, NoSummaryForm}
+use Rattle.dme_words.specs.declared.words.WordsFault.TheVariants.{Control, Line, Memory, Misfits, NoCode, NoFindingForm, NoForm, NoName, NoSeconds, NoSeparator, NoSign, NoSummaryForm}
 use Rattle.clap.specs.declared.error.Error.{Error}
 use Rattle.clap.specs.declared.error.kind.ErrorKind.TheVariants.{OutOfMemory}
 use Rattle.dme_words.proofs.AskedLemmas.{asked}
@@ -90,6 +90,8 @@ refused_value a words m (NoCode code) is none has asks = has_no_value a words m 
 refused_value a words m (NoForm word) is none has asks = has_no_value a words m (NoForm word) is none has asks
 refused_value a words m (NoFindingForm word) is none has asks = has_no_value a words m (NoFindingForm word) is none has asks
 refused_value a words m (NoSummaryForm word) is none has asks = has_no_value a words m (NoSummaryForm word) is none has asks
+refused_value a words m (NoSeparator word) is none has asks = has_no_value a words m (NoSeparator word) is none has asks
+refused_value a words m (NoSign word) is none has asks = has_no_value a words m (NoSign word) is none has asks
 refused_value a words m (NoSeconds option text) is none has asks = has_no_value a words m (NoSeconds option text) is none has asks
 refused_value a words m (NoName option text) is none has asks = has_no_value a words m (NoName option text) is none has asks
 refused_value a words m (Misfits why) is none has asks = has_no_value a words m (Misfits why) is none has asks
@@ -119,6 +121,8 @@ asked_or_refused a words (Err error) (Err (NoCode code)) is kinds has order_is t
 asked_or_refused a words (Err error) (Err (NoForm word)) is kinds has order_is taken called = absurd called
 asked_or_refused a words (Err error) (Err (NoFindingForm word)) is kinds has order_is taken called = absurd called
 asked_or_refused a words (Err error) (Err (NoSummaryForm word)) is kinds has order_is taken called = absurd called
+asked_or_refused a words (Err error) (Err (NoSeparator word)) is kinds has order_is taken called = absurd called
+asked_or_refused a words (Err error) (Err (NoSign word)) is kinds has order_is taken called = absurd called
 asked_or_refused a words (Err error) (Err (NoSeconds option text)) is kinds has order_is taken called = absurd called
 asked_or_refused a words (Err error) (Err (NoName option text)) is kinds has order_is taken called = absurd called
 asked_or_refused a words (Err error) (Err (Misfits why)) is kinds has order_is taken called = absurd called

@@ -83,10 +83,12 @@ code_rule = record (new_rule (codes "CODE")) { required = true }
 abbrev pub explain_line : App
 explain_line = line_of (codes "explain") (code_rule ∷ [])
 
--- `export --as FORM [--setup FILE] [--features FILE] [--record FILE] [--limits FILE] [--explain] [PROGRAM]`
+-- `export --as FORM [--setup FILE] [--features FILE] [--record FILE] [--limits FILE] [--separator SIGN] [--decimal SIGN]
+-- [--with-part] [--explain] [PROGRAM]`
 abbrev pub export_line : App
 export_line = line_of (codes "export") (needed_rule (codes "as") ∷ text_rule (codes "setup") ∷ text_rule (codes "features")
-    ∷ text_rule (codes "record") ∷ text_rule (codes "limits") ∷ flag_rule (codes "explain") ∷ program_rule ∷ [])
+    ∷ text_rule (codes "record") ∷ text_rule (codes "limits") ∷ text_rule (codes "separator") ∷ text_rule (codes "decimal")
+    ∷ flag_rule (codes "with-part") ∷ flag_rule (codes "explain") ∷ program_rule ∷ [])
 
 -- `review [--as FORM] [--setup FILE] [PROGRAM]`
 abbrev pub review_line : App
@@ -120,10 +122,10 @@ abbrev pub lower_line : App
 lower_line = line_of (codes "lower") (text_rule (codes "setup") ∷ flag_rule (codes "no-clearing") ∷ flag_rule (codes "compensated")
     ∷ flag_rule (codes "skip-manual") ∷ flag_rule (codes "stored-frames") ∷ flag_rule (codes "explain") ∷ program_rule ∷ [])
 
--- `report --record FILE [--setup FILE] [--limits FILE] [--explain] [PROGRAM]`
+-- `report --record FILE [--setup FILE] [--limits FILE] [--seal-key FILE] [--explain] [PROGRAM]`
 abbrev pub report_line : App
 report_line = line_of (codes "report") (needed_rule (codes "record") ∷ text_rule (codes "setup") ∷ text_rule (codes "limits")
-    ∷ flag_rule (codes "explain") ∷ program_rule ∷ [])
+    ∷ text_rule (codes "seal-key") ∷ flag_rule (codes "explain") ∷ program_rule ∷ [])
 
 -- the positional `RECORD ..`, of which one must be named
 abbrev pub records_rule : Rule

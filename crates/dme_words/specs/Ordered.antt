@@ -41,7 +41,12 @@ use Rattle.dme_words.specs.declared.orders.Service.{Service}
 use Rattle.dme_words.specs.declared.orders.Simulation.{Simulation}
 use Rattle.dme_words.specs.declared.orders.Watch.{Watch}
 use Rattle.dme_words.specs.declared.words.WordsFault.{WordsFault}
-use Rattle.dme_words.specs.declared.words.WordsFault.TheVariants.{Control, Line, Memory, Misfits, NoCode, NoFindingForm, NoForm, NoName, NoSeconds, NoSummaryForm}
+use Rattle.dme_words.specs.declared.words.WordsFault.TheVariants.{Control, Line, Memory, Misfits, NoCode, NoFindingForm, NoForm, NoName, NoSeconds, NoSeparator, NoSign, NoSummaryForm}
+use Rattle.deviations.specs.declared.styles.DecimalSign.{DecimalSign}
+use Rattle.deviations.specs.declared.styles.DecimalSign.TheVariants as sign
+use Rattle.deviations.specs.declared.styles.Separator.{Separator}
+use Rattle.deviations.specs.declared.styles.Separator.TheVariants as separator
+use Rattle.deviations.specs.declared.styles.TableOptions.{TableOptions}
 use Rattle.dme_words.specs.declared.misfits.Misfit.{Misfit}
 use Rattle.dme_words.specs.declared.misfits.Misfit.TheVariants as misfit
 use Rattle.dme_words.specs.declared.misfits.Lacks.{Lacks}
@@ -214,11 +219,42 @@ form_word (Table Svg) = codes "svg"
 form_word Features = codes "features"
 form_word Contacts = codes "contacts"
 
+-- the word for what stands between two fields of a table, and for its decimal sign
+abbrev pub separator_word : Separator → Text
+separator_word separator.Comma = codes ","
+separator_word separator.Semicolon = codes ";"
+separator_word separator.Tab = codes "tab"
+
+abbrev pub sign_word : DecimalSign → Text
+sign_word sign.Point = codes "point"
+sign_word sign.Comma = codes "comma"
+
+-- the named ones, a comma and a point if none are named
+abbrev pub IsSeparatorOf : List Row → Separator → Type 0
+IsSeparatorOf rows s = unwrap_or (first_of (codes "separator") rows) (codes ",") ≡ separator_word s
+
+abbrev pub IsSignOf : List Row → DecimalSign → Type 0
+IsSignOf rows s = unwrap_or (first_of (codes "decimal") rows) (codes "point") ≡ sign_word s
+
+-- how a table is written
+abbrev pub IsTableOf : List Row → TableOptions → Type 0
+IsTableOf rows t = IsSeparatorOf rows t.separator × IsSignOf rows t.sign × IsFlagOf (codes "with-part") rows t.with_part
+
+-- signs are named only for comma-separated values, and rows say their part only in a table
+abbrev pub NamesNoSign : List Row → Type 0
+NamesNoSign rows = HasNone (codes "separator") rows × HasNone (codes "decimal") rows
+
+abbrev pub KeepsItsTable : List Row → RecordForm → TableOptions → Type 0
+KeepsItsTable rows (Table Csv) table = Unit {0}
+KeepsItsTable rows (Table Json) table = NamesNoSign rows
+KeepsItsTable rows _ table = NamesNoSign rows × (table.with_part ≡ false)
+
 -- what was measured of the program, in the named form, with the named features, and with the named setup and limits, each if one is named;
 -- no record is named
 abbrev pub IsExportOf : List Row → Export → Type 0
 IsExportOf rows o =
     IsValueOf (codes "as") rows (form_word (Table o.form)) × IsMaybeOf (codes "setup") rows (option_map string_bytes o.setup)
+    × IsTableOf rows o.table × KeepsItsTable rows (Table o.form) o.table
     × IsValueOf (codes "features") rows (string_bytes o.features) × HasNone (codes "record") rows
     × IsMaybeOf (codes "limits") rows (option_map string_bytes o.limits) × IsExplainedOf rows o.explain
     × IsProgramOf rows (string_bytes o.program)
@@ -228,6 +264,7 @@ IsExportOf rows o =
 abbrev pub IsRecordExportOf : List Row → RecordExport → Type 0
 IsRecordExportOf rows o =
     IsValueOf (codes "as") rows (form_word o.form) × IsMaybeOf (codes "setup") rows (option_map string_bytes o.setup)
+    × IsTableOf rows o.table × KeepsItsTable rows o.form o.table
     × IsValueOf (codes "record") rows (string_bytes o.record) × HasNone (codes "features") rows
     × IsMaybeOf (codes "limits") rows (option_map string_bytes o.limits) × IsExplainedOf rows o.explain
     × IsProgramOf rows (string_bytes o.program)
@@ -280,6 +317,7 @@ IsLowerOf rows o =
 abbrev pub IsReportOf : List Row → PartReport → Type 0
 IsReportOf rows o =
     IsMaybeOf (codes "setup") rows (option_map string_bytes o.setup) × IsValueOf (codes "record") rows (string_bytes o.record)
+    × IsMaybeOf (codes "seal-key") rows (option_map string_bytes o.seal_key)
     × IsMaybeOf (codes "limits") rows (option_map string_bytes o.limits) × IsExplainedOf rows o.explain
     × IsProgramOf rows (string_bytes o.program)
 
@@ -420,6 +458,13 @@ IsNoCode code = (topic : Topic) → IsCodeOf topic code → ⊥
 abbrev pub IsNoForm : Text → Type 0
 IsNoForm word = (form : RecordForm) → word ≡ form_word form → ⊥
 
+-- the word names no separator, or no decimal sign
+abbrev pub IsNoSeparator : Text → Type 0
+IsNoSeparator word = (s : Separator) → word ≡ separator_word s → ⊥
+
+abbrev pub IsNoSign : Text → Type 0
+IsNoSign word = (s : DecimalSign) → word ≡ sign_word s → ⊥
+
 -- no refusal has the named code; or memory ran out
 abbrev pub HasNoTopic : List Row → WordsFault → Type 0
 HasNoTopic rows (NoCode code) = IsValueOf (codes "CODE") rows (string_bytes code) × IsNoCode (string_bytes code)
@@ -446,8 +491,24 @@ abbrev pub ExportMisfits : List Row → Misfit → Type 0
 ExportMisfits rows misfit.RecordAndFeatures = HasValue (codes "record") rows × HasValue (codes "features") rows
 ExportMisfits rows misfit.FeaturesWithoutRecord = HasNone (codes "record") rows × IsValueOf (codes "as") rows (form_word Features)
 ExportMisfits rows misfit.ContactsWithoutRecord = HasNone (codes "record") rows × IsValueOf (codes "as") rows (form_word Contacts)
+ExportMisfits rows misfit.SignsWithoutCsv = (NamesNoSign rows → ⊥) × (IsValueOf (codes "as") rows (codes "csv") → ⊥)
+ExportMisfits rows misfit.PartWithoutTable = IsFlagOf (codes "with-part") rows true × (IsValueOf (codes "as") rows (codes "csv") → ⊥)
+    × (IsValueOf (codes "as") rows (codes "json") → ⊥)
 ExportMisfits rows (misfit.ExportLacks is_named) = HasNone (codes "record") rows × HasNone (codes "features") rows
 ExportMisfits rows _ = ⊥
+
+-- options of a table that are not those of a form
+abbrev pub TableMisfits : List Row → RecordForm → TableOptions → Misfit → Type 0
+TableMisfits rows form table misfit.SignsWithoutCsv = (NamesNoSign rows → ⊥) × (form_word form ≢ codes "csv")
+TableMisfits rows form table misfit.PartWithoutTable = (table.with_part ≡ true) × (form_word form ≢ codes "csv") × (form_word form ≢ codes "json")
+TableMisfits rows form table _ = ⊥
+
+-- the named separator or decimal sign is none; or memory ran out
+abbrev pub HasNoTable : List Row → WordsFault → Type 0
+HasNoTable rows (NoSeparator word) = IsValueOf (codes "separator") rows (string_bytes word) × IsNoSeparator (string_bytes word)
+HasNoTable rows (NoSign word) = IsValueOf (codes "decimal") rows (string_bytes word) × IsNoSign (string_bytes word)
+HasNoTable rows Memory = Unit {0}
+HasNoTable rows _ = ⊥
 
 -- the options of an audit do not go together; or memory ran out
 abbrev pub HasNoAudit : List Row → WordsFault → Type 0
@@ -459,6 +520,8 @@ HasNoAudit rows _ = ⊥
 abbrev pub HasNoExport : List Row → WordsFault → Type 0
 HasNoExport rows (NoForm word) = IsValueOf (codes "as") rows (string_bytes word) × IsNoForm (string_bytes word)
 HasNoExport rows (Misfits why) = ExportMisfits rows why
+HasNoExport rows (NoSeparator word) = HasNoTable rows (NoSeparator word)
+HasNoExport rows (NoSign word) = HasNoTable rows (NoSign word)
 HasNoExport rows Memory = Unit {0}
 HasNoExport rows _ = ⊥
 

@@ -141,6 +141,15 @@ const BYTES_HELP: &str =
 const FORM_HELP: &str =
     "The form that is printed: csv, comma-separated values; json; svg, a drawing; of a record also features or contacts";
 
+const SEPARATOR_HELP: &str =
+    "What stands between the fields of --as csv: comma, semicolon or tab; comma if none is named";
+
+const DECIMAL_HELP: &str =
+    "What stands before the decimals in --as csv: point or comma; point if none is named";
+
+const WITH_PART_HELP: &str =
+    "Says in each row of a table its part, its program, and whether its point is missing";
+
 const FINDING_FORM_HELP: &str =
     "The form that is printed: json, for other programs; lines if none is named";
 
@@ -324,6 +333,9 @@ const LATER_LINES: [Line; 9] = [
             Text("features", "FILE", MEASURED_HELP),
             RECORD,
             Text("limits", "FILE", LIMITS_HELP),
+            Text("separator", "SIGN", SEPARATOR_HELP),
+            Text("decimal", "SIGN", DECIMAL_HELP),
+            Flag("with-part", WITH_PART_HELP),
             EXPLAIN,
             PROGRAM,
         ],
@@ -383,6 +395,7 @@ const LATER_LINES: [Line; 9] = [
             Needed("record", "FILE", REPORTED_RECORD_HELP),
             SETUP,
             Text("limits", "FILE", LIMITS_HELP),
+            SEAL_KEY,
             EXPLAIN,
             PROGRAM,
         ],

@@ -36,6 +36,10 @@ pub enum Misfit {
     FeaturesWithoutRecord,
     /// `--as contacts` without `--record`.
     ContactsWithoutRecord,
+    /// `--separator` or `--decimal` without `--as csv`.
+    SignsWithoutCsv,
+    /// `--with-part` with neither `--as csv` nor `--as json`.
+    PartWithoutTable,
     /// An audit without `--record` that lacks other files.
     AuditLacks(Lacks),
     /// An export with neither `--record` nor `--features`, and whether its program is named.
@@ -101,6 +105,12 @@ impl fmt::Display for Misfit {
             }
             Misfit::ContactsWithoutRecord => {
                 "the argument '--as contacts' requires '--record <FILE>'"
+            }
+            Misfit::SignsWithoutCsv => {
+                "the arguments '--separator <SIGN>' and '--decimal <SIGN>' require '--as csv'"
+            }
+            Misfit::PartWithoutTable => {
+                "the argument '--with-part' requires '--as csv' or '--as json'"
             }
             Misfit::AuditLacks(lacks) if lacks.features && lacks.contacts => {
                 let lines =

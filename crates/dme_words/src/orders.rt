@@ -1,6 +1,6 @@
 // What the words of a command line ask for.
 
-use deviations::Form;
+use deviations::{Form, TableOptions};
 use refusal_guide::Topic;
 
 /// What the words of a command line ask for, with its values.
@@ -194,6 +194,8 @@ pub struct Run {
 pub struct Export {
     /// The form that is printed.
     pub form: Form,
+    /// How a table is written.
+    pub table: TableOptions,
     /// The file of the machine's setup, whose frames the program may recall; `-` is standard input.
     pub setup: Option<String>,
     /// The file of the features that were measured; `-` is standard input.
@@ -222,6 +224,8 @@ pub enum RecordForm {
 pub struct RecordExport {
     /// The form that is printed.
     pub form: RecordForm,
+    /// How a table is written.
+    pub table: TableOptions,
     /// The file of the machine's setup, whose frames the program may recall; `-` is standard input.
     pub setup: Option<String>,
     /// The file of the record; `-` is standard input.
@@ -314,6 +318,8 @@ pub struct PartReport {
     pub setup: Option<String>,
     /// The file of the record; `-` is standard input.
     pub record: String,
+    /// The file of the key by which its seals are judged; `-` is standard input.
+    pub seal_key: Option<String>,
     /// The file of the limits that the points are compared with; `-` is standard input.
     pub limits: Option<String>,
     /// Whether a line that is refused is shown, with what is wrong with it.

@@ -6,7 +6,7 @@ ghost use Rattle.clap.specs.Words.{all_of, first_of, found_of, rows_of, subcomma
 ghost use Rattle.client_core.specs.Clients.{is_window};
 ghost use Rattle.dme_words.specs.Ordered as spec;
 ghost use Rattle.dme_words.specs.CommandLine.{audit_line, check_line, explain_line, export_line, judge_line, ledger_line, loop_line, lower_line, report_line, run_line, serve_line, simulate_line, watch_line};
-ghost use Rattle.dme_words.specs.Ordered.{Asks, AsksForNothing, ExportMisfits, Has, HasFlag, HasNoAudit, HasNoExport, HasNoName, HasNoReview, HasNoRun, HasNoRunValue, HasNoSeconds, HasNoSummary, HasNoTopic, HasNone, HasNumber, HasValue, IsAnyAuditOf, IsAnyExportOf, IsAskable, IsCalled, IsCheckOf, IsCodeOf, IsConnectionsOf, IsExplainOf, IsFindingFormOf, IsFlagOf, IsGivenOf, IsJudgeOf, IsLaterAskable, IsLedgerOf, IsLoopOf, IsLowerOf, IsMaybeOf, IsNoCode, IsNoForm, IsNoSeconds, IsNumber, IsNumberOf, IsOrderOf, IsProgramOf, IsReady, IsRecordOf, IsRefusal, IsRefusedOf, IsReportOf, IsReviewOf, IsRunOf, IsSecondsOf, IsServeOf, IsSimulateOf, IsSummaryFormOf, IsSummaryOf, IsValueOf, IsValueOrInput, IsWatchOf, IsWindowOf, KeepsItsKey, KeepsItsOperator, NamesItsPart, RunMisfits, form_word, is_lacking};
+ghost use Rattle.dme_words.specs.Ordered.{Asks, AsksForNothing, ExportMisfits, Has, HasFlag, HasNoAudit, HasNoExport, HasNoName, HasNoReview, HasNoRun, HasNoRunValue, HasNoSeconds, HasNoSummary, HasNoTable, HasNoTopic, HasNone, HasNumber, HasValue, IsAnyAuditOf, IsAnyExportOf, IsAskable, IsCalled, IsCheckOf, IsCodeOf, IsConnectionsOf, IsExplainOf, IsFindingFormOf, IsFlagOf, IsGivenOf, IsJudgeOf, IsLaterAskable, IsLedgerOf, IsLoopOf, IsLowerOf, IsMaybeOf, IsNoCode, IsNoForm, IsNoSeconds, IsNumber, IsNumberOf, IsOrderOf, IsProgramOf, IsReady, IsRecordOf, IsRefusal, IsRefusedOf, IsReportOf, IsReviewOf, IsRunOf, IsSecondsOf, IsSeparatorOf, IsServeOf, IsSignOf, IsSimulateOf, IsSummaryFormOf, IsSummaryOf, IsTableOf, IsValueOf, IsValueOrInput, IsWatchOf, IsWindowOf, KeepsItsKey, KeepsItsOperator, KeepsItsTable, NamesItsPart, RunMisfits, TableMisfits, form_word, is_lacking};
 
 use crate::folders::record_in;
 use crate::line::whole_command;
@@ -18,7 +18,7 @@ use crate::orders::{
 use clap::error::ErrorKind;
 use clap::parser::ValueSource;
 use clap::{ArgMatches, Error};
-use deviations::Form;
+use deviations::{DecimalSign, Form, Separator, TableOptions};
 use record_text::is_part;
 use refusal_guide::Topic;
 use session_telling::visible;
@@ -33,6 +33,12 @@ const FINDING_FORMS: &str = "\n  [possible values: json]";
 
 /// Likewise, of a summary.
 const SUMMARY_FORMS: &str = "\n  [possible values: text, csv]";
+
+/// The separators of a table.
+const SEPARATORS: &str = "\n  [possible values: ',', ';', tab]";
+
+/// Its decimal signs.
+const SIGNS: &str = "\n  [possible values: point, comma]";
 
 /// Why words ask for nothing. Shown as `clap` shows its own faults.
 #[derive(Debug, Drop)]
@@ -49,6 +55,10 @@ pub enum WordsFault {
     NoFindingForm(String),
     /// A word that names no form of a summary.
     NoSummaryForm(String),
+    /// A word that names no separator of a table.
+    NoSeparator(String),
+    /// A word that names no decimal sign.
+    NoSign(String),
     /// A text that is no number of seconds, and the option that it was given to.
     NoSeconds(&'static str, String),
     /// A text that may not be the name of a part or of an operator, and the option that it was given to.
@@ -95,6 +105,8 @@ impl fmt::Display for WordsFault {
             WordsFault::NoForm(word) => write_value(f, word, "--as <FORM>", FORMS),
             WordsFault::NoFindingForm(word) => write_value(f, word, "--as <FORM>", FINDING_FORMS),
             WordsFault::NoSummaryForm(word) => write_value(f, word, "--as <FORM>", SUMMARY_FORMS),
+            WordsFault::NoSeparator(word) => write_value(f, word, "--separator <SIGN>", SEPARATORS),
+            WordsFault::NoSign(word) => write_value(f, word, "--decimal <SIGN>", SIGNS),
             WordsFault::NoSeconds(option, text) => write!(
                 f,
                 "error: invalid value '{text}' for '--{option} <SECONDS>': a number from 1 to 86400\n\nFor more information, try '--help'.\n"
@@ -525,15 +537,92 @@ fn form_of(word: String) -> Result<RecordForm, WordsFault>
     }
 }
 
+fn separator_of(alloc: Global, values: &ArgMatches) -> Result<Separator, WordsFault>
+    ensures named { IfOk result (IsSeparatorOf (rows_of (found_of values.now))) }
+    ensures none { IfErr result (HasNoTable (rows_of (found_of values.now))) }
+{
+    match value_of(values, "separator") {
+        None | Some(",") => Ok(Separator::Comma),
+        Some(";") => Ok(Separator::Semicolon),
+        Some("tab") => Ok(Separator::Tab),
+        Some(word) => Err(WordsFault::NoSeparator(String::from_str(alloc, word)?)),
+    }
+}
+
+fn sign_of(alloc: Global, values: &ArgMatches) -> Result<DecimalSign, WordsFault>
+    ensures named { IfOk result (IsSignOf (rows_of (found_of values.now))) }
+    ensures none { IfErr result (HasNoTable (rows_of (found_of values.now))) }
+{
+    match value_of(values, "decimal") {
+        None | Some("point") => Ok(DecimalSign::Point),
+        Some("comma") => Ok(DecimalSign::Comma),
+        Some(word) => Err(WordsFault::NoSign(String::from_str(alloc, word)?)),
+    }
+}
+
+/// How a table is written.
+fn table_of(alloc: Global, values: &ArgMatches) -> Result<TableOptions, WordsFault>
+    requires { HasFlag (codes "with-part") (rows_of (found_of values.now)) }
+    ensures named { IfOk result (IsTableOf (rows_of (found_of values.now))) }
+    ensures none { IfErr result (HasNoTable (rows_of (found_of values.now))) }
+{
+    Ok(TableOptions {
+        separator: separator_of(alloc, values)?,
+        sign: sign_of(alloc, values)?,
+        with_part: flag_of(values, "with-part"),
+    })
+}
+
+/// Why options of a table are not those of a form, if they are not.
+fn table_misfit(values: &ArgMatches, form: RecordForm, table: TableOptions) -> Option<Misfit>
+    ensures { MatchOption result (KeepsItsTable (rows_of (found_of values.now)) form table)
+        (TableMisfits (rows_of (found_of values.now)) form table) }
+{
+    let is_plain = is_lacking(values, "separator") && is_lacking(values, "decimal");
+    match form {
+        RecordForm::Table(Form::Csv) => None,
+        _ if !is_plain => Some(Misfit::SignsWithoutCsv),
+        RecordForm::Table(Form::Json) => None,
+        _ if table.with_part => Some(Misfit::PartWithoutTable),
+        _ => None,
+    }
+}
+
+/// The form of an export by its word, and how a table is written.
+fn shown_of(
+    alloc: Global,
+    values: &ArgMatches,
+    word: String,
+) -> Result<(RecordForm, TableOptions), WordsFault>
+    requires flag { HasFlag (codes "with-part") (rows_of (found_of values.now)) }
+    requires word { IsValueOf (codes "as") (rows_of (found_of values.now)) (string_bytes word) }
+    ensures form { IfOk result (λ shown. IsValueOf (codes "as") (rows_of (found_of values.now))
+        (form_word shown.0)) }
+    ensures table { IfOk result (λ shown. IsTableOf (rows_of (found_of values.now)) shown.1) }
+    ensures keeps { IfOk result (λ shown. KeepsItsTable (rows_of (found_of values.now)) shown.0
+        shown.1) }
+    ensures none { IfErr result (HasNoExport (rows_of (found_of values.now))) }
+{
+    let form = form_of(word)?;
+    let table = table_of(alloc, values)?;
+    match table_misfit(values, form, table) {
+        Some(why) => Err(WordsFault::Misfits(why)),
+        None => Ok((form, table)),
+    }
+}
+
 /// The values of `export` for the record that is named.
 fn record_export(
     alloc: Global,
     values: &ArgMatches,
     form: RecordForm,
+    table: TableOptions,
     file: String,
 ) -> Result<Order, WordsFault>
     requires explain { HasFlag (codes "explain") (rows_of (found_of values.now)) }
     requires form { IsValueOf (codes "as") (rows_of (found_of values.now)) (form_word form) }
+    requires table { IsTableOf (rows_of (found_of values.now)) table }
+    requires keeps { KeepsItsTable (rows_of (found_of values.now)) form table }
     requires recorded { IsValueOf (codes "record") (rows_of (found_of values.now))
         (string_bytes file) }
     requires features { HasNone (codes "features") (rows_of (found_of values.now)) }
@@ -542,6 +631,7 @@ fn record_export(
 {
     Ok(Order::ExportRecord(RecordExport {
         form,
+        table,
         setup: copied_maybe(alloc, values, "setup")?,
         record: file,
         limits: copied_maybe(alloc, values, "limits")?,
@@ -555,10 +645,13 @@ fn features_export(
     alloc: Global,
     values: &ArgMatches,
     form: RecordForm,
+    table: TableOptions,
     features: String,
 ) -> Result<Order, WordsFault>
     requires explain { HasFlag (codes "explain") (rows_of (found_of values.now)) }
     requires form { IsValueOf (codes "as") (rows_of (found_of values.now)) (form_word form) }
+    requires table { IsTableOf (rows_of (found_of values.now)) table }
+    requires keeps { KeepsItsTable (rows_of (found_of values.now)) form table }
     requires features { IsValueOf (codes "features") (rows_of (found_of values.now))
         (string_bytes features) }
     requires recorded { HasNone (codes "record") (rows_of (found_of values.now)) }
@@ -576,6 +669,7 @@ fn features_export(
     };
     Ok(Order::Export(Export {
         form,
+        table,
         setup: copied_maybe(alloc, values, "setup")?,
         features,
         limits: copied_maybe(alloc, values, "limits")?,
@@ -609,8 +703,14 @@ fn export_order(alloc: Global, values: &ArgMatches) -> Result<Order, WordsFault>
     let features = copied_maybe(alloc, values, "features")?;
     match (record, features) {
         (Some(_), Some(_)) => Err(WordsFault::Misfits(Misfit::RecordAndFeatures)),
-        (Some(record), None) => record_export(alloc, values, form_of(word)?, record),
-        (None, Some(features)) => features_export(alloc, values, form_of(word)?, features),
+        (Some(record), None) => {
+            let (form, table) = shown_of(alloc, values, word)?;
+            record_export(alloc, values, form, table, record)
+        }
+        (None, Some(features)) => {
+            let (form, table) = shown_of(alloc, values, word)?;
+            features_export(alloc, values, form, table, features)
+        }
         (None, None) => Err(WordsFault::Misfits(export_lacks(values, word.as_str()))),
     }
 }
@@ -709,6 +809,7 @@ fn report_order(alloc: Global, values: &ArgMatches) -> Result<PartReport, AllocE
     Ok(PartReport {
         setup: copied_maybe(alloc, values, "setup")?,
         record: copied_value(alloc, values, "record")?,
+        seal_key: copied_maybe(alloc, values, "seal-key")?,
         limits: copied_maybe(alloc, values, "limits")?,
         explain: flag_of(values, "explain"),
         program: copied_program(alloc, values)?,

@@ -8,17 +8,20 @@ use Rattle.deviations.specs.Rows.{Row}
 use Rattle.dmis_program.specs.Meaning.{Meaning}
 use Rattle.dmis_program.specs.declared.features.Wanted.{Wanted}
 use Rattle.drawings.specs.Drawing.{IsDrawing}
+use Rattle.record_seal.specs.declared.seals.SealVerdict.{SealVerdict}
+use Rattle.record_seal.specs.declared.seals.SealVerdict.TheVariants as seal
 use Rattle.deviations.specs.declared.entries.Limit.{Limit}
 use Rattle.drawings.specs.BarCells.{greatest}
 use Rattle.drawings.specs.Markup.{between}
 use Rattle.drawings.specs.Texts.{markup}
 use Rattle.drawings.specs.Sections.{sections_text}
 
--- what a page has besides its points: the part, the program, whether each feature has its run of contacts, the line of that
--- verdict, the lines of the server's errors, and those of what else the record notes
+-- what a page has besides its points: the part, the program, what the seals say, whether each feature has its run of contacts, the line
+-- of that verdict, the lines of the server's errors, and those of what else the record notes
 pub record PageFacts : Type 0 where
   pub part : List ℕ
   pub program : List ℕ
+  pub seals : SealVerdict
   pub sound : Bool
   pub verdict : List ℕ
   pub errors : List ℕ
@@ -78,6 +81,17 @@ abbrev pub limits_text : Option (List Limit) → Bool → List Row → List ℕ
 limits_text (Some limits) complete rows = within_text limits complete rows
 limits_text None complete rows = markup (codes "<p class=\"open\"><b>Not compared with limits:</b> none were named.</p>\n")
 
+-- what the seals of the record say: only under a key, and if one stands for each line, is a record called sealed
+unfoldable pub open_text : ℕ → List ℕ
+open_text line = markup (codes "<p class=\"no\"><b>Seals do not hold:</b> no true seal stands for line ") ++ (decimal line
+    ++ markup (codes " of the record.</p>\n"))
+
+abbrev pub seals_text : SealVerdict → List ℕ
+seals_text seal.Unsealed = markup (codes "<p class=\"open\"><b>Not sealed:</b> the record has no seal.</p>\n")
+seals_text seal.Unjudged = markup (codes "<p class=\"open\"><b>Seals not checked:</b> no key was named.</p>\n")
+seals_text seal.Sealed = markup (codes "<p class=\"yes\"><b>Sealed:</b> a true seal stands for each line of the record.</p>\n")
+seals_text (seal.Open line) = open_text line
+
 -- an audit of nothing is neither good news nor bad
 abbrev pub audit_start : ℕ → Bool → List ℕ
 audit_start measured sound =
@@ -114,12 +128,12 @@ names_text facts = between (codes "<h1>Part ") facts.part (codes "</h1>\n") ++ p
 
 unfoldable pub summary_text : PageFacts → ℕ → List Wanted → Option (List Limit) → List Row → List ℕ
 summary_text facts measured wanted limits rows = names_text facts ++ (complete_text measured wanted
-    ++ (limits_text limits (measured == length wanted) rows ++ (audit_text facts measured
-    ++ markup (codes "<p>Lengths are in millimetres. A bar is the deviation along the normal, to the right if there is too much material.</p>\n"))))
+    ++ (limits_text limits (measured == length wanted) rows ++ (seals_text facts.seals ++ (audit_text facts measured
+    ++ markup (codes "<p>Lengths are in millimetres. A bar is the deviation along the normal, to the right if there is too much material.</p>\n")))))
 
 -- how to check the page
 unfoldable pub page_end : List ℕ
-page_end = markup (codes "<h2>How to check this page</h2>\n<p><code>dme audit --record FILE [--setup FILE] PROGRAM</code> audits the record again, ")
+page_end = markup (codes "<h2>How to check this page</h2>\n<p><code>dme audit --record FILE [--setup FILE] [--seal-key FILE] PROGRAM</code> audits the record again, ")
     ++ markup (codes "<code>dme export --as csv --record FILE [--setup FILE] [--limits FILE] PROGRAM</code> prints the same numbers.</p>\n</body></html>\n")
 
 -- the page of a part, with a drawing of its program and features

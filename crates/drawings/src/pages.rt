@@ -1,16 +1,17 @@
 // The whole page.
 
 ghost use Rattle.std.specs.Prelude.{◌≡◌, ◌<◌, ◌++◌, drop, length, IfOk, OnOk};
-ghost use Rattle.drawings.specs.Names.{flat_map, Adds, style, page_head, complete_start, missing_label, complete_text, within_start, within_line, within_text, limits_text, audit_start, verdict_text, errors_text, audit_text, names_text, notes_text, program_line, program_text, summary_text, page_end, IsPage};
+ghost use Rattle.drawings.specs.Names.{flat_map, Adds, style, page_head, complete_start, missing_label, complete_text, within_start, within_line, within_text, limits_text, open_text, seals_text, audit_start, verdict_text, errors_text, audit_text, names_text, notes_text, program_line, program_text, summary_text, page_end, IsPage};
 
 use crate::bar_cells::greatest;
 use crate::drawing::write_drawing;
 use crate::markup::{put_between, put_count};
 use crate::sections::put_sections;
-use crate::texts::put_markup;
+use crate::texts::{put_markup, put_number};
 use contact_ledger::Feature;
 use deviations::{Limits, Row, compared_count, out_count};
 use dmis_program::{Program, Wanted};
+use record_seal::SealVerdict;
 use std::alloc::{AllocError, Global};
 use std::marker::Model;
 
@@ -21,6 +22,8 @@ pub struct Facts<'a> {
     pub part: &'a [u8],
     /// The name of the program.
     pub program: &'a [u8],
+    /// What the seals of the record say.
+    pub seals: SealVerdict,
     /// Whether each feature has its run of contacts.
     pub sound: bool,
     /// The line of the audit.
@@ -39,6 +42,7 @@ impl<'a> Model for Facts<'a> {
     ghost view = { λ f. record {
       part = f.part.now;
       program = f.program.now;
+      seals = f.seals;
       sound = f.sound;
       verdict = f.verdict.now;
       errors = f.errors.now;
@@ -57,6 +61,12 @@ impl<'a> Facts<'a> {
         ensures { result.now ≡ self.now.program }
     {
         self.program
+    }
+
+    fn seals(&self) -> SealVerdict
+        ensures { result ≡ self.now.seals }
+    {
+        self.seals
     }
 
     fn is_sound(&self) -> bool
@@ -234,6 +244,38 @@ fn put_limits(
     }
 }
 
+#[tactic(auto, unfolding(crate::specs::Pages::open_text))]
+fn put_open(out: &mut Vec<u8>, line: u64) -> Result<(), AllocError>
+    ensures { OnOk result (out.new.items ≡ out.old.items ++ open_text line) }
+{
+    put_markup(
+        out,
+        b"<p class=\"no\"><b>Seals do not hold:</b> no true seal stands for line ",
+    )?;
+    put_number(out, line)?;
+    put_markup(out, b" of the record.</p>\n")
+}
+
+fn put_seals(out: &mut Vec<u8>, seals: SealVerdict) -> Result<(), AllocError>
+    ensures { OnOk result (out.new.items ≡ out.old.items ++ seals_text seals) }
+{
+    match seals {
+        SealVerdict::Unsealed => put_markup(
+            out,
+            b"<p class=\"open\"><b>Not sealed:</b> the record has no seal.</p>\n",
+        ),
+        SealVerdict::Unjudged => put_markup(
+            out,
+            b"<p class=\"open\"><b>Seals not checked:</b> no key was named.</p>\n",
+        ),
+        SealVerdict::Sealed => put_markup(
+            out,
+            b"<p class=\"yes\"><b>Sealed:</b> a true seal stands for each line of the record.</p>\n",
+        ),
+        SealVerdict::Open(line) => put_open(out, line),
+    }
+}
+
 fn audit_start(measured: usize, sound: bool) -> &'static [u8]
     ensures { result.now ≡ audit_start measured sound }
 {
@@ -320,6 +362,7 @@ fn put_summary(
     put_names(out, facts)?;
     put_complete(out, measured, wanted)?;
     put_limits(out, limits, measured == wanted.len(), rows)?;
+    put_seals(out, facts.seals())?;
     put_audit(out, facts, measured)?;
     put_markup(
         out,
@@ -333,7 +376,7 @@ fn put_end(out: &mut Vec<u8>) -> Result<(), AllocError>
 {
     put_markup(
         out,
-        b"<h2>How to check this page</h2>\n<p><code>dme audit --record FILE [--setup FILE] PROGRAM</code> audits the record again, ",
+        b"<h2>How to check this page</h2>\n<p><code>dme audit --record FILE [--setup FILE] [--seal-key FILE] PROGRAM</code> audits the record again, ",
     )?;
     put_markup(
         out,

@@ -7,6 +7,8 @@ use Rattle.std.specs.Str.{bytes_eq}
 use Rattle.hex.specs.Hex.{encode_lower}
 use Rattle.contact_ledger.specs.Lines.{whole_lines}
 use Rattle.record_seal.specs.Macs.{hmac}
+use Rattle.record_seal.specs.declared.seals.SealVerdict.{SealVerdict}
+use Rattle.record_seal.specs.declared.seals.SealVerdict.TheVariants as verdict
 
 -- the seal of a text under a key
 abbrev pub seal_of : (key text : List ℕ) → List ℕ
@@ -48,3 +50,19 @@ unsealed text = if below_seal 1 1 (whole_lines text) == length (whole_lines text
 -- above it
 abbrev pub open_line : (key text : List ℕ) → Option ℕ
 open_line key text = option_or (false_seal key text) (unsealed text)
+
+-- what the seals of a text say, under a key if one is given
+abbrev pub verdict_at : Option ℕ → SealVerdict
+verdict_at None = verdict.Sealed
+verdict_at (Some line) = verdict.Open line
+
+abbrev pub verdict_under : (key text : List ℕ) → SealVerdict
+verdict_under key text = verdict_at (open_line key text)
+
+abbrev pub verdict_of : Option (List ℕ) → List ℕ → SealVerdict
+verdict_of None text = verdict.Unjudged
+verdict_of (Some key) text = verdict_under key text
+
+-- without a seal nothing is judged
+abbrev pub seal_verdict : Option (List ℕ) → List ℕ → SealVerdict
+seal_verdict key text = if below_seal 1 1 (whole_lines text) == 1 then verdict.Unsealed else verdict_of key text

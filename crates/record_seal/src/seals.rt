@@ -1,8 +1,9 @@
 // The seal of a text, and which lines of a record seals stand for.
 
-ghost use Rattle.std.specs.Prelude.{◌≡◌, ◌≤◌, length, IfOk, string_bytes, option_map};
+ghost use Rattle.std.specs.Prelude.{◌≡◌, ◌≤◌, ◌+◌, length, IfOk, string_bytes, option_map};
 ghost use Rattle.std.specs.List.{prefix_len};
 ghost use Rattle.std.specs.Char.{is_ascii_digit};
+ghost use Rattle.contact_ledger.specs.Lines.{whole_lines};
 ghost use Rattle.record_seal.specs.Seals as spec;
 
 use crate::macs::hmac;
@@ -63,10 +64,10 @@ pub fn false_seal(alloc: Global, key: &[u8], text: &[u8]) -> Result<Option<u64>,
     Ok(None)
 }
 
-/// The number of the first line that is above no seal.
-#[tactic(auto, unfolding(crate::specs::Seals::unsealed))]
-fn unsealed(text: &[u8]) -> Option<u64>
-    ensures { result ≡ spec.unsealed text.now }
+/// The number of the line below the last seal, and that of the line below the last line.
+fn below_seal(text: &[u8]) -> (u64, u64)
+    ensures seal { result.0 ≡ spec.below_seal 1 1 (whole_lines text.now) }
+    ensures line { result.1 ≡ length (whole_lines text.now) + 1 }
 {
     let mut below = 1;
     let mut number = 1;
@@ -78,6 +79,15 @@ fn unsealed(text: &[u8]) -> Option<u64>
         }
         rest = after;
     }
+    (below, number)
+}
+
+/// The number of the first line that is above no seal.
+#[tactic(auto, unfolding(crate::specs::Seals::unsealed))]
+fn unsealed(text: &[u8]) -> Option<u64>
+    ensures { result ≡ spec.unsealed text.now }
+{
+    let (below, number) = below_seal(text);
     if below == number { None } else { Some(below) }
 }
 
@@ -89,5 +99,46 @@ pub fn open_line(alloc: Global, key: &[u8], text: &[u8]) -> Result<Option<u64>, 
     match false_seal(alloc, key, text)? {
         Some(number) => Ok(Some(number)),
         None => Ok(unsealed(text)),
+    }
+}
+
+/// What the seals of a text say.
+#[derive(Clone, Copy, Debug, PartialEq, Eq)]
+pub enum SealVerdict {
+    /// The text has no seal.
+    Unsealed,
+    /// It has seals, and there is no key to judge them by.
+    Unjudged,
+    /// A true seal stands for each line.
+    Sealed,
+    /// No true seal stands for this line.
+    Open(u64),
+}
+
+fn verdict_under(alloc: Global, key: &[u8], text: &[u8]) -> Result<SealVerdict, AllocError>
+    ensures { IfOk result (λ verdict. verdict ≡ spec.verdict_under key.now text.now) }
+{
+    match open_line(alloc, key, text)? {
+        Some(line) => Ok(SealVerdict::Open(line)),
+        None => Ok(SealVerdict::Sealed),
+    }
+}
+
+/// What the seals of a text say under a key, if one is given: that no line is a seal, or as `open_line` judges. Fails only if out of memory.
+pub fn seal_verdict(
+    alloc: Global,
+    key: &Option<Vec<u8>>,
+    text: &[u8],
+) -> Result<SealVerdict, AllocError>
+    ensures { IfOk result (λ verdict. verdict
+        ≡ spec.seal_verdict (option_map (λ key. key.items) key.now) text.now) }
+{
+    let (below, _) = below_seal(text);
+    if below == 1 {
+        return Ok(SealVerdict::Unsealed);
+    }
+    match key {
+        Some(key) => verdict_under(alloc, key.as_slice(), text),
+        None => Ok(SealVerdict::Unjudged),
     }
 }

@@ -21,6 +21,8 @@ ghost use Rattle.dmis_program.specs.declared.features.Touch.{Touch};
 ghost use Rattle.dmis_program.specs.declared.features.Wanted.{Wanted};
 ghost use Rattle.run_session.specs.ErrorRows.{row, two};
 ghost use Rattle.run_session.specs.Errors.{Hears, Records, Talk, error_kept, error_line, new_talk, touch_text, with_about, with_written};
+ghost use Rattle.run_session.specs.Progress.{full_cells, left, pace_line};
+ghost use Rattle.run_session.specs.declared.progress.Pace.{Pace};
 ghost use Rattle.session_telling.specs.Dialogues.{Reported};
 ghost use Rattle.run_session.specs.declared.stages.Stage.TheVariants.{Checking, Peeking, Recording, Settling, Reporting, ReplacingContacts, Listing, Showing, Sending, Receiving, Awaiting, Returning, Closing, Leaving, Ending, Telling, Exiting};
 
@@ -207,4 +209,35 @@ pub fn error_rows()
         → Hears fs (codes "00005 ! 1 x") t u before after → after ≡ before }
     ensures recorded { (t u : Talk) (error : List ℕ) → t.errors ≡ []
         → Records (error ∷ []) t u → ⊥ }
+{}
+
+/// The line of a run on a terminal: its bar is rounded down, and what is left goes by the touches of this run alone.
+#[tactic(auto, unfolding(crate::specs::Progress::pace_line, crate::specs::Progress::bar, crate::specs::Progress::clock))]
+pub fn pace_rows()
+    ensures line { pace_line false (record {
+      measured = 3;
+      asked = 8;
+      before = 4;
+      touches = 17;
+      all = 40;
+      gone = 42000;
+    }) ≡ codes "[########------------] 3 of 8 features, 17 of 40 touches, 0:42 gone, 1:14 left\n" }
+    ensures resumed { left (record {
+      measured = 3;
+      asked = 8;
+      before = 17;
+      touches = 17;
+      all = 40;
+      gone = 42000;
+    }) ≡ None }
+    ensures complete { full_cells (record {
+      measured = 8;
+      asked = 8;
+      before = 0;
+      touches = 40;
+      all = 40;
+      gone = 0;
+    }) ≡ 20 }
+    ensures anew { (p : Pace) → pace_line true p
+        ≡ 27 ∷ 91 ∷ 49 ∷ 65 ∷ 27 ∷ 91 ∷ 50 ∷ 75 ∷ pace_line false p }
 {}

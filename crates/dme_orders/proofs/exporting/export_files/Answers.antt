@@ -13,7 +13,7 @@ returns-in_err-write_text g c = torn_as _ _ _ _ c.from_residual-in_err-write_tex
   read = c.in_ok-ranges.ensures.ok.1;
   end = c.in_ok-exported.exported;
   text = c.as_slice.result.now;
-  leaves = record { table = search rules; lacks = search rules; compares = search rules };
+  leaves = record { told = search rules; lacks = search rules; compares = search rules };
   front = search rules;
   fails = search rules;
 })
@@ -29,7 +29,7 @@ returns g c = record {
   };
   read = c.in_ok-ranges.ensures.ok.1;
   text = c.as_slice.result.now;
-  leaves = record { table = search rules; lacks = search rules; compares = search rules };
+  leaves = record { told = search rules; lacks = search rules; compares = search rules };
   written = search rules;
   works = inl (search rules);
 }

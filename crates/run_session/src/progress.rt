@@ -1,0 +1,148 @@
+// How far a run is, as one line on a terminal, which is written anew.
+
+ghost use Rattle.std.specs.Prelude.{◌≡◌, ◌++◌, OnOk, IfOk, string_bytes};
+ghost use Rattle.run_session.specs.Progress as spec;
+
+use dmis_program::Wanted;
+use std::alloc::{AllocError, Global};
+
+/// How many cells a bar has.
+const CELLS: u128 = 20;
+
+/// How far a run is: features and touches, those of all runs of its record, and of them the touches that were made before this run; and how
+/// long it goes on, in milliseconds.
+#[derive(Clone, Copy)]
+pub(crate) struct Pace {
+    pub measured: usize,
+    pub asked: usize,
+    pub before: usize,
+    pub touches: usize,
+    pub all: usize,
+    pub gone: u64,
+}
+
+/// What is known of time, and whether the last line that was shown says how far the run is.
+#[derive(Clone, Copy)]
+pub(crate) struct Pacing {
+    began: Option<u64>,
+    now: u64,
+    pub is_last: bool,
+}
+
+impl Pacing {
+    pub(crate) fn new() -> Pacing {
+        Pacing {
+            began: None,
+            now: 0,
+            is_last: false,
+        }
+    }
+
+    /// It is this moment.
+    pub(crate) fn look(&mut self, now: u64) {
+        if self.began.is_none() {
+            self.began = Some(now);
+        }
+        self.now = now;
+    }
+
+    /// For how long the run is on its connection.
+    pub(crate) fn gone(&self) -> u64 {
+        match self.began {
+            Some(began) => self.now.saturating_sub(began),
+            None => 0,
+        }
+    }
+
+    /// Lines were shown: that of the pace, and others after it.
+    pub(crate) fn show(&mut self, is_paced: bool, is_followed: bool) {
+        self.is_last = (is_paced || self.is_last) && !is_followed;
+    }
+}
+
+/// How many touches these features have. Does not allocate.
+pub fn touches_of(wanted: &[Wanted]) -> usize {
+    let mut count: usize = 0;
+    for feature in wanted {
+        count = count.saturating_add(feature.touches.as_slice().len());
+    }
+    count
+}
+
+/// How many cells of the bar are full.
+fn full_cells(pace: &Pace) -> u128
+    ensures { result ≡ spec.full_cells pace.entry }
+{
+    let done = (pace.touches as u128).saturating_mul(CELLS);
+    done / (pace.all as u128).max(1)
+}
+
+#[tactic(auto, unfolding(crate::specs::Progress::bar))]
+fn push_bar(text: &mut String, pace: &Pace) -> Result<(), AllocError>
+    ensures { OnOk result (string_bytes text.new ≡ string_bytes text.old ++ spec.bar pace.entry) }
+{
+    let full = full_cells(pace);
+    text.push_str("[")?;
+    for at in 0..CELLS {
+        text.push_str(if at < full { "#" } else { "-" })?;
+    }
+    text.push_str("]")
+}
+
+/// Minutes and seconds.
+#[tactic(auto, unfolding(crate::specs::Progress::clock))]
+fn push_clock(text: &mut String, seconds: u128) -> Result<(), AllocError>
+    ensures { OnOk result (string_bytes text.new ≡ string_bytes text.old ++ spec.clock seconds) }
+{
+    let minutes = seconds / 60;
+    let tens = seconds % 60 / 10;
+    let ones = seconds % 60 % 10;
+    write!(text, "{minutes}:{tens}{ones}")
+}
+
+/// How many seconds are left if each touch takes as long as those of this run did on average; none before the first.
+fn left(pace: &Pace) -> Option<u128>
+    ensures { result ≡ spec.left pace.entry }
+{
+    let made = pace.touches.saturating_sub(pace.before) as u128;
+    if made == 0 {
+        return None;
+    }
+    let open = pace.all.saturating_sub(pace.touches) as u128;
+    Some(u128::from(pace.gone).saturating_mul(open) / made / 1000)
+}
+
+fn push_left(text: &mut String, pace: &Pace) -> Result<(), AllocError>
+    ensures { OnOk result (string_bytes text.new
+        ≡ string_bytes text.old ++ spec.left_words (spec.left pace.entry)) }
+{
+    let Some(seconds) = left(pace) else {
+        return Ok(());
+    };
+    text.push_str(", ")?;
+    push_clock(text, seconds)?;
+    text.push_str(" left")
+}
+
+/// The line of a pace; it takes the place of the line above it, if that is asked. Fails only if out of memory.
+#[tactic(auto, unfolding(crate::specs::Progress::pace_line))]
+pub(crate) fn pace_line(alloc: Global, is_anew: bool, pace: &Pace) -> Result<String, AllocError>
+    ensures { IfOk result (λ text. string_bytes text ≡ spec.pace_line is_anew pace.entry) }
+{
+    let mut text = String::new(alloc);
+    if is_anew {
+        text.push_str("\x1b[1A\x1b[2K")?;
+    }
+    push_bar(&mut text, pace)?;
+    let (measured, asked) = (pace.measured, pace.asked);
+    let (touches, all) = (pace.touches, pace.all);
+    write!(
+        text,
+        " {measured} of {asked} features, {touches} of {all} touches, "
+    )?;
+    push_clock(&mut text, u128::from(pace.gone) / 1000)?;
+    text.push_str(" gone")?;
+    push_left(&mut text, pace)?;
+    text.push_str("\n")?;
+    Ok(text)
+}
