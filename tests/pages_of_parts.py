@@ -1,15 +1,20 @@
 """Reads the pages of `dme report` back by Python's reader of HTML, and compares each number with `dme export --as json` of the same record.
 
-What a page has besides its numbers, its verdicts, bars and texts, is computed here from those and from the record. `run` calls this; by
-itself: tests/pages_of_parts.py
+What a page has besides its numbers, its verdicts, bars and texts, is computed here from those and from the record; seals are made by
+Python's `hmac`. Each page is read as it is printed, and as a real browser shows it, which also prints it. `run` calls this; by itself:
+tests/pages_of_parts.py
 """
 
+import hashlib
+import hmac
 import html.parser
 import json
 import pathlib
 import subprocess
 import sys
 import tempfile
+
+from browser import prints_on_a4, shown
 
 ROOT = pathlib.Path(__file__).resolve().parent.parent
 EXAMPLES = ROOT / "examples"
@@ -19,6 +24,10 @@ COLUMNS = [f"{name}_{axis}" for name in ("nominal", "measured", "deviation") for
 # What could load something from elsewhere, or run.
 FOREIGN = {"script", "link", "img", "iframe", "object", "embed", "base", "form", "a", "image", "use", "foreignobject"}
 HOSTILE = """<script>alert("1")</script>&amp;'"""
+KEY = b"a key of a department"
+NO_SEAL = ("open", "Not sealed: the record has no seal.")
+UNJUDGED = ("open", "Seals not checked: no key was named.")
+SEALED = ("yes", "Sealed: a true seal stands for each line of the record.")
 
 
 class Page(html.parser.HTMLParser):
@@ -115,8 +124,36 @@ def planes_of(count, touches, labels):
     return found
 
 
+def sealed(record, connection=2):
+    """A record with the seal of all its lines."""
+    return f"{record}{connection} SEAL {hmac.new(KEY, record.encode(), hashlib.sha256).hexdigest()}\n"
+
+
+def open_at(line):
+    return "no", f"Seals do not hold: no true seal stands for line {line} of the record."
+
+
 def cases():
-    """Records by name: the program, the record, the limits, the part, the labels, and how many of them were measured."""
+    """Records by name: the program, the record, the limits, the part, the labels, how many of them were measured, whether a key is named,
+    and what the page says of seals."""
+    for name, case in plain_cases():
+        yield name, (*case, False, NO_SEAL)
+    circle = (EXAMPLES / "circle.dmis").read_text()
+    record = (EXAMPLES / "break_inside_a_feature.record").read_text()
+    record = record.replace("DME-RECORD 1", "DME-RECORD 2", 1)
+    whole, lines = sealed(record), record.count("\n")
+    for name, text, is_keyed, seals in (
+        ("sealed", whole, True, SEALED),
+        ("sealed_without_key", whole, False, UNJUDGED),
+        ("without_a_seal", record, True, NO_SEAL),
+        ("edited", whole.replace("M 1.000 0.000 0.004", "M 1.000 0.000 0.003"), True, open_at(lines + 1)),
+        ("longer_than_its_seal", whole + "2 LEFT 2026-11-30T00:00:00.000Z done\n", True, open_at(lines + 2)),
+    ):
+        yield name, (circle, text, None, "(not named)", ["C"], 1, is_keyed, seals)
+
+
+def plain_cases():
+    """Those without a seal and without a key."""
     circle = (EXAMPLES / "circle.dmis").read_text()
     record = (EXAMPLES / "break_inside_a_feature.record").read_text()
     yield "circle", (circle, record, None, "(not named)", ["C"], 1)
@@ -166,7 +203,23 @@ def feature_line(label, limits, worst):
     return f"Limits {numbers[0]} to {numbers[1]}. {worst.get(label, '')}"
 
 
-def is_page(program, record, limits, part, labels, measured):
+def notes_in(record):
+    """The lines of the page on what the last connection's record notes after one feature; None if there are none."""
+    words = {"SEAL": "sealed", "LEFT": "left at"}
+    notes = [line.split(" ", 2) for line in record.splitlines()]
+    return "".join(f"connection {it[0]}, 1 features: {words[it[1]]} {it[2]}\n" for it in notes if it[1:2] and it[1] in words) or None
+
+
+def is_as_expected(page, part, head, sections, record):
+    return all((
+        page.texts["title"] == page.texts["h1"] == f"Part {part}",
+        page.lines[:len(head)] == head,
+        page.features[:-1] == sections and page.features[-1]["heading"] == "How to check this page",
+        not page.foreign and page.texts["drawings"] == 1 and page.texts.get("pre") == notes_in(record),
+    ))
+
+
+def is_page(program, record, limits, part, labels, measured, is_keyed, seals):
     """Whether the page of a record is what its export, its audit and its texts say."""
     with tempfile.TemporaryDirectory() as name:
         folder = pathlib.Path(name)
@@ -174,12 +227,15 @@ def is_page(program, record, limits, part, labels, measured):
         for file, text in given.items():
             if text is not None:
                 (folder / file).write_text(text)
+        (folder / "seal.key").write_bytes(KEY)
         of = ["--record", "part.record", "a&b<c>.dmis"]
         named = [] if limits is None else ["--limits", "part.limits"]
-        text, notes, status = printed(folder, ["report", *named, *of])
+        keyed = ["--seal-key", "seal.key"] if is_keyed else []
+        text, notes, status = printed(folder, ["report", *named, *keyed, *of])
         exported, lines, export_status = printed(folder, ["export", "--as", "json", *named, *of])
         audited, _, audit_status = printed(folder, ["audit", *of])
-    page, rows = Page(text), json.loads(exported, parse_float=str)
+        pages, is_printed = [Page(text), Page(shown(folder, text))], prints_on_a4(folder, text)
+    rows = json.loads(exported, parse_float=str)
     is_complete = measured == len(labels)
     missing = "".join(f" {it} is missing." for it in labels[measured:])
     verdict = ("open", "Nothing to audit: no feature was measured.") if not measured else (
@@ -191,6 +247,7 @@ def is_page(program, record, limits, part, labels, measured):
         ("", "Program: a&b<c>.dmis"),
         ("yes" if is_complete else "no", f"{'Complete' if is_complete else 'Not complete'}: {measured} of {len(labels)} features were measured.{missing}"),
         limits_line(rows, limits, is_complete),
+        seals,
     ]
     sections = [
         {
@@ -200,11 +257,10 @@ def is_page(program, record, limits, part, labels, measured):
         }
         for number, label in enumerate(labels)
     ]
+    head.append((verdict[0], f"{verdict[1]} {audited}"))
     return all((
-        page.texts["title"] == page.texts["h1"] == f"Part {part}",
-        page.lines[:4] == head + [(verdict[0], f"{verdict[1]} {audited}")],
-        page.features[:-1] == sections and page.features[-1]["heading"] == "How to check this page",
-        not page.foreign and page.texts["drawings"] == 1 and "pre" not in page.texts,
+        is_printed,
+        all(is_as_expected(page, part, head, sections, record) for page in pages),
         status == export_status == (0 if is_complete else 3) and [it for it in lines.splitlines() if "missing" in it] == notes.splitlines(),
     ))
 

@@ -110,9 +110,35 @@ def is_table(schedule, program):
     return is_right and len(expected) == len(points) > 0
 
 
+def is_spreadsheet(schedule, program):
+    """Whether the tables of a schedule's features with their part, separated by semicolons and tabs and with decimal commas, have the same fields
+    as the plain one, after the part, the program and whether the point is missing."""
+    record = EXAMPLES / f"{schedule}.record"
+    measured = ["--record", str(record)] if record.exists() else ["--features", str(EXAMPLES / f"{schedule}.features")]
+    of = [*measured, "--setup", str(EXAMPLES / "machine.setup"), str(EXAMPLES / program)]
+
+    def exported(*words):
+        command = [PROGRAM, "export", *words, *of]
+        return subprocess.run(command, capture_output=True, text=True, timeout=SECONDS, check=False).stdout
+
+    plain = list(csv.DictReader(io.StringIO(exported("--as", "csv"))))
+    first = {"part": "", "program": str(EXAMPLES / program)}
+    expected = [{**first, "missing": "no" if row["measured_x"] else "yes", **row} for row in plain]
+    numbers = [it for it in plain[0] if it.rpartition("_")[0] in ("nominal", "normal", "measured", "deviation", "frame", "deviation_along")]
+    for sign, word in ((";", ";"), ("\t", "tab")):
+        text = exported("--as", "csv", "--separator", word, "--decimal", "comma", "--with-part")
+        rows = list(csv.DictReader(io.StringIO(text), delimiter=sign))
+        with_commas = [{**row, **{it: row[it].replace(".", ",") for it in numbers}} for row in expected]
+        if rows != with_commas or list(rows[0]) != list(expected[0]):
+            return False
+    objects = json.loads(exported("--as", "json", "--with-part"))
+    return plain and [{it: row[it] for it in ("part", "program", "missing")} for row in objects] == [
+        {**first, "missing": row["missing"] == "yes"} for row in expected]
+
+
 def check_tables():
     """How many tables are correct, and how many are not."""
-    wrong = [it for it, program in TABLES.items() if not (PROGRAM.exists() and is_table(it, program))]
+    wrong = [it for it, program in TABLES.items() if not (PROGRAM.exists() and is_table(it, program) and is_spreadsheet(it, program))]
     for name in wrong:
         print(f"table of {name}: not as expected")
     print(f"tables: {len(TABLES) - len(wrong)} of {len(TABLES)}", flush=True)

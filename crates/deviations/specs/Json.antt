@@ -1,7 +1,7 @@
 -- The table of deviations as JSON (RFC 8259): an array with an object for each row, whose members are named as the columns of the
 -- comma-separated values are. Lengths are numbers in millimetres with three decimals, components of normals have six; null is written where
 -- there is no value.
-use Rattle.std.specs.Prelude.{◌≡◌, ℕ, List, [], ◌∷◌, ◌++◌, codes, decimal, ℤ, Option, Some, None, Result, OnOk, is_none}
+use Rattle.std.specs.Prelude.{◌≡◌, ℕ, Bool, List, [], ◌∷◌, ◌++◌, codes, decimal, ℤ, Option, Some, None, Result, OnOk, is_none}
 use Rattle.json.specs.Token.{Token, begin_object, end_object, begin_array, end_array, key, string, number, boolean, null}
 use Rattle.json.specs.Print.{print}
 use Rattle.json.specs.Written.{Written}
@@ -116,10 +116,21 @@ means_members r = tool_member r.place.touch.tool ++ (kind_member r.place.touch.f
     ++ connection_member r.place.connection))
 
 -- what a row says first
-unfoldable pub of_members : Option RowsOf → Option Point → List Token
+unfoldable pub part_member : List ℕ → List Token
+part_member part = key (codes "part") ∷ string part ∷ []
+
+unfoldable pub program_member : List ℕ → List Token
+program_member program = key (codes "program") ∷ string program ∷ []
+
+unfoldable pub missing_member : Bool → List Token
+missing_member is_missing = key (codes "missing") ∷ boolean is_missing ∷ []
+
+unfoldable pub named_members : RowsOf → Option Point → List Token
+named_members of measured = part_member of.part ++ (program_member of.program ++ missing_member (is_none measured))
+
+abbrev pub of_members : Option RowsOf → Option Point → List Token
 of_members None measured = []
-of_members (Some of) measured = key (codes "part") ∷ string of.part ∷ key (codes "program") ∷ string of.program
-    ∷ key (codes "missing") ∷ boolean (is_none measured) ∷ []
+of_members (Some of) measured = named_members of measured
 
 -- the object of a row
 unfoldable pub row_tokens : Option RowsOf → Option (List Limit) → Row → List Token

@@ -60,13 +60,21 @@ header = codes "feature" ∷ codes "point" ∷ codes "nominal_x" ∷ codes "nomi
     ∷ codes "deviation_z" ∷ codes "deviation_along_normal" ∷ codes "tool" ∷ codes "frame" ∷ codes "frame_x" ∷ codes "frame_y"
     ∷ codes "frame_z" ∷ codes "connection" ∷ []
 
+-- what was requested, what was found, and with which tool and where
+unfoldable pub asked_fields : DecimalSign → Row → List (List ℕ)
+asked_fields sign r = r.place.feature ∷ decimal r.place.number ∷ (styled sign (point_fields r.place.touch.target)
+    ++ styled sign (normal_fields r.place.touch.dir))
+
+unfoldable pub found_fields : DecimalSign → Row → List (List ℕ)
+found_fields sign r = styled sign (measured_fields r.place.measured) ++ (styled sign (deviation_fields r.deviation)
+    ++ styled sign (along_fields r.along))
+
+unfoldable pub means_fields : DecimalSign → Row → List (List ℕ)
+means_fields sign r = r.place.touch.tool ∷ (frame_columns sign r.place.touch.frame ++ connection_fields r.place.connection)
+
 -- the record of a row
 abbrev pub record_of : TableStyle → Row → List (List ℕ)
-record_of s r = of_fields s.of r.place.measured ++ ((r.place.feature ∷ decimal r.place.number ∷ [])
-    ++ (styled s.sign (point_fields r.place.touch.target) ++ (styled s.sign (normal_fields r.place.touch.dir)
-    ++ (styled s.sign (measured_fields r.place.measured) ++ (styled s.sign (deviation_fields r.deviation)
-    ++ (styled s.sign (along_fields r.along) ++ ((r.place.touch.tool ∷ [])
-    ++ (frame_columns s.sign r.place.touch.frame ++ connection_fields r.place.connection))))))))
+record_of s r = of_fields s.of r.place.measured ++ (asked_fields s.sign r ++ (found_fields s.sign r ++ means_fields s.sign r))
 
 -- whether a point is within its limit, or an empty field
 abbrev pub verdict_field : Option Verdict → List ℕ

@@ -1,7 +1,7 @@
 // The table as JSON.
 
 ghost use Rattle.std.specs.Prelude.{◌≡◌, ◌++◌, ◌∷◌, [], IfOk, OnOk, decimal};
-ghost use Rattle.deviations.specs.Json.{of_members};
+ghost use Rattle.deviations.specs.Json.{missing_member, named_members, of_members, part_member, program_member};
 ghost use Rattle.deviations.specs.Names.{key, number, string, null, tokens, Writes, Puts, length_member, length_members, null_members, component_member, components_of, length_or_null, kind_of, place_of, feature_member, count_member, nominal_members, normal_members, measured_members, deviation_members, along_member, tool_member, kind_member, place_members, connection_member, verdict_member, limit_member, asked_members, found_members, means_members, row_tokens, json_tokens, array_text, json_of};
 
 use crate::along::Deviation;
@@ -325,18 +325,46 @@ fn put_means(alloc: Global, json: &mut Writer, row: &Row<'_>) -> Result<(), Allo
     Ok(())
 }
 
+#[tactic(auto, unfolding(crate::specs::Json::part_member))]
+fn put_part(json: &mut Writer, part: &str) -> Result<(), AllocError>
+    ensures { Puts result json.old json.new (part_member part.now) }
+{
+    put_text(json, "part", part)
+}
+
+#[tactic(auto, unfolding(crate::specs::Json::program_member))]
+fn put_program(json: &mut Writer, program: &str) -> Result<(), AllocError>
+    ensures { Puts result json.old json.new (program_member program.now) }
+{
+    put_text(json, "program", program)
+}
+
+#[tactic(auto, unfolding(crate::specs::Json::missing_member))]
+fn put_missing(json: &mut Writer, is_missing: bool) -> Result<(), AllocError>
+    ensures { Puts result json.old json.new (missing_member is_missing) }
+{
+    json.key("missing")?;
+    json.boolean(is_missing)
+}
+
+#[tactic(auto, unfolding(crate::specs::Json::named_members))]
+fn put_named(json: &mut Writer, of: &RowsOf<'_>, row: &Row<'_>) -> Result<(), AllocError>
+    ensures { Puts result json.old json.new (named_members of.now row.now.place.measured) }
+{
+    put_part(json, of.part())?;
+    put_program(json, of.program())?;
+    put_missing(json, row.measured().is_none())?;
+    Ok(())
+}
+
 /// What a row says first.
-#[tactic(auto, unfolding(crate::specs::Json::of_members))]
 fn put_of(json: &mut Writer, of: &Option<RowsOf<'_>>, row: &Row<'_>) -> Result<(), AllocError>
     ensures { Puts result json.old json.new (of_members of.now row.now.place.measured) }
 {
-    let Some(of) = of else {
-        return Ok(());
-    };
-    put_text(json, "part", of.part)?;
-    put_text(json, "program", of.program)?;
-    json.key("missing")?;
-    json.boolean(row.measured().is_none())
+    match of {
+        Some(of) => put_named(json, of, row),
+        None => Ok(()),
+    }
 }
 
 #[tactic(auto, unfolding(crate::specs::Json::row_tokens))]

@@ -4,17 +4,17 @@ ghost use Rattle.std.specs.Prelude.{◌≡◌, ◌++◌, ◌∷◌, [], IfOk, On
 ghost use Rattle.deviations.specs.Names.{partial_of, row_text, Writes, written, written_component, point_fields, Joins, normal_fields, measured_fields, deviation_fields, along_fields, frame_columns, connection_fields, header, record_of, verdict_field, limit_header, records_text, csv_text};
 ghost use Rattle.csv.specs.Records.{fields_of};
 ghost use Rattle.deviations.specs.Styles.{of_fields, of_header, styled, writer_with};
-ghost use Rattle.deviations.specs.Records.{limit_fields};
+ghost use Rattle.deviations.specs.Records.{asked_fields, found_fields, limit_fields, means_fields};
 
 use crate::along::Deviation;
 use crate::judged::{row_verdict, verdict_word};
 use crate::printed::{Micrometres, Millionths};
 use crate::rows::Row;
 use crate::styles::{
-    DecimalSign, RowsOf, Separator, TableStyle, missing_word, signed, writer_with,
+    DecimalSign, RowsOf, Separator, TableStyle, missing_word, separator_byte, signed,
 };
 use crate::{Limits, Verdict};
-use csv::ByteRecord;
+use csv::{ByteRecord, WriterBuilder};
 use fixed_um::{Dir, Frame, Point};
 use std::alloc::{AllocError, Global};
 
@@ -29,8 +29,10 @@ fn push_numeral(
     ensures { Joins result columns.old columns.new (styled sign (numeral.now ∷ [])) }
 {
     let mut shown = Vec::new(alloc);
-    for byte in numeral {
+    let mut left = numeral;
+    while let [byte, others @ ..] = left {
         shown.push(signed(sign, *byte))?;
+        left = others;
     }
     columns.push_field(shown.as_slice())
 }
@@ -209,27 +211,70 @@ fn push_of(
     let Some(of) = of else {
         return Ok(());
     };
-    columns.push_field(of.part.as_bytes())?;
-    columns.push_field(of.program.as_bytes())?;
+    columns.push_field(of.part().as_bytes())?;
+    columns.push_field(of.program().as_bytes())?;
     columns.push_field(missing_word(row.measured().is_none()).as_bytes())
+}
+
+/// What was requested.
+#[tactic(auto, unfolding(crate::specs::Records::asked_fields))]
+fn push_asked(
+    alloc: Global,
+    columns: &mut ByteRecord,
+    sign: DecimalSign,
+    row: &Row<'_>,
+) -> Result<(), AllocError>
+    requires { partial_of columns.old ≡ [] }
+    ensures { Joins result columns.old columns.new (asked_fields sign row.now) }
+{
+    columns.push_field(row.feature().as_bytes())?;
+    push_number(alloc, columns, row.number())?;
+    push_point(alloc, columns, sign, row.nominal())?;
+    push_normal(alloc, columns, sign, row.normal())
+}
+
+/// What was found.
+#[tactic(auto, unfolding(crate::specs::Records::found_fields))]
+fn push_found(
+    alloc: Global,
+    columns: &mut ByteRecord,
+    sign: DecimalSign,
+    row: &Row<'_>,
+) -> Result<(), AllocError>
+    requires { partial_of columns.old ≡ [] }
+    ensures { Joins result columns.old columns.new (found_fields sign row.now) }
+{
+    push_measured(alloc, columns, sign, row.measured())?;
+    push_deviation(alloc, columns, sign, row.deviation())?;
+    push_along(alloc, columns, sign, row.along())
+}
+
+/// With which tool, and where.
+#[tactic(auto, unfolding(crate::specs::Records::means_fields))]
+fn push_means(
+    alloc: Global,
+    columns: &mut ByteRecord,
+    sign: DecimalSign,
+    row: &Row<'_>,
+) -> Result<(), AllocError>
+    requires { partial_of columns.old ≡ [] }
+    ensures { Joins result columns.old columns.new (means_fields sign row.now) }
+{
+    columns.push_field(row.tool().as_bytes())?;
+    push_frame(alloc, columns, sign, row.frame())?;
+    push_connection(alloc, columns, row.connection())
 }
 
 fn record_of(alloc: Global, style: &TableStyle<'_>, row: &Row<'_>) -> Result<ByteRecord, AllocError>
     ensures fields { IfOk result (λ columns. fields_of columns ≡ record_of style.now row.now) }
     ensures whole { IfOk result (λ columns. partial_of columns ≡ []) }
 {
+    let sign = style.sign();
     let mut columns = ByteRecord::new(alloc);
-    push_of(&mut columns, &style.of, row)?;
-    columns.push_field(row.feature().as_bytes())?;
-    push_number(alloc, &mut columns, row.number())?;
-    push_point(alloc, &mut columns, style.sign, row.nominal())?;
-    push_normal(alloc, &mut columns, style.sign, row.normal())?;
-    push_measured(alloc, &mut columns, style.sign, row.measured())?;
-    push_deviation(alloc, &mut columns, style.sign, row.deviation())?;
-    push_along(alloc, &mut columns, style.sign, row.along())?;
-    columns.push_field(row.tool().as_bytes())?;
-    push_frame(alloc, &mut columns, style.sign, row.frame())?;
-    push_connection(alloc, &mut columns, row.connection())?;
+    push_of(&mut columns, style.of(), row)?;
+    push_asked(alloc, &mut columns, sign, row)?;
+    push_found(alloc, &mut columns, sign, row)?;
+    push_means(alloc, &mut columns, sign, row)?;
     Ok(columns)
 }
 
@@ -279,7 +324,9 @@ fn record_text(
     ensures { IfOk result (λ text. text.items
         ≡ row_text (writer_with separator) (fields_of columns.now)) }
 {
-    let mut writer = writer_with(separator).from_writer(Vec::new(alloc));
+    let mut writer = WriterBuilder::new()
+        .delimiter(separator_byte(separator))
+        .from_writer(Vec::new(alloc));
     match writer.write_byte_record(columns) {
         Ok(()) => {}
         Err(_) => return Err(AllocError),
@@ -295,8 +342,10 @@ fn push_all(columns: &mut ByteRecord, fields: &[&[u8]]) -> Result<(), AllocError
     requires { partial_of columns.old ≡ [] }
     ensures { Joins result columns.old columns.new (map (λ f. f.now) fields.now) }
 {
-    for field in fields {
+    let mut left = fields;
+    while let [field, others @ ..] = left {
         columns.push_field(field)?;
+        left = others;
     }
     Ok(())
 }
@@ -354,7 +403,7 @@ fn judged_header(
         ≡ of_header style.now.of ++ (header ++ limit_header limits.now)) }
 {
     let mut columns = ByteRecord::new(alloc);
-    push_of_header(&mut columns, &style.of)?;
+    push_of_header(&mut columns, style.of())?;
     push_header(&mut columns)?;
     match limits {
         Some(_) => columns.push_field(b"limit")?,
@@ -379,13 +428,13 @@ pub fn write_csv(
     let alloc = *out.allocator();
     let mut text = record_text(
         alloc,
-        style.separator,
+        style.separator(),
         &judged_header(alloc, style, limits)?,
     )?;
     let mut left = rows;
     while let [row, others @ ..] = left {
         let columns = judged_record(alloc, style, limits, row)?;
-        let line = record_text(alloc, style.separator, &columns)?;
+        let line = record_text(alloc, style.separator(), &columns)?;
         text.extend_from_slice(line.as_slice())?;
         left = others;
     }

@@ -1,10 +1,8 @@
 // How a table is written besides its rows.
 
 ghost use Rattle.std.specs.Prelude.{◌≡◌};
-ghost use Rattle.csv.specs.Writing.{WriterBuilder};
 ghost use Rattle.deviations.specs.Styles as spec;
 
-use csv::WriterBuilder;
 use std::marker::Model;
 
 /// What stands between two fields.
@@ -28,7 +26,7 @@ pub enum DecimalSign {
 }
 
 /// The part and the program that rows are of.
-#[derive(Clone, Copy)]
+#[derive(Drop)]
 pub struct RowsOf<'a> {
     /// The part; empty if it has no name.
     pub part: &'a str,
@@ -37,13 +35,15 @@ pub struct RowsOf<'a> {
 }
 
 impl<'a> Model for RowsOf<'a> {
+    ghost use Rattle.deviations.specs.Styles as spec;
+
     ghost Value = { spec.RowsOf };
 
     ghost view = { λ of. record { part = of.part.now; program = of.program.now } };
 }
 
 /// How a table is written besides its rows.
-#[derive(Clone, Copy)]
+#[derive(Drop)]
 pub struct TableStyle<'a> {
     /// What stands between two fields of comma-separated values.
     pub separator: Separator,
@@ -54,12 +54,54 @@ pub struct TableStyle<'a> {
 }
 
 impl<'a> Model for TableStyle<'a> {
+    ghost use Rattle.deviations.specs.Styles as spec;
+
     ghost Value = { spec.TableStyle };
 
-    ghost view = { λ s. record { separator = s.separator; sign = s.sign; of = s.of.now } };
+    ghost view = { λ s. record {
+      separator = s.separator;
+      sign = s.sign;
+      of = s.of;
+    } };
 }
 
-fn separator_byte(separator: Separator) -> u8
+impl<'a> RowsOf<'a> {
+    pub(crate) fn part(&self) -> &str
+        ensures { result.now ≡ self.now.part }
+    {
+        self.part
+    }
+
+    pub(crate) fn program(&self) -> &str
+        ensures { result.now ≡ self.now.program }
+    {
+        self.program
+    }
+}
+
+impl<'a> TableStyle<'a> {
+    pub(crate) fn separator(&self) -> Separator
+        ensures { result ≡ self.now.separator }
+    {
+        self.separator
+    }
+
+    pub(crate) fn sign(&self) -> DecimalSign
+        ensures { result ≡ self.now.sign }
+    {
+        self.sign
+    }
+
+    /// What each row says first, if anything.
+    pub fn of(&self) -> &Option<RowsOf<'a>>
+        ensures { result.now ≡ self.now.of }
+    {
+        &self.of
+    }
+}
+
+/// The byte of a separator.
+pub(crate) fn separator_byte(separator: Separator) -> u8
     ensures { result ≡ spec.separator_byte separator }
 {
     match separator {
@@ -67,15 +109,6 @@ fn separator_byte(separator: Separator) -> u8
         Separator::Semicolon => b';',
         Separator::Tab => b'\t',
     }
-}
-
-/// How records are written with a separator.
-pub(crate) fn writer_with(separator: Separator) -> WriterBuilder
-    ensures { result ≡ spec.writer_with separator }
-{
-    let mut builder = WriterBuilder::new();
-    builder.delimiter(separator_byte(separator));
-    builder
 }
 
 /// A byte of a number with a decimal sign.
@@ -107,12 +140,16 @@ pub struct TableOptions {
 }
 
 /// The style of a table of this part and this program.
-pub fn style_of<'a>(options: TableOptions, of: RowsOf<'a>) -> TableStyle<'a>
-    ensures { result.now ≡ spec.style_of options of.now }
+pub fn style_of<'a>(options: TableOptions, of: &RowsOf<'a>) -> TableStyle<'a>
+    ensures { result ≡ spec.style_of options of.now }
 {
+    let named = RowsOf {
+        part: of.part,
+        program: of.program,
+    };
     TableStyle {
         separator: options.separator,
         sign: options.sign,
-        of: if options.with_part { Some(of) } else { None },
+        of: if options.with_part { Some(named) } else { None },
     }
 }

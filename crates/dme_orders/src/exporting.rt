@@ -123,7 +123,7 @@ fn form_text(
     alloc: Global,
     form: Form,
     table: TableOptions,
-    of: RowsOf<'_>,
+    of: &RowsOf<'_>,
     limits: &Option<Limits>,
     rows: &[Row<'_>],
     program: &Program,
@@ -137,7 +137,7 @@ fn form_text(
     let style = style_of(table, of);
     match form {
         Form::Csv => write_csv(&mut text, &style, limits, rows)?,
-        Form::Json => write_json(&mut text, &style.of, limits, rows)?,
+        Form::Json => write_json(&mut text, style.of(), limits, rows)?,
         Form::Svg => return drawn(alloc, program, features),
     }
     Ok(text)
@@ -148,7 +148,7 @@ pub(crate) fn table_text(
     alloc: Global,
     form: Form,
     table: TableOptions,
-    of: RowsOf<'_>,
+    of: &RowsOf<'_>,
     limits: &Option<Limits>,
     program: &Program,
     features: &[Feature],
@@ -194,7 +194,7 @@ fn table_of_part(
     alloc: Global,
     form: Form,
     table: TableOptions,
-    of: RowsOf<'_>,
+    of: &RowsOf<'_>,
     limits: &Option<Limits>,
     program: &Program,
     features: &[Feature],
