@@ -135,7 +135,7 @@ def open_at(line):
 
 def cases():
     """Records by name: the program, the record, the limits, the part, the labels, how many of them were measured, whether a key is named,
-    and what the page says of seals."""
+    and the page's line on seals."""
     for name, case in plain_cases():
         yield name, (*case, False, NO_SEAL)
     circle = (EXAMPLES / "circle.dmis").read_text()

@@ -503,7 +503,7 @@ TableMisfits rows form table misfit.SignsWithoutCsv = (NamesNoSign rows → ⊥)
 TableMisfits rows form table misfit.PartWithoutTable = (table.with_part ≡ true) × (form_word form ≢ codes "csv") × (form_word form ≢ codes "json")
 TableMisfits rows form table _ = ⊥
 
--- the named separator or decimal sign is none; or memory ran out
+-- the word names no separator or no decimal sign; or memory ran out
 abbrev pub HasNoTable : List Row → WordsFault → Type 0
 HasNoTable rows (NoSeparator word) = IsValueOf (codes "separator") rows (string_bytes word) × IsNoSeparator (string_bytes word)
 HasNoTable rows (NoSign word) = IsValueOf (codes "decimal") rows (string_bytes word) × IsNoSign (string_bytes word)

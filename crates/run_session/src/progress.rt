@@ -9,8 +9,8 @@ use std::alloc::{AllocError, Global};
 /// How many cells a bar has.
 const CELLS: u128 = 20;
 
-/// How far a run is: features and touches, those of all runs of its record, and of them the touches that were made before this run; and how
-/// long it goes on, in milliseconds.
+/// How far a run is: features and touches, those of all runs of its record, and of them the touches that were made before this run; and for
+/// how long it is on its connection, in milliseconds.
 #[derive(Clone, Copy)]
 pub(crate) struct Pace {
     pub measured: usize,
