@@ -82,15 +82,20 @@ limits_text (Some limits) complete rows = within_text limits complete rows
 limits_text None complete rows = markup (codes "<p class=\"open\"><b>Not compared with limits:</b> none were named.</p>\n")
 
 -- what the seals of the record say: only under a key, and if one stands for each line, is a record called sealed
-unfoldable pub open_text : ℕ → List ℕ
-open_text line = markup (codes "<p class=\"no\"><b>Seals do not hold:</b> no true seal stands for line ") ++ (decimal line
-    ++ markup (codes " of the record.</p>\n"))
+unfoldable pub broken_start : List ℕ
+broken_start = codes "<p class=\"no\"><b>Seals do not hold:</b> no true seal stands for line "
+
+unfoldable pub broken_end : List ℕ
+broken_end = codes " of the record.</p>\n"
+
+abbrev pub broken_text : ℕ → List ℕ
+broken_text line = markup broken_start ++ (decimal line ++ markup broken_end)
 
 abbrev pub seals_text : SealVerdict → List ℕ
 seals_text seal.Unsealed = markup (codes "<p class=\"open\"><b>Not sealed:</b> the record has no seal.</p>\n")
 seals_text seal.Unjudged = markup (codes "<p class=\"open\"><b>Seals not checked:</b> no key was named.</p>\n")
 seals_text seal.Sealed = markup (codes "<p class=\"yes\"><b>Sealed:</b> a true seal stands for each line of the record.</p>\n")
-seals_text (seal.Open line) = open_text line
+seals_text (seal.Open line) = broken_text line
 
 -- an audit of nothing is neither good news nor bad
 abbrev pub audit_start : ℕ → Bool → List ℕ

@@ -1,7 +1,7 @@
 // The whole page.
 
 ghost use Rattle.std.specs.Prelude.{◌≡◌, ◌<◌, ◌++◌, drop, length, IfOk, OnOk};
-ghost use Rattle.drawings.specs.Names.{flat_map, Adds, style, page_head, complete_start, missing_label, complete_text, within_start, within_line, within_text, limits_text, open_text, seals_text, audit_start, verdict_text, errors_text, audit_text, names_text, notes_text, program_line, program_text, summary_text, page_end, IsPage};
+ghost use Rattle.drawings.specs.Names.{flat_map, Adds, style, page_head, complete_start, missing_label, complete_text, within_start, within_line, within_text, limits_text, broken_start, broken_end, broken_text, seals_text, audit_start, verdict_text, errors_text, audit_text, names_text, notes_text, program_line, program_text, summary_text, page_end, IsPage};
 
 use crate::bar_cells::greatest;
 use crate::drawing::write_drawing;
@@ -244,16 +244,26 @@ fn put_limits(
     }
 }
 
-#[tactic(auto, unfolding(crate::specs::Pages::open_text))]
-fn put_open(out: &mut Vec<u8>, line: u64) -> Result<(), AllocError>
-    ensures { OnOk result (out.new.items ≡ out.old.items ++ open_text line) }
+#[tactic(auto, unfolding(crate::specs::Pages::broken_start))]
+fn broken_start() -> &'static [u8]
+    ensures { result.now ≡ broken_start }
 {
-    put_markup(
-        out,
-        b"<p class=\"no\"><b>Seals do not hold:</b> no true seal stands for line ",
-    )?;
+    b"<p class=\"no\"><b>Seals do not hold:</b> no true seal stands for line "
+}
+
+#[tactic(auto, unfolding(crate::specs::Pages::broken_end))]
+fn broken_end() -> &'static [u8]
+    ensures { result.now ≡ broken_end }
+{
+    b" of the record.</p>\n"
+}
+
+fn put_broken(out: &mut Vec<u8>, line: u64) -> Result<(), AllocError>
+    ensures { OnOk result (out.new.items ≡ out.old.items ++ broken_text line) }
+{
+    put_markup(out, broken_start())?;
     put_number(out, line)?;
-    put_markup(out, b" of the record.</p>\n")
+    put_markup(out, broken_end())
 }
 
 fn put_seals(out: &mut Vec<u8>, seals: SealVerdict) -> Result<(), AllocError>
@@ -272,7 +282,7 @@ fn put_seals(out: &mut Vec<u8>, seals: SealVerdict) -> Result<(), AllocError>
             out,
             b"<p class=\"yes\"><b>Sealed:</b> a true seal stands for each line of the record.</p>\n",
         ),
-        SealVerdict::Open(line) => put_open(out, line),
+        SealVerdict::Open(line) => put_broken(out, line),
     }
 }
 

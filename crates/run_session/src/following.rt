@@ -340,7 +340,7 @@ impl Session {
             return Ok(String::new(self.alloc));
         }
         let is_anew = self.pacing.is_last && self.shown.is_empty();
-        pace_line(self.alloc, is_anew, &self.pace(count))
+        pace_line(self.alloc, is_anew, self.pace(count))
     }
 
     /// The lines of the features up to this one that were not shown, if asked.

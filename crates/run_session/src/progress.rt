@@ -1,13 +1,10 @@
 // How far a run is, as one line on a terminal, which is written anew.
 
-ghost use Rattle.std.specs.Prelude.{◌≡◌, ◌++◌, OnOk, IfOk, string_bytes};
+ghost use Rattle.std.specs.Prelude.{◌≡◌, ◌++◌, OnOk, IfOk, map, string_bytes};
 ghost use Rattle.run_session.specs.Progress as spec;
 
 use dmis_program::Wanted;
 use std::alloc::{AllocError, Global};
-
-/// How many cells a bar has.
-const CELLS: u128 = 20;
 
 /// How far a run is: features and touches, those of all runs of its record, and of them the touches that were made before this run; and for
 /// how long it is on its connection, in milliseconds.
@@ -69,24 +66,41 @@ pub fn touches_of(wanted: &[Wanted]) -> usize {
     count
 }
 
-/// How many cells of the bar are full.
-fn full_cells(pace: &Pace) -> u128
-    ensures { result ≡ spec.full_cells pace.entry }
+/// The cells of a bar.
+fn cells() -> &'static [u8]
+    ensures { result.now ≡ spec.cells }
 {
-    let done = (pace.touches as u128).saturating_mul(CELLS);
+    &[
+        0, 1, 2, 3, 4, 5, 6, 7, 8, 9, 10, 11, 12, 13, 14, 15, 16, 17, 18, 19,
+    ]
+}
+
+/// How many of the twenty cells of the bar are full.
+fn full_cells(pace: Pace) -> u128
+    ensures { result ≡ spec.full_cells pace }
+{
+    let done = (pace.touches as u128).saturating_mul(20);
     done / (pace.all as u128).max(1)
 }
 
-#[tactic(auto, unfolding(crate::specs::Progress::bar))]
-fn push_bar(text: &mut String, pace: &Pace) -> Result<(), AllocError>
-    ensures { OnOk result (string_bytes text.new ≡ string_bytes text.old ++ spec.bar pace.entry) }
+fn push_cells(text: &mut String, full: u128, cells: &[u8]) -> Result<(), AllocError>
+    ensures { OnOk result (string_bytes text.new
+        ≡ string_bytes text.old ++ map (spec.cell full) cells.now) }
 {
-    let full = full_cells(pace);
-    text.push_str("[")?;
-    for at in 0..CELLS {
-        text.push_str(if at < full { "#" } else { "-" })?;
+    let mut left = cells;
+    while let [at, others @ ..] = left {
+        text.push_str(if u128::from(*at) < full { "#" } else { "-" })?;
+        left = others;
     }
-    text.push_str("]")
+    Ok(())
+}
+
+fn bar(alloc: Global, pace: Pace) -> Result<String, AllocError>
+    ensures { IfOk result (λ bar. string_bytes bar ≡ spec.bar pace) }
+{
+    let mut bar = String::new(alloc);
+    push_cells(&mut bar, full_cells(pace), cells())?;
+    Ok(bar)
 }
 
 /// Minutes and seconds.
@@ -101,8 +115,8 @@ fn push_clock(text: &mut String, seconds: u128) -> Result<(), AllocError>
 }
 
 /// How many seconds are left if each touch takes as long as those of this run did on average; none before the first.
-fn left(pace: &Pace) -> Option<u128>
-    ensures { result ≡ spec.left pace.entry }
+fn left(pace: Pace) -> Option<u128>
+    ensures { result ≡ spec.left pace }
 {
     let made = pace.touches.saturating_sub(pace.before) as u128;
     if made == 0 {
@@ -112,9 +126,9 @@ fn left(pace: &Pace) -> Option<u128>
     Some(u128::from(pace.gone).saturating_mul(open) / made / 1000)
 }
 
-fn push_left(text: &mut String, pace: &Pace) -> Result<(), AllocError>
+fn push_left(text: &mut String, pace: Pace) -> Result<(), AllocError>
     ensures { OnOk result (string_bytes text.new
-        ≡ string_bytes text.old ++ spec.left_words (spec.left pace.entry)) }
+        ≡ string_bytes text.old ++ spec.left_words (spec.left pace)) }
 {
     let Some(seconds) = left(pace) else {
         return Ok(());
@@ -124,25 +138,44 @@ fn push_left(text: &mut String, pace: &Pace) -> Result<(), AllocError>
     text.push_str(" left")
 }
 
-/// The line of a pace; it takes the place of the line above it, if that is asked. Fails only if out of memory.
-#[tactic(auto, unfolding(crate::specs::Progress::pace_line))]
-pub(crate) fn pace_line(alloc: Global, is_anew: bool, pace: &Pace) -> Result<String, AllocError>
-    ensures { IfOk result (λ text. string_bytes text ≡ spec.pace_line is_anew pace.entry) }
+#[tactic(auto, unfolding(crate::specs::Progress::counts))]
+fn push_counts(text: &mut String, bar: &str, pace: Pace) -> Result<(), AllocError>
+    ensures { OnOk result (string_bytes text.new
+        ≡ string_bytes text.old ++ spec.counts bar.now pace) }
 {
-    let mut text = String::new(alloc);
-    if is_anew {
-        text.push_str("\x1b[1A\x1b[2K")?;
-    }
-    push_bar(&mut text, pace)?;
     let (measured, asked) = (pace.measured, pace.asked);
     let (touches, all) = (pace.touches, pace.all);
     write!(
         text,
-        " {measured} of {asked} features, {touches} of {all} touches, "
-    )?;
-    push_clock(&mut text, u128::from(pace.gone) / 1000)?;
+        "[{bar}] {measured} of {asked} features, {touches} of {all} touches, "
+    )
+}
+
+#[tactic(auto, unfolding(crate::specs::Progress::times))]
+fn push_times(text: &mut String, pace: Pace) -> Result<(), AllocError>
+    ensures { OnOk result (string_bytes text.new ≡ string_bytes text.old ++ spec.times pace) }
+{
+    push_clock(text, u128::from(pace.gone) / 1000)?;
     text.push_str(" gone")?;
-    push_left(&mut text, pace)?;
-    text.push_str("\n")?;
+    push_left(text, pace)?;
+    text.push_str("\n")
+}
+
+fn anew(is_anew: bool) -> &'static str
+    ensures { result.now ≡ spec.anew is_anew }
+{
+    if is_anew { "\x1b[1A\x1b[2K" } else { "" }
+}
+
+/// The line of a pace; it takes the place of the line above it, if that is asked. Fails only if out of memory.
+#[tactic(auto, unfolding(crate::specs::Progress::pace_line))]
+pub(crate) fn pace_line(alloc: Global, is_anew: bool, pace: Pace) -> Result<String, AllocError>
+    ensures { IfOk result (λ text. string_bytes text ≡ spec.pace_line is_anew pace) }
+{
+    let mut text = String::new(alloc);
+    let bar = bar(alloc, pace)?;
+    text.push_str(anew(is_anew))?;
+    push_counts(&mut text, bar.as_str(), pace)?;
+    push_times(&mut text, pace)?;
     Ok(text)
 }
