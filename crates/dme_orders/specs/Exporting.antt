@@ -12,6 +12,7 @@ use Rattle.deviations.specs.declared.forms.Form.TheVariants.{Csv, Json, Svg}
 use Rattle.dmis_program.specs.Meaning.{Meaning}
 use Rattle.drawings.specs.Drawing.{IsDrawing}
 use Rattle.drawings.specs.Texts.{Adds}
+use Rattle.drawings.specs.Title.{untitled}
 use Rattle.deviations.specs.declared.entries.Limit.{Limit}
 use Rattle.dme_orders.specs.Input.{Named, ExportInput, ReadsExport, WhyNoExport, AreUntouched, Limited, ReadsLimited, WhyNoLimited}
 use Rattle.dme_orders.specs.Missing.{IsMissing}
@@ -29,7 +30,7 @@ xml = codes "<?xml version=\"1.0\" encoding=\"UTF-8\"?>\n"
 abbrev pub IsInForm : Form → Option (List Limit) → Meaning → List Feature → List Row → List ℕ → Type 0
 IsInForm Csv limits program features rows text = text ≡ csv_text limits rows
 IsInForm Json limits program features rows text = text ≡ json_of limits rows
-IsInForm Svg limits program features rows text = Adds (IsDrawing program features) xml text
+IsInForm Svg limits program features rows text = Adds (IsDrawing untitled program features) xml text
 
 -- the features are the first ones of the program, and the text is their table in a form: a row for each touch of the program, in order
 pub record LeavesTable (form : Form) (limits : Option (List Limit)) (program : Meaning) (features : List Feature) (text : List ℕ) : Type 0 where

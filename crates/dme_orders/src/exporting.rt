@@ -3,6 +3,7 @@
 ghost use Rattle.std.specs.Prelude.{◌≡◌, ◌<◌, length, Option, IfOk, IfErr, string_bytes};
 ghost use Rattle.tool_rack.specs.Setups.{SetupValue};
 ghost use Rattle.drawings.specs.Drawing.{IsDrawing};
+ghost use Rattle.drawings.specs.Title.{untitled};
 ghost use Rattle.drawings.specs.Texts.{Adds};
 ghost use Rattle.dme_orders.specs.Exporting.{xml, IsInForm, LeavesTable, Compares, RefusesFeatures, Exports};
 ghost use Rattle.dme_orders.specs.Input.{named, ReadsExport, WhyNoExport, AreUntouched, ReadsLimited, WhyNoLimited};
@@ -17,7 +18,7 @@ use byte_ports::{Sink, Source};
 use contact_ledger::{Feature, FeatureLedger};
 use deviations::{Form, Limits, Row, limit_lines, rows_of, write_csv, write_json};
 use dmis_program::Program;
-use drawings::write_drawing;
+use drawings::{Title, write_drawing};
 use order_parts::FilesFault;
 use std::alloc::{AllocError, Global};
 
@@ -107,11 +108,17 @@ fn declared(alloc: Global) -> Result<Vec<u8>, AllocError>
 }
 
 fn drawn(alloc: Global, program: &Program, features: &[Feature]) -> Result<Vec<u8>, AllocError>
-    ensures text { IfOk result (λ text. Adds (IsDrawing program.now features.now) xml text.items) }
+    ensures text { IfOk result (λ text. Adds (IsDrawing untitled program.now features.now)
+        xml text.items) }
     ensures some { IfOk result (λ text. 0 < length text.items) }
 {
     let mut text = declared(alloc)?;
-    write_drawing(alloc, &mut text, program, features)?;
+    let title = Title {
+        part: b"",
+        program: b"",
+        time: b"",
+    };
+    write_drawing(alloc, &mut text, &title, program, features)?;
     Ok(text)
 }
 

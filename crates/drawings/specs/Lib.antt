@@ -2,6 +2,7 @@ pub mod Scales
 pub mod Places
 pub mod Sheet
 pub mod Texts
+pub mod Title
 pub mod Stops
 pub mod Extents
 pub mod Views

@@ -21,7 +21,7 @@ pub use Rattle.drawings.specs.Marks.{spot_of, thickness_for}
 unfoldable pub use Rattle.drawings.specs.Markup.{between}
 pub use Rattle.drawings.specs.Markup.{cell, cells}
 unfoldable pub use Rattle.drawings.specs.Pages.{audit_text, complete_text, page_end, style, summary_text, within_line}
-pub use Rattle.drawings.specs.Pages.{IsPage, audit_start, complete_start, errors_text, limits_text, missing_label, names_text, notes_text, page_head, program_line, program_text, verdict_text, within_start, within_text}
+pub use Rattle.drawings.specs.Pages.{IsPage, audit_start, complete_start, errors_text, limits_text, missing_label, names_text, notes_text, page_head, program_line, program_text, title_of, verdict_text, within_start, within_text}
 unfoldable pub use Rattle.drawings.specs.Pictures.{arrow_text, arrows_text, axes_text, letters_text, picture_text, span_text, title_text}
 unfoldable pub use Rattle.drawings.specs.Places.{height_in}
 pub use Rattle.drawings.specs.Places.{IsBetween, IsWider, place_of}
@@ -35,5 +35,7 @@ unfoldable pub use Rattle.drawings.specs.Stops.{stops_of}
 pub use Rattle.drawings.specs.Stops.{act_by, later_with, next_points, points_with, stops_at, zero_of, zero_with}
 unfoldable pub use Rattle.drawings.specs.Texts.{attribute, disc_text, frame_text, line_text, markup, millimetres, text_element, text_start}
 pub use Rattle.drawings.specs.Texts.{Adds, escaped, escaped_byte, is_plain, shown_name, spot_text, text_end}
+unfoldable pub use Rattle.drawings.specs.Title.{given_title}
+pub use Rattle.drawings.specs.Title.{title_words, titled}
 pub use Rattle.drawings.specs.Views.{IsInView, moved, part_of, tip_of, upright_of}
 pub use Rattle.drawings.specs.Whiskers.{AreWhiskers, IsAtMost, IsLongestAway, NotLonger, one_length, whisker_room}

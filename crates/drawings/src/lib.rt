@@ -9,7 +9,7 @@
 //! - `whiskers`: the drawn length of deviations
 //! - `pictures`: what is drawn in a view; `marks`: what labels name; `labels`: the column of the features' names; `footer`: what is
 //!   below
-//! - `texts`: the elements of SVG; `drawing`: the whole
+//! - `texts`: the elements of SVG; `title`: what a drawing is called; `drawing`: the whole
 //!
 //! And a page of HTML, which has a drawing in it:
 //!
@@ -38,9 +38,11 @@ mod sheet;
 mod sides;
 mod spans;
 mod texts;
+mod title;
 mod views;
 mod walk;
 mod whiskers;
 
 pub use drawing::write_drawing;
 pub use pages::{Facts, report_text};
+pub use title::Title;

@@ -1,13 +1,14 @@
 // The whole page.
 
 ghost use Rattle.std.specs.Prelude.{◌≡◌, ◌<◌, ◌++◌, drop, length, IfOk, OnOk};
-ghost use Rattle.drawings.specs.Names.{flat_map, Adds, style, page_head, complete_start, missing_label, complete_text, within_start, within_line, within_text, limits_text, audit_start, verdict_text, errors_text, audit_text, names_text, notes_text, program_line, program_text, summary_text, page_end, IsPage};
+ghost use Rattle.drawings.specs.Names.{flat_map, Adds, style, page_head, complete_start, missing_label, complete_text, within_start, within_line, within_text, limits_text, audit_start, verdict_text, errors_text, audit_text, names_text, notes_text, program_line, program_text, summary_text, title_of, page_end, IsPage};
 
 use crate::bar_cells::greatest;
 use crate::drawing::write_drawing;
 use crate::markup::{put_between, put_count};
 use crate::sections::put_sections;
 use crate::texts::put_markup;
+use crate::title::Title;
 use contact_ledger::Feature;
 use deviations::{Limits, Row, compared_count, out_count};
 use dmis_program::{Program, Wanted};
@@ -341,6 +342,16 @@ fn put_end(out: &mut Vec<u8>) -> Result<(), AllocError>
     )
 }
 
+fn title_of<'a>(facts: &'a Facts<'_>) -> Title<'a>
+    ensures { result ≡ title_of facts.now }
+{
+    Title {
+        part: facts.part(),
+        program: facts.program(),
+        time: b"",
+    }
+}
+
 fn put_page(
     alloc: Global,
     out: &mut Vec<u8>,
@@ -358,7 +369,7 @@ fn put_page(
     put_head(out, facts)?;
     put_summary(out, facts, measured, wanted, limits, rows)?;
     put_sections(alloc, out, greatest(rows), limits, measured, wanted, rows)?;
-    write_drawing(alloc, out, program, features)?;
+    write_drawing(alloc, out, &title_of(facts), program, features)?;
     put_end(out)
 }
 
