@@ -5,6 +5,7 @@ use Rattle.dmis_program.specs.declared.features.Wanted.{Wanted}
 use Rattle.drawings.specs.Drawing.{head_text, IsDrawingOf}
 use Rattle.drawings.specs.Pictures.{picture_text}
 use Rattle.drawings.specs.Placing.{AreViews}
+use Rattle.drawings.specs.Stops.{shown_stops}
 use Rattle.drawings.specs.Title.{TitleTexts}
 use Rattle.drawings.specs.declared.extents.Extents.{Extents}
 use Rattle.drawings.specs.declared.placing.Views.{Views}
@@ -21,7 +22,7 @@ joined old head labels plan front footer end headed labelled planned pictured fo
     rw e (rw t (rw f (rw p (rw l (rw h (six old head labels plan front footer end))))))
 
 pub drawn : (title : TitleTexts) (stops : List Stop) (marks : List Mark) (wanted : List Wanted) (extents : Extents) (views : Views) (w : Whiskers)
-    (old headed labelled planned pictured footed new : List ℕ) → AreFilled stops extents → AreViews extents views → AreWhiskers stops w
+    (old headed labelled planned pictured footed new : List ℕ) → AreFilled (shown_stops stops) extents → AreViews extents views → AreWhiskers stops w
     → headed ≡ old ++ head_text title → Adds (AreLabels views.plan marks wanted) headed labelled
     → planned ≡ labelled ++ picture_text views.plan w stops → pictured ≡ planned ++ picture_text views.front w stops
     → Adds (IsFooter views.plan.scale w stops) pictured footed → new ≡ footed ++ markup (codes "</svg>\n")

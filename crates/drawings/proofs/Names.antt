@@ -9,7 +9,7 @@ pub use Rattle.drawings.specs.BarCells.{magnitude}
 pub use Rattle.drawings.specs.Pages.{missing_label}
 pub use Rattle.drawings.specs.Sections.{rows_text, sections_text}
 pub use Rattle.drawings.specs.Scales.{Fits, on_paper, round}
-pub use Rattle.drawings.specs.Stops.{later_features, later_with, points_left, points_with, stops_at, stops_from, stops_of, zero_below, zero_with}
+pub use Rattle.drawings.specs.Stops.{later_features, later_with, points_left, points_with, stops_at, stops_from, stops_of, touches_among, zero_below, zero_with}
 pub use Rattle.drawings.specs.Texts.{Adds, escaped, escaped_byte, is_plain, markup}
 pub use Rattle.drawings.specs.Whiskers.{AreWhiskers, IsAtMost, IsLongestAway, NoneLonger, NotLonger}
 pub use Rattle.drawings.specs.declared.marks.Mark.{Mark}

@@ -8,7 +8,7 @@ use Rattle.drawings.specs.Footer.{IsFooter}
 use Rattle.drawings.specs.Labels.{AreLabels}
 use Rattle.drawings.specs.Named.{marks_of}
 use Rattle.drawings.specs.Pictures.{spot, picture_text}
-use Rattle.drawings.specs.Stops.{stops_of}
+use Rattle.drawings.specs.Stops.{shown_stops, stops_of}
 use Rattle.drawings.specs.Texts.{markup, text_start, text_end}
 use Rattle.drawings.specs.Title.{TitleTexts, title_words}
 use Rattle.drawings.specs.Placing.{AreViews}
@@ -27,10 +27,10 @@ head_text title = markup (codes "<svg xmlns=\"http://www.w3.org/2000/svg\" width
     ++ (text_start (spot 10000 12000) ++ (title_words title ++ (text_end ++ markup (codes "</g>\n"))))))
 
 -- A drawing of stops, with labels of marks, which have the names of features: the head, the labels, a plan and a front view, and the
--- footer. The views are those of what the stops fill, at one scale and with the same whiskers, and the bars are of these scales
+-- footer. The views are those of what the touches fill, at one scale and with the same whiskers, and the bars are of these scales
 pub record IsDrawingOf (title : TitleTexts) (stops : List Stop) (marks : List Mark) (wanted : List Wanted) (text : List ℕ) : Type 0 where
   pub extents : Extents
-  pub filled : AreFilled stops extents
+  pub filled : AreFilled (shown_stops stops) extents
   pub views : Views
   pub views_are : AreViews extents views
   pub whiskers : Whiskers

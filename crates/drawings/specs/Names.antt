@@ -13,7 +13,7 @@ unfoldable pub use Rattle.drawings.specs.Drawing.{head_text}
 pub use Rattle.drawings.specs.Drawing.{IsDrawing, IsDrawingOf}
 pub use Rattle.drawings.specs.Examples.{limits, on_x, open_row, range, row, wanted, worst}
 unfoldable pub use Rattle.drawings.specs.Footer.{caption_text, counts_text, legend_marks, legend_words, ratio_text}
-pub use Rattle.drawings.specs.Footer.{IsFooter, asked_count, is_asked, is_measured, magnified_words, measured_count}
+pub use Rattle.drawings.specs.Footer.{IsFooter, asked_count, is_measured, magnified_words, measured_count}
 unfoldable pub use Rattle.drawings.specs.Labels.{bullet_text, label_text, more_text, name_text}
 pub use Rattle.drawings.specs.Labels.{AreLabels, AreOnLines, AreOrdered, anchors_from, bullet_start, label_at, line_for, more_if_any, most_labels}
 unfoldable pub use Rattle.drawings.specs.Marks.{done_dot, dots_text, open_dot, way_spot, way_text, whisker, whiskers_text}
@@ -27,12 +27,12 @@ unfoldable pub use Rattle.drawings.specs.Places.{height_in}
 pub use Rattle.drawings.specs.Places.{IsBetween, IsWider, place_of}
 pub use Rattle.drawings.specs.Placing.{AreViews, views_room}
 unfoldable pub use Rattle.drawings.specs.Scales.{denominator, numerator, on_paper}
-pub use Rattle.drawings.specs.Scales.{AreShort, Fits, IsScaleFor, length_limit, round}
+pub use Rattle.drawings.specs.Scales.{AreShort, Fits, IsScaleFor, length_limit, round, tenths}
 unfoldable pub use Rattle.drawings.specs.Sections.{range_line, row_text, section_text, titles}
 pub use Rattle.drawings.specs.Sections.{heading, heading_end, limit_text, limit_title, number_cells, range_text, row_class, row_start, rows_text, sections_text, worst_text}
 pub use Rattle.drawings.specs.Sheet.{margin}
 unfoldable pub use Rattle.drawings.specs.Stops.{stops_of}
-pub use Rattle.drawings.specs.Stops.{act_by, later_with, next_points, points_with, stops_at, zero_of, zero_with}
+pub use Rattle.drawings.specs.Stops.{act_by, first_with_any, is_asked, later_with, next_points, points_with, stops_at, touches_among, zero_of, zero_with}
 unfoldable pub use Rattle.drawings.specs.Texts.{attribute, disc_text, frame_text, line_text, markup, millimetres, text_element, text_start}
 pub use Rattle.drawings.specs.Texts.{Adds, escaped, escaped_byte, is_plain, shown_name, spot_text, text_end}
 unfoldable pub use Rattle.drawings.specs.Title.{given_title}

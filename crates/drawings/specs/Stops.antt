@@ -1,5 +1,5 @@
 -- Where a program stops the machine, and what was measured there. The steps before a step are given nearest first.
-use Rattle.std.specs.Prelude.{List, [], ◌∷◌, ◌++◌, drop}
+use Rattle.std.specs.Prelude.{Bool, true, false, filter, List, [], ◌∷◌, ◌++◌, drop}
 use Rattle.contact_ledger.specs.declared.features.Feature.{Feature}
 use Rattle.dmis_program.specs.declared.steps.Step.{Step}
 use Rattle.dmis_program.specs.declared.steps.Step.TheVariants.{Goto, Begin, Touch, Tool, Recall, End}
@@ -85,3 +85,21 @@ stops_from features above (step ∷ steps) = stops_at (zero_below above) (points
 -- the stops of a program, with the features that were measured first
 unfoldable pub stops_of : List Step → List Feature → List Stop
 stops_of steps features = stops_from features [] steps
+
+-- a stop that is a touch, made or not
+abbrev pub is_asked : Act → Bool
+is_asked (act.Measured away) = true
+is_asked act.Move = false
+is_asked act.Touch = true
+
+abbrev pub touches_among : List Stop → List Stop
+touches_among stops = filter (λ (s : Stop). is_asked s.act) stops
+
+-- the first of two lists that has an item
+abbrev pub first_with_any : List Stop → List Stop → List Stop
+first_with_any [] others = others
+first_with_any (s ∷ stops) others = s ∷ stops
+
+-- the stops that the views must show: the touches; all if there is no touch. The way of the machine may lead out of a view
+abbrev pub shown_stops : List Stop → List Stop
+shown_stops stops = first_with_any (touches_among stops) stops

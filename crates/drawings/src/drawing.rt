@@ -53,7 +53,8 @@ fn put_parts(
     ensures { OnOk result (Adds (IsDrawingOf title.now stops.now marks.now wanted.now)
         out.old.items out.new.items) }
 {
-    let views = Views::of(&Extents::of(stops));
+    let extents = Extents::shown(alloc, stops)?;
+    let views = Views::of(&extents);
     let whiskers = whiskers_of(stops);
     put_head(out, title)?;
     put_labels(alloc, out, marks, wanted, &views.plan)?;
@@ -86,7 +87,7 @@ fn put_drawing(
 }
 
 /// Appends a drawing (SVG 1.1) of a program and of the features that were measured first, in their order, on one sheet A4, under a title: plan and front
-/// view in machine axes at one round scale, the way of the machine, the nominal points, hollow where they are not measured yet, and from
+/// view of the touches in machine axes at one round scale, the way of the machine, the nominal points, hollow where they are not measured yet, and from
 /// each measured one a line that shows how far the measured point lies from it, at a round scale of its own. If the features are not those
 /// of the program, points are taken in order as long as there are touches.
 ///

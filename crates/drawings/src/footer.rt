@@ -1,14 +1,14 @@
 // What is below the views: the scales, the legend, and how much was measured.
 
 ghost use Rattle.std.specs.Prelude.{◌≡◌, ◌≤◌, ◌+◌, ◌++◌, OnOk};
-ghost use Rattle.drawings.specs.Names.{bar_text, IsBar, AreBars, Adds, ratio_text, legend_marks, legend_words, measured_count, asked_count, is_measured, is_asked, counts_text, magnified_words, caption_text, IsFooter};
+ghost use Rattle.drawings.specs.Names.{bar_text, IsBar, AreBars, Adds, ratio_text, legend_marks, legend_words, measured_count, asked_count, is_measured, counts_text, magnified_words, caption_text, IsFooter};
 
 use crate::scales::{Scale, round};
 use crate::sheet::Position;
 use crate::texts::{
     begin_text, end_text, put_disc, put_line, put_markup, put_millimetres, put_number, put_text,
 };
-use crate::walk::{Act, Stop};
+use crate::walk::{Act, Stop, is_asked};
 use crate::whiskers::Whiskers;
 use std::alloc::AllocError;
 
@@ -21,9 +21,9 @@ const TEXT_DOWN: u64 = 196_500;
 fn put_ratio(out: &mut Vec<u8>, scale: Scale) -> Result<(), AllocError>
     ensures { OnOk result (out.new.items ≡ out.old.items ++ ratio_text scale) }
 {
-    put_number(out, scale.numerator())?;
+    put_millimetres(out, scale.numerator() * 100)?;
     out.push(b':')?;
-    put_number(out, scale.denominator())
+    put_millimetres(out, scale.denominator() * 100)
 }
 
 /// A bar from left to right, and the length that it represents.
@@ -118,12 +118,6 @@ fn is_measured(stop: &Stop) -> bool
     ensures { result ≡ is_measured stop.now.act }
 {
     matches!(stop.act, Act::Measured(_))
-}
-
-fn is_asked(stop: &Stop) -> bool
-    ensures { result ≡ is_asked stop.now.act }
-{
-    matches!(stop.act, Act::Measured(_) | Act::Touch)
 }
 
 #[tactic(auto, unfolding(crate::specs::Footer::counts_text))]

@@ -7,8 +7,8 @@ use crate::scales::{Lengths, Room, Scale};
 use crate::walk::{Act, Stop};
 use crate::whiskers::Whiskers;
 
-/// The longest line of a deviation on paper, in micrometres.
-const LONGEST: u64 = 15_000;
+/// The longest line of a deviation on paper, in micrometres: a twentieth of the width of a frame.
+const LONGEST: u64 = 10_000;
 
 fn squared(part: i64) -> u128
     requires { unsigned_abs part ≤ 8000000000 }
@@ -77,7 +77,7 @@ fn scale_of(longest: u64) -> Scale
     Scale::for_room(lengths, room)
 }
 
-/// The deviations of stops at the largest scale at which the longest is at most 15 mm on paper; 1:1 if there is no deviation.
+/// The deviations of stops at the largest scale at which the longest is at most 10 mm on paper; 1:1 if there is no deviation.
 pub(crate) fn whiskers_of(stops: &[Stop]) -> Whiskers
     ensures { AreWhiskers stops.now result }
 {

@@ -1,7 +1,7 @@
 // A program as stops of the machine.
 
 ghost use Rattle.std.specs.Prelude.{◌≡◌, ◌++◌, ◌∷◌, [], drop, IfOk, OnOk};
-ghost use Rattle.drawings.specs.Names.{place_of, zero_of, zero_with, later_with, next_points, points_with, act_by, stops_at, stops_of};
+ghost use Rattle.drawings.specs.Names.{place_of, zero_of, zero_with, later_with, next_points, points_with, act_by, stops_at, stops_of, is_asked, touches_among, first_with_any};
 
 use crate::away::Away;
 use crate::places::Place;
@@ -136,4 +136,33 @@ pub(crate) fn stops_of(
     }
     let Walk { stops, .. } = walk;
     Ok(stops)
+}
+
+pub(crate) fn is_asked(stop: &Stop) -> bool
+    ensures { result ≡ is_asked stop.now.act }
+{
+    matches!(stop.act, Act::Measured(_) | Act::Touch)
+}
+
+/// The stops that are touches.
+pub(crate) fn touches_among(alloc: Global, stops: &[Stop]) -> Result<Vec<Stop>, AllocError>
+    ensures { IfOk result (λ touches. touches.items ≡ touches_among stops.now) }
+{
+    let mut touches = Vec::new(alloc);
+    for stop in stops {
+        if is_asked(stop) {
+            touches.push(*stop)?;
+        }
+    }
+    Ok(touches)
+}
+
+/// The touches; all stops if there is no touch.
+pub(crate) fn first_with_any<'a>(touches: &'a [Stop], stops: &'a [Stop]) -> &'a [Stop]
+    ensures { result.now ≡ first_with_any touches.now stops.now }
+{
+    match touches {
+        [_, ..] => touches,
+        [] => stops,
+    }
 }
