@@ -41,6 +41,10 @@ pub nothing : (scale : ℕ) → on_paper scale 0 ≡ 0
 unfolding on_paper
 nothing scale = let e : 0 * numerator scale ≡ 0 = omega arith in ap (λ x. x / denominator scale) e ∙ zero-div (denominator scale)
 
+-- a deviation of 10 km or more along a normal is longer across it never
+pub far_along : (along square : ℕ) → 10000000000 ≤ along → square ≤ 192000000000000000000 → 2 * (along * along) < square → ⊥
+far_along along square far le less = let b = mul-le-mul far far in omega (arith, b, le, less)
+
 -- the smallest scale
 at_smallest : (l : ℕ) → on_paper 61 l ≡ l * 10 / 20000000
 unfolding on_paper numerator denominator

@@ -6,8 +6,9 @@ use Rattle.dmis_program.specs.declared.features.Wanted.{Wanted}
 use Rattle.drawings.specs.Extents.{AreFilled}
 use Rattle.drawings.specs.Footer.{IsFooter}
 use Rattle.drawings.specs.Labels.{AreLabels}
-use Rattle.drawings.specs.Named.{marks_of}
+use Rattle.drawings.specs.Named.{AreMarks}
 use Rattle.drawings.specs.Pictures.{spot, picture_text}
+use Rattle.drawings.specs.Seen.{AreSeen}
 use Rattle.drawings.specs.Stops.{shown_stops, stops_of}
 use Rattle.drawings.specs.Texts.{markup, text_start, text_end}
 use Rattle.drawings.specs.Title.{TitleTexts, title_words}
@@ -16,6 +17,7 @@ use Rattle.drawings.specs.Whiskers.{AreWhiskers}
 use Rattle.drawings.specs.declared.extents.Extents.{Extents}
 use Rattle.drawings.specs.declared.marks.Mark.{Mark}
 use Rattle.drawings.specs.declared.placing.Views.{Views}
+use Rattle.drawings.specs.declared.seen.Seen.{Seen}
 use Rattle.drawings.specs.declared.walk.Stop.{Stop}
 use Rattle.drawings.specs.declared.whiskers.Whiskers.{Whiskers}
 
@@ -28,7 +30,7 @@ head_text title = markup (codes "<svg xmlns=\"http://www.w3.org/2000/svg\" width
 
 -- A drawing of stops, with labels of marks, which have the names of features: the head, the labels, a plan and a front view, and the
 -- footer. The views are those of what the touches fill, at one scale and with the same whiskers, and the bars are of these scales
-pub record IsDrawingOf (title : TitleTexts) (stops : List Stop) (marks : List Mark) (wanted : List Wanted) (text : List ℕ) : Type 0 where
+pub record IsDrawingOf (title : TitleTexts) (stops : List Stop) (seen : List Seen) (marks : List Mark) (wanted : List Wanted) (text : List ℕ) : Type 0 where
   pub extents : Extents
   pub filled : AreFilled (shown_stops stops) extents
   pub views : Views
@@ -39,10 +41,13 @@ pub record IsDrawingOf (title : TitleTexts) (stops : List Stop) (marks : List Ma
   pub labels_are : AreLabels views.plan marks wanted labels
   pub footer : List ℕ
   pub footer_is : IsFooter views.plan.scale whiskers stops footer
-  pub is : text ≡ head_text title ++ (labels ++ (picture_text views.plan whiskers stops
-      ++ (picture_text views.front whiskers stops ++ (footer ++ markup (codes "</svg>\n")))))
+  pub is : text ≡ head_text title ++ (labels ++ (picture_text views.plan whiskers stops seen
+      ++ (picture_text views.front whiskers stops seen ++ (footer ++ markup (codes "</svg>\n")))))
 
 -- the drawing of a program under a title, with the features that were measured first
-abbrev pub IsDrawing : TitleTexts → Meaning → List Feature → List ℕ → Type 0
-IsDrawing title program features text =
-    IsDrawingOf title (stops_of program.steps features) (marks_of program.features features) program.features text
+pub record IsDrawing (title : TitleTexts) (program : Meaning) (features : List Feature) (text : List ℕ) : Type 0 where
+  pub seen : List Seen
+  pub seen_are : AreSeen (stops_of program.steps features) seen
+  pub marks : List Mark
+  pub marks_are : AreMarks program.features features marks
+  pub is : IsDrawingOf title (stops_of program.steps features) seen marks program.features text

@@ -21,15 +21,20 @@ legend_marks = markup (codes "<g fill=\"#000\">\n") ++ (disc_text (spot 160000 1
     ++ (disc_text (spot 186000 195300) 800 ++ (markup (codes "</g>\n<g stroke=\"#777\" stroke-width=\"0.15\">\n")
     ++ (line_text (spot 224500 195300) (spot 234500 195300) ++ markup (codes "</g>\n"))))))
 
--- what they mean
+-- what the colours and the thickness of whiskers mean
+abbrev pub colour_words : List ℕ
+colour_words = codes "Along the normal: red too much material, blue too little, grey as wanted or no normal; thin: more across than along. Bars: the greatest of each feature."
+
+-- what the marks mean
 unfoldable pub legend_words : List ℕ
 legend_words = text_element (spot 162500 196500) (codes "measured")
     ++ (text_element (spot 188500 196500) (codes "not measured yet")
-    ++ text_element (spot 236500 196500) (codes "way of the machine"))
+    ++ (text_element (spot 236500 196500) (codes "way of the machine")
+    ++ text_element (spot 10000 200300) colour_words))
 
 -- how many points of stops are measured, and how many are requested
 abbrev pub is_measured : Act → Bool
-is_measured (act.Measured away) = true
+is_measured (act.Measured gap) = true
 is_measured act.Move = false
 is_measured act.Touch = false
 

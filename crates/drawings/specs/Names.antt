@@ -14,10 +14,10 @@ pub use Rattle.drawings.specs.Drawing.{IsDrawing, IsDrawingOf}
 pub use Rattle.drawings.specs.Examples.{limits, on_x, open_row, range, row, wanted, worst}
 unfoldable pub use Rattle.drawings.specs.Footer.{caption_text, counts_text, legend_marks, legend_words, ratio_text}
 pub use Rattle.drawings.specs.Footer.{IsFooter, asked_count, is_measured, magnified_words, measured_count}
-unfoldable pub use Rattle.drawings.specs.Labels.{bullet_text, label_text, more_text, name_text}
-pub use Rattle.drawings.specs.Labels.{AreLabels, AreOnLines, AreOrdered, anchors_from, bullet_start, label_at, line_for, more_if_any, most_labels}
-unfoldable pub use Rattle.drawings.specs.Marks.{done_dot, dots_text, open_dot, way_spot, way_text, whisker, whiskers_text}
-pub use Rattle.drawings.specs.Marks.{spot_of, thickness_for}
+unfoldable pub use Rattle.drawings.specs.Labels.{bullet_text, label_text, leader_text, more_text, name_text}
+pub use Rattle.drawings.specs.Labels.{Anchor, AreHighest, AreLabels, AreOnLines, AreOrdered, DoNotCross, anchors_from, bullet_start, label_at, line_for, more_if_any, most_labels}
+unfoldable pub use Rattle.drawings.specs.Marks.{done_dot, dots_text, gap_text, line_start, open_dot, way_spot, way_text, whisker, whiskers_text}
+pub use Rattle.drawings.specs.Marks.{colour_of, is_sideways, spot_of, thickness_for, thinned}
 unfoldable pub use Rattle.drawings.specs.Markup.{between}
 pub use Rattle.drawings.specs.Markup.{cell, cells}
 unfoldable pub use Rattle.drawings.specs.Pages.{audit_text, complete_text, page_end, style, summary_text, within_line}

@@ -7,7 +7,8 @@ use Rattle.fixed_um.specs.Points.{zero_point}
 use Rattle.fixed_um.specs.declared.frames.Frame.{Frame}
 use Rattle.fixed_um.specs.declared.frames.Frame.TheVariants.{Machine, Part}
 use Rattle.fixed_um.specs.declared.lengths.Point.{Point}
-use Rattle.drawings.specs.Places.{place_of, away_of}
+use Rattle.dmis_program.specs.declared.features.Touch as touch
+use Rattle.drawings.specs.Places.{place_of, gap_of}
 use Rattle.drawings.specs.declared.walk.Act.{Act}
 use Rattle.drawings.specs.declared.walk.Act.TheVariants as act
 use Rattle.drawings.specs.declared.walk.Stop.{Stop}
@@ -63,15 +64,15 @@ points_left features [] = []
 points_left features (step ∷ above) = points_with step (later_features features above) (points_left features above)
 
 -- a touch has measured the first of the points that are left for it; if no point is left, it has not been made yet
-abbrev pub act_by : List Point → Point → Act
-act_by [] nominal = act.Touch
-act_by (p ∷ points) nominal = act.Measured (away_of p nominal)
+abbrev pub act_by : List Point → touch.Touch → Act
+act_by [] t = act.Touch
+act_by (p ∷ points) t = act.Measured (gap_of p t)
 
 -- the stop of a step: a move has one, and a touch, each in its frame
 abbrev pub stops_at : Point → List Point → Step → List Stop
 stops_at zero points (Goto target) = record { place = place_of target zero; act = act.Move } ∷ []
 stops_at zero points (Begin name) = []
-stops_at zero points (Touch t) = record { place = place_of t.target (zero_of t.frame); act = act_by points t.target } ∷ []
+stops_at zero points (Touch t) = record { place = place_of t.target (zero_of t.frame); act = act_by points t } ∷ []
 stops_at zero points (Tool name) = []
 stops_at zero points (Recall offset) = []
 stops_at zero points End = []
@@ -88,7 +89,7 @@ stops_of steps features = stops_from features [] steps
 
 -- a stop that is a touch, made or not
 abbrev pub is_asked : Act → Bool
-is_asked (act.Measured away) = true
+is_asked (act.Measured gap) = true
 is_asked act.Move = false
 is_asked act.Touch = true
 

@@ -15,7 +15,7 @@ IsAtMost most across upright = unsigned_abs across * unsigned_abs across + unsig
 
 -- the deviation of a measured point is at most this long in both views
 abbrev pub NotLonger : ℕ → Act → Type 0
-NotLonger most (act.Measured away) = IsAtMost most away.x away.y × IsAtMost most away.x away.z
+NotLonger most (act.Measured gap) = IsAtMost most gap.deviation.x gap.deviation.y × IsAtMost most gap.deviation.x gap.deviation.z
 NotLonger most act.Move = ⊤
 NotLonger most act.Touch = ⊤
 

@@ -10,6 +10,7 @@ use crate::magnifying::whiskers_of;
 use crate::marks::{Mark, marks_of};
 use crate::pictures::put_picture;
 use crate::placing::Views;
+use crate::seen::{Seen, seen_of};
 use crate::sheet::Position;
 use crate::texts::{begin_text, end_text, put_markup};
 use crate::title::{Title, put_title_words};
@@ -47,10 +48,11 @@ fn put_parts(
     out: &mut Vec<u8>,
     title: &Title<'_>,
     stops: &[Stop],
+    seen: &[Seen],
     marks: &[Mark],
     wanted: &[Wanted],
 ) -> Result<(), AllocError>
-    ensures { OnOk result (Adds (IsDrawingOf title.now stops.now marks.now wanted.now)
+    ensures { OnOk result (Adds (IsDrawingOf title.now stops.now seen.now marks.now wanted.now)
         out.old.items out.new.items) }
 {
     let extents = Extents::shown(alloc, stops)?;
@@ -58,8 +60,8 @@ fn put_parts(
     let whiskers = whiskers_of(stops);
     put_head(out, title)?;
     put_labels(alloc, out, marks, wanted, &views.plan)?;
-    put_picture(out, &views.plan, stops, &whiskers)?;
-    put_picture(out, &views.front, stops, &whiskers)?;
+    put_picture(alloc, out, &views.plan, stops, seen, &whiskers)?;
+    put_picture(alloc, out, &views.front, stops, seen, &whiskers)?;
     put_footer(out, views.plan.scale, stops, &whiskers)?;
     put_markup(out, b"</svg>\n")
 }
@@ -75,12 +77,14 @@ fn put_drawing(
         out.old.items out.new.items) }
 {
     let stops = stops_of(alloc, program.statements(), features)?;
+    let seen = seen_of(alloc, stops.as_slice())?;
     let marks = marks_of(alloc, program, features)?;
     put_parts(
         alloc,
         out,
         title,
         stops.as_slice(),
+        seen.as_slice(),
         marks.as_slice(),
         program.features(),
     )

@@ -17,6 +17,10 @@ const BAR_DOWN: u64 = 195_300;
 
 const TEXT_DOWN: u64 = 196_500;
 
+/// What the colours and the thickness of whiskers mean.
+const COLOURS: &[u8] =
+    b"Along the normal: red too much material, blue too little, grey as wanted or no normal; thin: more across than along. Bars: the greatest of each feature.";
+
 #[tactic(auto, unfolding(crate::specs::Footer::ratio_text))]
 fn put_ratio(out: &mut Vec<u8>, scale: Scale) -> Result<(), AllocError>
     ensures { OnOk result (out.new.items ≡ out.old.items ++ ratio_text scale) }
@@ -76,7 +80,7 @@ fn put_bars(out: &mut Vec<u8>, scale: Scale, whiskers: &Whiskers) -> Result<(), 
 {
     put_markup(out, b"<g stroke=\"#000\" stroke-width=\"0.8\">\n")?;
     put_bar(out, scale, 10_000, 50_000, b" mm")?;
-    put_markup(out, b"</g>\n<g stroke=\"#d00000\" stroke-width=\"0.5\">\n")?;
+    put_markup(out, b"</g>\n<g stroke=\"#555\" stroke-width=\"0.5\">\n")?;
     put_bar(out, whiskers.scale, 85_000, 15_000, b" mm of deviation")?;
     put_markup(out, b"</g>\n")
 }
@@ -111,7 +115,8 @@ fn put_legend_words(out: &mut Vec<u8>) -> Result<(), AllocError>
         out,
         Position::new(236_500, TEXT_DOWN),
         b"way of the machine",
-    )
+    )?;
+    put_text(out, Position::new(10_000, 200_300), COLOURS)
 }
 
 fn is_measured(stop: &Stop) -> bool
