@@ -1,5 +1,5 @@
 -- The parts of a drawing, one after another.
-use Rattle.drawings.proofs.Names.{◌++◌, ◌∙◌, ◌≡◌, Adds, append_assoc, AreFilled, AreLabels, AreWhiskers, codes, IsFooter, List, Mark, markup, refl}
+use Rattle.drawings.proofs.Names.{◌++◌, ◌≡◌, Adds, append_assoc, AreFilled, AreLabels, AreWhiskers, codes, IsFooter, List, Mark, markup, refl}
 use Rattle.drawings.proofs.Names.{Stop, ℕ}
 use Rattle.dmis_program.specs.declared.features.Wanted.{Wanted}
 use Rattle.drawings.specs.Drawing.{head_text, IsDrawingOf}

@@ -1,6 +1,5 @@
 -- Stops with their deviations along the normal, found stop by stop.
-use Rattle.std.proofs.Common.{[], ◌++◌, ◌∷◌, ◌≡◌, append-nil, append_assoc, List, Option, refl, subst, sym, ℤ}
-use Rattle.std.specs.List.{AllZip}
+use Rattle.std.proofs.Common.{[], ◌++◌, ◌∷◌, ◌≡◌, append-nil, append_assoc, List, Option, refl, subst, ℤ}
 use Rattle.drawings.specs.Seen.{AreSeen, IsAlongOf, IsSeen}
 use Rattle.drawings.specs.declared.seen.Seen.{Seen}
 use Rattle.drawings.specs.declared.walk.Stop.{Stop}

@@ -1,5 +1,5 @@
 -- The marks of features, found feature by feature, and their peaks, touch by touch.
-use Rattle.std.proofs.Common.{[], ◌++◌, ◌∷◌, ◌≡◌, append-nil, append_assoc, drop, List, Option, None, refl, rules, ℤ}
+use Rattle.std.proofs.Common.{[], ◌++◌, ◌∷◌, append-nil, append_assoc, drop, List, Option, None, refl, ℤ}
 use Rattle.contact_ledger.specs.declared.features.Feature.{Feature}
 use Rattle.deviations.specs.Along.{deviation}
 use Rattle.deviations.specs.Rows.{IsAlongNormal}

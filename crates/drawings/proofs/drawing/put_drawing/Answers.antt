@@ -1,5 +1,4 @@
 use Rattle.drawings.proofs.Names.{◌∙◌, ap, List, on_ok_weaker, Step, stops_of}
-use Rattle.drawings.specs.Seen.{AreSeen}
 use Rattle.drawings.proofs.drawing.put_drawing.Goals as goal
 
 pub returns : goal.returns

@@ -1,4 +1,4 @@
-use Rattle.std.proofs.Common.{◌+◌, ◌≡◌, ◌≤◌, drop, length}
+use Rattle.std.proofs.Common.{◌+◌, ◌≡◌, ◌≤◌, drop}
 use Rattle.drawings.specs.Numbers.{near_count}
 use Rattle.drawings.proofs.numbers.near_count.Given as goal
 

@@ -1,7 +1,5 @@
-use Rattle.std.specs.List.{AllByRecursion}
-use Rattle.dmis_program.specs.Programs.{IsStep}
 use Rattle.drawings.proofs.Items.{drop_item, drop_past}
-use Rattle.drawings.proofs.Walked.{walked_none, walked_more, walked_all}
+use Rattle.drawings.proofs.Walked.{walked_more, walked_all}
 use Rattle.drawings.specs.Stops.{stops_of}
 use Rattle.drawings.proofs.walk.stops_of.Goals as goal
 
