@@ -7,13 +7,14 @@ use Rattle.deviations.specs.Compared.{compared_text}
 use Rattle.deviations.specs.Json.{json_of}
 use Rattle.deviations.specs.Records.{csv_text}
 use Rattle.deviations.specs.Rows.{IsRow, Row, places_of}
-use Rattle.deviations.specs.Styles.{RowsOf, style_of}
+use Rattle.deviations.specs.Styles.{RowsOf, TableStyle, style_of}
 use Rattle.deviations.specs.declared.styles.TableOptions.{TableOptions}
 use Rattle.deviations.specs.declared.forms.Form.{Form}
 use Rattle.deviations.specs.declared.forms.Form.TheVariants.{Csv, Json, Svg}
 use Rattle.dmis_program.specs.Meaning.{Meaning}
 use Rattle.drawings.specs.Drawing.{IsDrawing}
 use Rattle.drawings.specs.Texts.{Adds}
+use Rattle.drawings.specs.Title.{TitleTexts}
 use Rattle.deviations.specs.declared.entries.Limit.{Limit}
 use Rattle.dme_orders.specs.Input.{Named, ExportInput, ReadsExport, WhyNoExport, AreUntouched, Limited, ReadsLimited, WhyNoLimited}
 use Rattle.dme_orders.specs.Missing.{IsMissing}
@@ -28,19 +29,19 @@ use Rattle.order_parts.specs.declared.faults.FilesFault.TheVariants as files
 unfoldable pub xml : List ℕ
 xml = codes "<?xml version=\"1.0\" encoding=\"UTF-8\"?>\n"
 
--- the text is that of a table in a form, of a part and a program: a drawing is one of the program and of the features
-abbrev pub IsInForm : Form → TableOptions → RowsOf → Option (List Limit) → Meaning → List Feature → List Row → List ℕ → Type 0
-IsInForm Csv table of limits program features rows text = text ≡ csv_text (style_of table of) limits rows
-IsInForm Json table of limits program features rows text = text ≡ json_of (style_of table of).of limits rows
-IsInForm Svg table of limits program features rows text = Adds (IsDrawing program features) xml text
+-- the text is that of a table in a form and a style: a drawing is one of the program and of the features, under a title
+abbrev pub IsInForm : Form → TableStyle → TitleTexts → Option (List Limit) → Meaning → List Feature → List Row → List ℕ → Type 0
+IsInForm Csv style title limits program features rows text = text ≡ csv_text style limits rows
+IsInForm Json style title limits program features rows text = text ≡ json_of style.of limits rows
+IsInForm Svg style title limits program features rows text = Adds (IsDrawing title program features) xml text
 
 -- the features are the first ones of the program, and the text is their table in a form: a row for each touch of the program, in order
-pub record LeavesTable (form : Form) (table : TableOptions) (of : RowsOf) (limits : Option (List Limit)) (program : Meaning)
+pub record LeavesTable (form : Form) (style : TableStyle) (title : TitleTexts) (limits : Option (List Limit)) (program : Meaning)
     (features : List Feature) (text : List ℕ) : Type 0 where
   pub rows : List Row
   pub ours : are_ours program.features features ≡ true
   pub are : AllZip IsRow (places_of program.features features) rows
-  pub told : IsInForm form table of limits program features rows text
+  pub told : IsInForm form style title limits program features rows text
 
 -- the lines that compare the rows of features with limits
 pub record ComparesRows (limits : List Limit) (program : Meaning) (features : List Feature) (lines : List ℕ) : Type 0 where
@@ -57,9 +58,12 @@ Compares None program features lines = lines ≡ []
 abbrev pub of_no_part : List ℕ → RowsOf
 of_no_part name = record { part = []; program = shown_name name }
 
+abbrev pub title_of_no_part : List ℕ → TitleTexts
+title_of_no_part name = record { part = []; program = shown_name name; time = [] }
+
 -- the table of features was written, these are missing, and these lines compare them with limits
 pub record LeavesExport (form : Form) (table : TableOptions) (name : List ℕ) (read : Limited ExportInput) (end : Exported) (text : List ℕ) : Type 0 where
-  pub told : LeavesTable form table (of_no_part name) read.limits read.input.program read.input.features text
+  pub told : LeavesTable form (style_of table (of_no_part name)) (title_of_no_part name) read.limits read.input.program read.input.features text
   pub lacks : IsMissing read.input.program.features read.input.features end.missing
   pub compares : Compares read.limits read.input.program read.input.features (string_bytes end.compared)
 

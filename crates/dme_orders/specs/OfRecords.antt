@@ -12,12 +12,13 @@ use Rattle.dme_orders.specs.Auditing.{LeavesVerdict}
 use Rattle.dme_orders.specs.Exporting.{LeavesTable, Compares}
 use Rattle.dme_orders.specs.Input.{Named, RecordInput, ReadsHeld, WhyNoneHeld, WhyNoneSealed, AreUntouched, Limited, ReadsLimited, WhyNoLimited}
 use Rattle.dme_orders.specs.Missing.{IsMissing}
-use Rattle.dme_orders.specs.Named.{of_record}
+use Rattle.dme_orders.specs.Named.{of_record, title_of_record}
 use Rattle.dme_orders.specs.Orders.{Went, Carries}
 use Rattle.dme_orders.specs.Reading.{Came, Reads, IsSealed}
 use Rattle.dme_orders.specs.Recorded.{IsOfProgram, DiffersAt, features_in, told_in}
 use Rattle.dme_orders.specs.declared.exporting.Exported.{Exported}
-use Rattle.deviations.specs.Styles.{RowsOf}
+use Rattle.deviations.specs.Styles.{TableStyle, style_of}
+use Rattle.drawings.specs.Title.{TitleTexts}
 use Rattle.deviations.specs.declared.entries.Limit.{Limit}
 use Rattle.deviations.specs.declared.styles.TableOptions.{TableOptions}
 use Rattle.dme_orders.specs.RunErrors.{errors_in, error_line}
@@ -43,17 +44,17 @@ pub record LeavesRecordVerdict (input : RecordInput) (end : ℕ × RecordNotes) 
   pub part : string_bytes end.1.part ≡ part_line input.held
 
 -- a text in a form: the table of the features, or the text of a features file, or the text of a contacts file
-abbrev pub IsRecordText : RecordText → TableOptions → RowsOf → Option (List Limit) → Meaning → List Feature → List (ℕ × Act) → List ℕ → Type 0
-IsRecordText (Table form) table of limits program features told text = LeavesTable form table of limits program features text
-IsRecordText Features table of limits program features told text = (are_ours program.features features ≡ true) × IsFeaturesText features text
-IsRecordText Contacts table of limits program features told text = text ≡ contacts_text told
+abbrev pub IsRecordText : RecordText → TableStyle → TitleTexts → Option (List Limit) → Meaning → List Feature → List (ℕ × Act) → List ℕ → Type 0
+IsRecordText (Table form) style title limits program features told text = LeavesTable form style title limits program features text
+IsRecordText Features style title limits program features told text = (are_ours program.features features ≡ true) × IsFeaturesText features text
+IsRecordText Contacts style title limits program features told text = text ≡ contacts_text told
 
 -- the record is of the program, this is its text in a form, these features are missing, and these lines compare the others with limits
 pub record LeavesRecordText (form : RecordText) (table : TableOptions) (name : List ℕ) (read : Limited RecordInput) (end : Exported)
     (text : List ℕ) : Type 0 where
   pub same : IsOfProgram read.input.held read.input.program
-  pub is : IsRecordText form table (of_record read.input.held name) read.limits read.input.program (features_in read.input.held)
-      (told_in read.input.held) text
+  pub is : IsRecordText form (style_of table (of_record read.input.held name)) (title_of_record read.input.held name) read.limits
+      read.input.program (features_in read.input.held) (told_in read.input.held) text
   pub lacks : IsMissing read.input.program.features (features_in read.input.held) end.missing
   pub compares : Compares read.limits read.input.program (features_in read.input.held) (string_bytes end.compared)
 

@@ -12,7 +12,7 @@ use Rattle.record_text.specs.Records.{Recorded}
 use Rattle.dme_orders.specs.Auditing.{LeavesVerdict}
 use Rattle.dme_orders.specs.Input.{Named, JudgedInput, ReadsJudged, WhyNoneHeld, AreUntouched, Limited, ReadsLimited, WhyNoLimited}
 use Rattle.dme_orders.specs.Missing.{IsMissing}
-use Rattle.dme_orders.specs.Named.{shown_name}
+use Rattle.dme_orders.specs.Named.{shown_name, time_in}
 use Rattle.dme_orders.specs.OfRecords.{IsOtherProgram, HoldsOthers}
 use Rattle.dme_orders.specs.Orders.{Went, Carries}
 use Rattle.dme_orders.specs.Reading.{Came}
@@ -27,12 +27,13 @@ abbrev pub part_in : Option Recorded → List ℕ
 part_in None = codes "(not named)"
 part_in (Some held) = unwrap_or held.part (codes "(not named)")
 
--- what a page says besides its points, of a part, the name of its program, the lines of the server's errors and of other notes, what the
+-- what a page says besides its points, of a part, the name of its program, when it was complete, the lines of the server's errors and of other notes, what the
 -- seals say, and the status and the line of the audit
-abbrev pub facts_of : (part name errors notes : List ℕ) → SealVerdict → ℕ → List ℕ → PageFacts
-facts_of part name errors notes seals status verdict = record {
+abbrev pub facts_of : (part name time errors notes : List ℕ) → SealVerdict → ℕ → List ℕ → PageFacts
+facts_of part name time errors notes seals status verdict = record {
   part = part;
   program = name;
+  time = time;
   seals = seals;
   sound = status == 0;
   verdict = verdict;
@@ -41,19 +42,20 @@ facts_of part name errors notes seals status verdict = record {
 }
 
 -- the page of features, with the rows that are theirs and the audit of them by acts
-pub record IsPageOf (part name errors notes : List ℕ) (seals : SealVerdict) (limits : Option (List Limit)) (program : Meaning) (features : List Feature)
+pub record IsPageOf (part name time errors notes : List ℕ) (seals : SealVerdict) (limits : Option (List Limit)) (program : Meaning) (features : List Feature)
     (told : List (ℕ × Act)) (text : List ℕ) : Type 0 where
   pub rows : List Row
   pub are : AllZip IsRow (places_of program.features features) rows
   pub status : ℕ
   pub verdict : List ℕ
   pub judged : LeavesVerdict program features told status verdict
-  pub is : IsPage (facts_of part name errors notes seals status verdict) program features limits rows text
+  pub is : IsPage (facts_of part name time errors notes seals status verdict) program features limits rows text
 
 -- the record is of the program, this is the page of its part, and these features are missing
 pub record LeavesPage (name : List ℕ) (read : Limited JudgedInput) (missing : Missing) (text : List ℕ) : Type 0 where
   pub same : IsOfProgram read.input.files.held read.input.files.program
-  pub is : IsPageOf (part_in read.input.files.held) (shown_name name) (flat_map error_line (errors_in read.input.files.held))
+  pub is : IsPageOf (part_in read.input.files.held) (shown_name name) (time_in read.input.files.held)
+      (flat_map error_line (errors_in read.input.files.held))
       (flat_map note_line (notes_in read.input.files.held)) read.input.seals read.limits read.input.files.program
       (features_in read.input.files.held) (told_in read.input.files.held) text
   pub lacks : IsMissing read.input.files.program.features (features_in read.input.files.held) missing

@@ -3,6 +3,7 @@
 ghost use Rattle.std.specs.Prelude.{◌≡◌, ◌<◌, length, Option, IfOk, IfErr, string_bytes};
 ghost use Rattle.tool_rack.specs.Setups.{SetupValue};
 ghost use Rattle.drawings.specs.Drawing.{IsDrawing};
+ghost use Rattle.drawings.specs.Title.{untitled};
 ghost use Rattle.drawings.specs.Texts.{Adds};
 ghost use Rattle.dme_orders.specs.Exporting.{xml, IsInForm, LeavesTable, Compares, RefusesFeatures, Exports};
 ghost use Rattle.dme_orders.specs.Input.{named, ReadsExport, WhyNoExport, AreUntouched, ReadsLimited, WhyNoLimited};
@@ -17,10 +18,11 @@ use crate::simulating::write_text;
 use byte_ports::{Sink, Source};
 use contact_ledger::{Feature, FeatureLedger};
 use deviations::{
-    Form, Limits, Row, RowsOf, TableOptions, limit_lines, rows_of, style_of, write_csv, write_json,
+    Form, Limits, Row, RowsOf, TableOptions, TableStyle, limit_lines, rows_of, style_of, write_csv,
+    write_json,
 };
 use dmis_program::Program;
-use drawings::write_drawing;
+use drawings::{Title, write_drawing};
 use order_parts::FilesFault;
 use std::alloc::{AllocError, Global};
 
@@ -109,12 +111,18 @@ fn declared(alloc: Global) -> Result<Vec<u8>, AllocError>
     Ok(text)
 }
 
-fn drawn(alloc: Global, program: &Program, features: &[Feature]) -> Result<Vec<u8>, AllocError>
-    ensures text { IfOk result (λ text. Adds (IsDrawing program.now features.now) xml text.items) }
+fn drawn(
+    alloc: Global,
+    title: &Title<'_>,
+    program: &Program,
+    features: &[Feature],
+) -> Result<Vec<u8>, AllocError>
+    ensures text { IfOk result (λ text. Adds (IsDrawing title.now program.now features.now)
+        xml text.items) }
     ensures some { IfOk result (λ text. 0 < length text.items) }
 {
     let mut text = declared(alloc)?;
-    write_drawing(alloc, &mut text, program, features)?;
+    write_drawing(alloc, &mut text, title, program, features)?;
     Ok(text)
 }
 
@@ -122,23 +130,22 @@ fn drawn(alloc: Global, program: &Program, features: &[Feature]) -> Result<Vec<u
 fn form_text(
     alloc: Global,
     form: Form,
-    table: TableOptions,
-    of: &RowsOf<'_>,
+    style: &TableStyle<'_>,
+    title: &Title<'_>,
     limits: &Option<Limits>,
     rows: &[Row<'_>],
     program: &Program,
     features: &[Feature],
 ) -> Result<Vec<u8>, AllocError>
-    ensures text { IfOk result (λ text. IsInForm form table of.now limits.now program.now
+    ensures text { IfOk result (λ text. IsInForm form style.now title.now limits.now program.now
         features.now rows.now text.items) }
     ensures some { IfOk result (λ text. 0 < length text.items) }
 {
     let mut text = Vec::new(alloc);
-    let style = style_of(table, of);
     match form {
-        Form::Csv => write_csv(&mut text, &style, limits, rows)?,
+        Form::Csv => write_csv(&mut text, style, limits, rows)?,
         Form::Json => write_json(&mut text, style.of(), limits, rows)?,
-        Form::Svg => return drawn(alloc, program, features),
+        Form::Svg => return drawn(alloc, title, program, features),
     }
     Ok(text)
 }
@@ -147,13 +154,13 @@ fn form_text(
 pub(crate) fn table_text(
     alloc: Global,
     form: Form,
-    table: TableOptions,
-    of: &RowsOf<'_>,
+    style: &TableStyle<'_>,
+    title: &Title<'_>,
     limits: &Option<Limits>,
     program: &Program,
     features: &[Feature],
 ) -> Result<Vec<u8>, FilesFault>
-    ensures leaves { IfOk result (λ text. LeavesTable form table of.now limits.now program.now
+    ensures leaves { IfOk result (λ text. LeavesTable form style.now title.now limits.now program.now
         features.now text.items) }
     ensures some { IfOk result (λ text. 0 < length text.items) }
     ensures refused { IfErr result (RefusesFeatures program.now features.now) }
@@ -162,8 +169,8 @@ pub(crate) fn table_text(
     Ok(form_text(
         alloc,
         form,
-        table,
-        of,
+        style,
+        title,
         limits,
         rows.as_slice(),
         program,
@@ -193,13 +200,13 @@ pub(crate) fn compared_lines(
 fn table_of_part(
     alloc: Global,
     form: Form,
-    table: TableOptions,
-    of: &RowsOf<'_>,
+    style: &TableStyle<'_>,
+    title: &Title<'_>,
     limits: &Option<Limits>,
     program: &Program,
     features: &[Feature],
 ) -> Result<(Exported, Vec<u8>), FilesFault>
-    ensures leaves { IfOk result (λ end. LeavesTable form table of.now limits.now program.now
+    ensures leaves { IfOk result (λ end. LeavesTable form style.now title.now limits.now program.now
         features.now end.1.items) }
     ensures lacks { IfOk result (λ end. IsMissing program.now.features features.now
         end.0.missing) }
@@ -210,7 +217,7 @@ fn table_of_part(
 {
     let missing = missing_of(alloc, program, features)?;
     let compared = compared_lines(alloc, limits, program, features)?;
-    let text = table_text(alloc, form, table, of, limits, program, features)?;
+    let text = table_text(alloc, form, style, title, limits, program, features)?;
     Ok((Exported { missing, compared }, text))
 }
 
@@ -241,11 +248,17 @@ pub fn export_files<L: Source, S: Source, F: Source, R: Source, W: Sink>(
         part: "",
         program: shown_name(name),
     };
+    let style = style_of(table, &of);
+    let title = Title {
+        part: b"",
+        program: shown_name(name).as_bytes(),
+        time: b"",
+    };
     let (exported, text) = table_of_part(
         alloc,
         form,
-        table,
-        of,
+        &style,
+        &title,
         &ranges,
         &program,
         features.list(),

@@ -1,6 +1,6 @@
 // The record of a run is audited and exported, over ports.
 
-ghost use Rattle.std.specs.Prelude.{◌≡◌, ◌<◌, length, Option, OnOk, IfOk, IfErr, true, option_map, string_bytes};
+ghost use Rattle.std.specs.Prelude.{◌≡◌, ◌<◌, [], length, Option, OnOk, IfOk, IfErr, true, option_map, string_bytes};
 ghost use Rattle.client_core.specs.Clients.{are_ours};
 ghost use Rattle.contact_ledger.specs.ContactTexts.{contacts_text};
 ghost use Rattle.contact_ledger.specs.Ledgers.{HaveOrigins};
@@ -11,7 +11,7 @@ ghost use Rattle.dme_orders.specs.OfRecords.{RefusesRecord, IsRecordText, Audits
 ghost use Rattle.dme_orders.specs.Exporting.{Compares, RefusesFeatures};
 ghost use Rattle.dme_orders.specs.Input.{named, ReadsHeld, WhyNoneHeld, WhyNoneSealed, AreUntouched, ReadsJudged, ReadsLimited, WhyNoLimited};
 ghost use Rattle.dme_orders.specs.Missing.{IsMissing};
-ghost use Rattle.dme_orders.specs.Named.{part_text};
+ghost use Rattle.dme_orders.specs.Named.{last_dated, part_text, time_in};
 ghost use Rattle.dme_orders.specs.Orders.{went};
 ghost use Rattle.dme_orders.specs.Reading.{came, Reads, IsSealed};
 ghost use Rattle.dme_orders.specs.Recorded.{IsOfProgram, features_in, told_in};
@@ -28,11 +28,12 @@ use crate::run_errors::errors_of;
 use crate::simulating::write_text;
 use byte_ports::{Sink, Source};
 use contact_ledger::{Feature, FeatureLedger, ServerLedger, write_contacts, write_features};
-use deviations::{Form, Limits, RowsOf, TableOptions, rows_of};
+use deviations::{Form, Limits, RowsOf, TableOptions, TableStyle, rows_of, style_of};
 use dmis_program::Program;
+use drawings::Title;
 use order_parts::FilesFault;
 use record_seal::SealVerdict;
-use record_text::{Record, other_feature};
+use record_text::{Note, Record, Remark, other_feature};
 use session_telling::visible;
 use std::alloc::{AllocError, Global};
 
@@ -282,6 +283,31 @@ pub fn audit_record<S: Source, J: Source, R: Source, W: Sink>(
     Ok((status, notes))
 }
 
+/// The time of the last of these remarks that says when features were complete.
+fn last_dated(remarks: &[Remark]) -> &[u8]
+    ensures { result.now ≡ last_dated remarks.now [] }
+{
+    let mut time: &[u8] = &[];
+    let mut left = remarks;
+    while let [remark, others @ ..] = left {
+        if let Note::Dated = remark.note {
+            time = remark.text.as_bytes();
+        }
+        left = others;
+    }
+    time
+}
+
+/// When the last feature of a record was complete; nothing if it does not note that. Fails only if out of memory.
+pub(crate) fn time_of(alloc: Global, held: &Option<Record>) -> Result<Vec<u8>, AllocError>
+    ensures { IfOk result (λ time. time.items ≡ time_in held.now) }
+{
+    match held {
+        Some(held) => Vec::from_slice(alloc, last_dated(held.notes())),
+        None => Ok(Vec::new(alloc)),
+    }
+}
+
 /// The part that a record names, as it is shown; nothing if it names none. Fails only if out of memory.
 fn part_text(alloc: Global, held: &Option<Record>) -> Result<String, AllocError>
     ensures { IfOk result (λ text. string_bytes text ≡ part_text held.now) }
@@ -329,21 +355,21 @@ fn contacts_text(alloc: Global, ledger: &ServerLedger) -> Result<Vec<u8>, AllocE
 fn text_in(
     alloc: Global,
     form: RecordText,
-    table: TableOptions,
-    of: &RowsOf<'_>,
+    style: &TableStyle<'_>,
+    title: &Title<'_>,
     limits: &Option<Limits>,
     program: &Program,
     features: &[Feature],
     ledger: &ServerLedger,
 ) -> Result<Vec<u8>, FilesFault>
     requires { HaveOrigins features.now }
-    ensures leaves { IfOk result (λ text. IsRecordText form table of.now limits.now program.now
+    ensures leaves { IfOk result (λ text. IsRecordText form style.now title.now limits.now program.now
         features.now ledger.now text.items) }
     ensures some { IfOk result (λ text. 0 < length text.items) }
     ensures refused { IfErr result (RefusesFeatures program.now features.now) }
 {
     match form {
-        RecordText::Table(form) => table_text(alloc, form, table, of, limits, program, features),
+        RecordText::Table(form) => table_text(alloc, form, style, title, limits, program, features),
         RecordText::Features => features_text(alloc, program, features),
         RecordText::Contacts => Ok(contacts_text(alloc, ledger)?),
     }
@@ -353,15 +379,15 @@ fn text_in(
 fn text_of_part(
     alloc: Global,
     form: RecordText,
-    table: TableOptions,
-    of: &RowsOf<'_>,
+    style: &TableStyle<'_>,
+    title: &Title<'_>,
     limits: &Option<Limits>,
     program: &Program,
     features: &[Feature],
     ledger: &ServerLedger,
 ) -> Result<(Exported, Vec<u8>), FilesFault>
     requires { HaveOrigins features.now }
-    ensures leaves { IfOk result (λ end. IsRecordText form table of.now limits.now program.now
+    ensures leaves { IfOk result (λ end. IsRecordText form style.now title.now limits.now program.now
         features.now ledger.now end.1.items) }
     ensures lacks { IfOk result (λ end. IsMissing program.now.features features.now
         end.0.missing) }
@@ -372,7 +398,7 @@ fn text_of_part(
 {
     let missing = missing_of(alloc, program, features)?;
     let compared = compared_lines(alloc, limits, program, features)?;
-    let text = text_in(alloc, form, table, of, limits, program, features, ledger)?;
+    let text = text_in(alloc, form, style, title, limits, program, features, ledger)?;
     Ok((Exported { missing, compared }, text))
 }
 
@@ -401,16 +427,23 @@ pub fn export_record<L: Source, S: Source, J: Source, R: Source, W: Sink>(
     let (ranges, held, program) = limited_input(alloc, limits, files)?;
     of_program(alloc, &held, &program)?;
     let part = part_text(alloc, &held)?;
+    let time = time_of(alloc, &held)?;
     let (features, ledger) = parts_of(alloc, held);
     let of = RowsOf {
         part: part.as_str(),
         program: shown_name(name),
     };
+    let style = style_of(table, &of);
+    let title = Title {
+        part: part.as_bytes(),
+        program: shown_name(name).as_bytes(),
+        time: time.as_slice(),
+    };
     let (exported, text) = text_of_part(
         alloc,
         form,
-        table,
-        &of,
+        &style,
+        &title,
         &ranges,
         &program,
         features.list(),

@@ -6,7 +6,7 @@ ghost use Rattle.std.specs.List.{flat_map};
 ghost use Rattle.dme_orders.specs.Exporting.{RefusesFeatures};
 ghost use Rattle.dme_orders.specs.Input.{named};
 ghost use Rattle.dme_orders.specs.Missing.{IsMissing};
-ghost use Rattle.dme_orders.specs.Named.{shown_name};
+ghost use Rattle.dme_orders.specs.Named.{shown_name, time_in};
 ghost use Rattle.dme_orders.specs.Orders.{went};
 ghost use Rattle.dme_orders.specs.Reading.{came};
 ghost use Rattle.dme_orders.specs.Reporting.{facts_of, part_in, IsPageOf, ReportsRecord};
@@ -15,7 +15,7 @@ ghost use Rattle.dme_orders.specs.RunNotes.{notes_in, note_line};
 
 use crate::auditing::verdict_line;
 use crate::missing::{Missing, missing_of};
-use crate::of_records::{RecordFiles, judged_input, of_program, parts_of};
+use crate::of_records::{RecordFiles, judged_input, of_program, parts_of, time_of};
 use crate::run_errors::errors_of;
 use crate::run_notes::notes_of;
 use crate::simulating::write_text;
@@ -52,22 +52,26 @@ pub(crate) fn shown_name(name: &str) -> &str
 #[derive(Drop)]
 struct Texts {
     part: Vec<u8>,
+    time: Vec<u8>,
     errors: String,
     notes: String,
 }
 
 fn texts_of(alloc: Global, held: &Option<Record>) -> Result<Texts, AllocError>
     ensures part { IfOk result (λ texts. texts.part.items ≡ part_in held.now) }
+    ensures time { IfOk result (λ texts. texts.time.items ≡ time_in held.now) }
     ensures errors { IfOk result (λ texts. string_bytes texts.errors
         ≡ flat_map error_line (errors_in held.now)) }
     ensures notes { IfOk result (λ texts. string_bytes texts.notes
         ≡ flat_map note_line (notes_in held.now)) }
 {
     let part = Vec::from_slice(alloc, part_of(held))?;
+    let time = time_of(alloc, held)?;
     let errors = errors_of(alloc, held)?;
     let notes = notes_of(alloc, held)?;
     Ok(Texts {
         part,
+        time,
         errors,
         notes,
     })
@@ -86,7 +90,7 @@ fn page_text(
     status: u8,
     verdict: &[u8],
 ) -> Result<Vec<u8>, AllocError>
-    ensures page { IfOk result (λ text. IsPage (facts_of texts.now.part.items name.now
+    ensures page { IfOk result (λ text. IsPage (facts_of texts.now.part.items name.now texts.now.time.items
         (string_bytes texts.now.errors) (string_bytes texts.now.notes) seals status verdict.now)
         program.now features.now limits.now
         rows.now text.items) }
@@ -95,6 +99,7 @@ fn page_text(
     let facts = Facts {
         part: texts.part.as_slice(),
         program: name.as_bytes(),
+        time: texts.time.as_slice(),
         seals,
         sound: status == 0,
         verdict,
@@ -115,7 +120,7 @@ fn page_of(
     features: &[Feature],
     ledger: &ServerLedger,
 ) -> Result<(Missing, Vec<u8>), FilesFault>
-    ensures page { IfOk result (λ end. IsPageOf texts.now.part.items name.now
+    ensures page { IfOk result (λ end. IsPageOf texts.now.part.items name.now texts.now.time.items
         (string_bytes texts.now.errors) (string_bytes texts.now.notes) seals limits.now program.now
         features.now ledger.now end.1.items) }
     ensures lacks { IfOk result (λ end. IsMissing program.now.features features.now end.0) }

@@ -1,12 +1,15 @@
 -- The parts of a drawing, one after another.
-use Rattle.drawings.proofs.Names.{◌++◌, ◌∙◌, ◌≡◌, Adds, append_assoc, AreFilled, AreLabels, AreWhiskers, codes, IsFooter, List, Mark, markup, refl}
+use Rattle.drawings.proofs.Names.{◌++◌, ◌≡◌, Adds, append_assoc, AreFilled, AreLabels, AreWhiskers, codes, IsFooter, List, Mark, markup, refl}
 use Rattle.drawings.proofs.Names.{Stop, ℕ}
 use Rattle.dmis_program.specs.declared.features.Wanted.{Wanted}
 use Rattle.drawings.specs.Drawing.{head_text, IsDrawingOf}
 use Rattle.drawings.specs.Pictures.{picture_text}
 use Rattle.drawings.specs.Placing.{AreViews}
+use Rattle.drawings.specs.Stops.{shown_stops}
+use Rattle.drawings.specs.Title.{TitleTexts}
 use Rattle.drawings.specs.declared.extents.Extents.{Extents}
 use Rattle.drawings.specs.declared.placing.Views.{Views}
+use Rattle.drawings.specs.declared.seen.Seen.{Seen}
 use Rattle.drawings.specs.declared.whiskers.Whiskers.{Whiskers}
 
 six : (old head labels plan front footer end : List ℕ) → (((((old ++ head) ++ labels) ++ plan) ++ front) ++ footer) ++ end
@@ -19,14 +22,14 @@ joined : (old head labels plan front footer end headed labelled planned pictured
 joined old head labels plan front footer end headed labelled planned pictured footed new h l p f t e =
     rw e (rw t (rw f (rw p (rw l (rw h (six old head labels plan front footer end))))))
 
-pub drawn : (stops : List Stop) (marks : List Mark) (wanted : List Wanted) (extents : Extents) (views : Views) (w : Whiskers)
-    (old headed labelled planned pictured footed new : List ℕ) → AreFilled stops extents → AreViews extents views → AreWhiskers stops w
-    → headed ≡ old ++ head_text → Adds (AreLabels views.plan marks wanted) headed labelled
-    → planned ≡ labelled ++ picture_text views.plan w stops → pictured ≡ planned ++ picture_text views.front w stops
+pub drawn : (title : TitleTexts) (stops : List Stop) (seen : List Seen) (marks : List Mark) (wanted : List Wanted) (extents : Extents) (views : Views) (w : Whiskers)
+    (old headed labelled planned pictured footed new : List ℕ) → AreFilled (shown_stops stops) extents → AreViews extents views → AreWhiskers stops w
+    → headed ≡ old ++ head_text title → Adds (AreLabels views.plan marks wanted) headed labelled
+    → planned ≡ labelled ++ picture_text views.plan w stops seen → pictured ≡ planned ++ picture_text views.front w stops seen
     → Adds (IsFooter views.plan.scale w stops) pictured footed → new ≡ footed ++ markup (codes "</svg>\n")
-    → Adds (IsDrawingOf stops marks wanted) old new
-drawn stops marks wanted extents views w old headed labelled planned pictured footed new filled viewed whiskered h l p f t e = record {
-  text = head_text ++ (l.text ++ (picture_text views.plan w stops ++ (picture_text views.front w stops ++ (t.text ++ markup (codes "</svg>\n")))));
+    → Adds (IsDrawingOf title stops seen marks wanted) old new
+drawn title stops seen marks wanted extents views w old headed labelled planned pictured footed new filled viewed whiskered h l p f t e = record {
+  text = head_text title ++ (l.text ++ (picture_text views.plan w stops seen ++ (picture_text views.front w stops seen ++ (t.text ++ markup (codes "</svg>\n")))));
   is = record {
     extents = extents;
     filled = filled;
@@ -40,6 +43,6 @@ drawn stops marks wanted extents views w old headed labelled planned pictured fo
     footer_is = t.is;
     is = refl;
   };
-  added = joined old head_text l.text (picture_text views.plan w stops) (picture_text views.front w stops) t.text (markup (codes "</svg>\n"))
+  added = joined old (head_text title) l.text (picture_text views.plan w stops seen) (picture_text views.front w stops seen) t.text (markup (codes "</svg>\n"))
       headed labelled planned pictured footed new h l.added p f t.added e;
 }

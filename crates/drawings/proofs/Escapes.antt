@@ -1,6 +1,6 @@
 -- What an escaped text is made of.
-use Rattle.drawings.proofs.Names.{[], ◌++◌, ◌∷◌, ◌≡◌, escaped, escaped_byte, is_plain, List, list_all, refl, true, ℕ}
-use Rattle.std.proofs.Common.{Bool, cond, eqb, false, not, ◌&&◌, ◌∙◌, codes}
+use Rattle.drawings.proofs.Names.{[], ◌++◌, ◌∷◌, ◌≡◌, escaped, is_plain, List, list_all, refl, true, ℕ}
+use Rattle.std.proofs.Common.{Bool, cond, eqb, false, codes}
 
 by_tests : (b : ℕ) (amp less more quote : Bool) → eqb b 38 ≡ amp → eqb b 60 ≡ less → eqb b 62 ≡ more → eqb b 34 ≡ quote → (rest : List ℕ)
     → list_all is_plain rest ≡ true

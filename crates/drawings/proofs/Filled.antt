@@ -9,7 +9,7 @@ use Rattle.deviations.specs.declared.entries.Limit.{Limit}
 use Rattle.drawings.specs.Markup.{between}
 use Rattle.drawings.specs.Texts.{markup}
 use Rattle.drawings.specs.BarCells.{greatest}
-use Rattle.drawings.specs.Pages.{PageFacts, IsPage, page_end, page_head, summary_text}
+use Rattle.drawings.specs.Pages.{PageFacts, IsPage, page_end, page_head, summary_text, title_of}
 use Rattle.drawings.specs.Sections.{sections_text}
 
 five : (old head summary sections drawing end : List ℕ) → ((((old ++ head) ++ summary) ++ sections) ++ drawing) ++ end
@@ -36,7 +36,7 @@ module _ (facts : PageFacts) (program : Meaning) (features : List Feature) (limi
 
   pub paged : (old headed summed listed drawn new : List ℕ) → headed ≡ old ++ page_head facts.part
       → summed ≡ headed ++ summary_text facts (length features) program.features limits rows
-      → listed ≡ summed ++ sections_text (greatest rows) limits (length features) program.features rows → Adds (IsDrawing program features) listed drawn
+      → listed ≡ summed ++ sections_text (greatest rows) limits (length features) program.features rows → Adds (IsDrawing (title_of facts) program features) listed drawn
       → new ≡ drawn ++ page_end → Adds (IsPage facts program features limits rows) old new
   paged old headed summed listed drawn new h s l d e = record {
     text = page_head facts.part ++ (summary_text facts (length features) program.features limits rows

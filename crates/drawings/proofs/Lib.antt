@@ -2,6 +2,8 @@ pub mod Names
 pub mod Paper
 pub mod Items
 pub mod Walked
+pub mod Looked
+pub mod Marked
 pub mod Reached
 pub mod Longest
 pub mod Farthest

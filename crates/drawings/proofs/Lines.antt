@@ -1,7 +1,11 @@
 -- The lines of labels, found from top to bottom.
 use Rattle.drawings.proofs.Names.{[], ◌++◌, ◌+◌, ◌∷◌, ◌≡◌, ◌≤◌, AllZip, Anchor, anchors_from, ap, append_assoc, AreHighest, arith, le-max_left}
 use Rattle.drawings.proofs.Names.{le-max_right, length, line_for, List, lowest_line, Mark, max-le, MayStand, min, more_if_any, refl, suc, ℕ}
+use Rattle.drawings.specs.Labels.{by_height, DoNotCross}
 use Rattle.drawings.specs.declared.views.View.{View}
+use Rattle.std.proofs.Common.{◌<◌, false, IsSorted, subst}
+use Rattle.std.specs.Ordering.{is_lt}
+use Rattle.std.specs.Prelude.{slice_index_or, ⊤}
 
 -- each label as high as it may be placed
 abbrev pub lines_for : ℕ → List Anchor → List ℕ
@@ -45,3 +49,37 @@ pub labels_joined : (old start labels end opened each closed new : List ℕ) (mo
     → new ≡ old ++ (start ++ (labels ++ (end ++ more_if_any count)))
 labels_joined old start labels end opened each closed new more count o l c n m =
     rw n (rw c (rw l (rw o (rw m (four old start labels end (more_if_any count))))))
+
+-- what does not come before another in height is not above it
+not_above : (a b : Anchor) → is_lt (by_height b a) ≡ false → a.0 ≤ b.0
+not_above a b e = grind (arith, e)
+
+-- no anchor is above a height
+abbrev Begin : ℕ → List Anchor → Type 0
+Begin height [] = ⊤
+Begin height (a ∷ order) = height ≤ a.0
+
+next_not_above : (a : Anchor) (order : List Anchor) → IsSorted by_height (a ∷ order) → Begin a.0 order
+next_not_above a [] sorted = tt
+next_not_above a (b ∷ order) sorted = not_above a b (sorted 0 a (omega arith) (omega arith))
+
+later_sorted : (a : Anchor) (order : List Anchor) → IsSorted by_height (a ∷ order) → IsSorted by_height order
+later_sorted a order sorted k d low high =
+    let next : suc k + 1 ≡ suc (k + 1) = omega arith in
+    subst (λ (n : ℕ). is_lt (by_height (slice_index_or (a ∷ order) n d) (slice_index_or order k d)) ≡ false) next
+    (sorted (suc k) d (omega arith) (omega (arith, high)))
+
+pub none_crosses : (height above highest : ℕ) (order : List Anchor) (lines : List ℕ) → above < highest → Begin height order
+    → IsSorted by_height order → MayStand highest order lines → DoNotCross height above order lines
+none_crosses height above highest [] [] less begin sorted may = tt
+none_crosses height above highest [] (line ∷ lines) less begin sorted may = absurd may
+none_crosses height above highest (a ∷ order) [] less begin sorted may = absurd may
+none_crosses height above highest (a ∷ order) (line ∷ lines) less begin sorted may = (
+  begin,
+  let l = may.0 in omega (arith, l, less),
+  none_crosses a.0 line (line + 4800) order lines (omega arith) (next_not_above a order sorted) (later_sorted a order sorted) may.2,
+)
+
+pub begins : (order : List Anchor) → Begin 0 order
+begins [] = tt
+begins (a ∷ order) = omega arith

@@ -1,5 +1,5 @@
 -- The longest deviation, found stop by stop.
-use Rattle.drawings.proofs.Names.{[], ◌*◌, ◌+◌, ◌∷◌, ◌≡◌, ◌≤◌, arith, IsAtMost, IsLongestAway, le-max_left, le-max_right, List, max, max-le}
+use Rattle.drawings.proofs.Names.{[], ◌∷◌, ◌≤◌, arith, IsLongestAway, le-max_left, le-max_right, List, max, max-le}
 use Rattle.drawings.proofs.Names.{mul-le-mul, NoneLonger, NotLonger, Stop, ℕ}
 use Rattle.drawings.specs.declared.walk.Act.{Act}
 

@@ -4,12 +4,12 @@ pub use Rattle.drawings.specs.Extents.{AreFilled, AreNearest, AreWithin, x_of, y
 pub use Rattle.drawings.specs.Footer.{asked_count, caption_text, IsFooter, legend_marks, legend_words, measured_count}
 pub use Rattle.drawings.specs.Labels.{Anchor, anchors_from, AreHighest, AreLabels, labels_at, line_for, lowest_line, MayStand, more_if_any}
 pub use Rattle.drawings.specs.Marks.{done_dot, open_dot, way_spot, whisker}
-pub use Rattle.drawings.specs.Named.{farther, farthest, marks_of, touch_place}
+pub use Rattle.drawings.specs.Named.{farther, farthest, touch_place}
 pub use Rattle.drawings.specs.BarCells.{magnitude}
 pub use Rattle.drawings.specs.Pages.{missing_label}
 pub use Rattle.drawings.specs.Sections.{rows_text, sections_text}
 pub use Rattle.drawings.specs.Scales.{Fits, on_paper, round}
-pub use Rattle.drawings.specs.Stops.{later_features, later_with, points_left, points_with, stops_at, stops_from, stops_of, zero_below, zero_with}
+pub use Rattle.drawings.specs.Stops.{later_features, later_with, points_left, points_with, stops_at, stops_from, stops_of, touches_among, zero_below, zero_with}
 pub use Rattle.drawings.specs.Texts.{Adds, escaped, escaped_byte, is_plain, markup}
 pub use Rattle.drawings.specs.Whiskers.{AreWhiskers, IsAtMost, IsLongestAway, NoneLonger, NotLonger}
 pub use Rattle.drawings.specs.declared.marks.Mark.{Mark}

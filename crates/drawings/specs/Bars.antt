@@ -25,11 +25,11 @@ pub record IsBar (scale room left : ℕ) (unit text : List ℕ) : Type 0 where
   pub longest : IsLongest scale room number
   pub is : text ≡ bar_at scale left number unit
 
--- the black bar at the views' scale and the red one at that of the whiskers
+-- the black bar at the views' scale and the grey one at that of the whiskers
 unfoldable pub bars_text : ℕ → ℕ → ℕ → ℕ → List ℕ
 bars_text scale magnification bar magnified = markup (codes "<g stroke=\"#000\" stroke-width=\"0.8\">\n")
     ++ (bar_at scale 10000 bar (codes " mm")
-    ++ (markup (codes "</g>\n<g stroke=\"#d00000\" stroke-width=\"0.5\">\n")
+    ++ (markup (codes "</g>\n<g stroke=\"#555\" stroke-width=\"0.5\">\n")
     ++ (bar_at magnification 85000 magnified (codes " mm of deviation") ++ markup (codes "</g>\n"))))
 
 -- both bars, each the longest that fits

@@ -1,41 +1,13 @@
--- The labels of features: each name at its line, with a line to what it names.
-use Rattle.std.specs.Prelude.{
-  ◌≡◌,
-  ℕ,
-  Bool,
-  true,
-  false,
-  Option,
-  Some,
-  None,
-  List,
-  [],
-  ◌∷◌,
-  ◌++◌,
-  ◌+◌,
-  ◌-◌,
-  ◌*◌,
-  ◌≤◌,
-  ⊤,
-  min,
-  max,
-  length,
-  take,
-  map,
-  codes,
-  decimal,
-  slice_get,
-  IsPermutation,
-  IsSorted,
-  ◌==◌,
-  if◌then◌else◌,
-}
+-- The labels of features: each name at its line, with a line to what it names, and its peak.
+use Rattle.std.specs.Prelude.{◌≡◌, ℕ, Bool, true, false, Option, Some, None, List, [], ◌∷◌, ◌++◌, ◌+◌, ◌-◌, ◌*◌, ◌≤◌, ◌<◌, ⊤, min, max, length, take, codes, decimal, slice_get, IsPermutation, IsSorted, ◌==◌, if◌then◌else◌}
 use Rattle.std.specs.List.{AllZip}
 use Rattle.std.specs.Ordering.{nat_cmp, ordering_then}
 use Rattle.std.specs.declared.cmp.Ordering.{Ordering}
 use Rattle.dmis_program.specs.declared.features.Wanted.{Wanted}
 use Rattle.drawings.specs.Marks.{spot_of}
+use Rattle.drawings.specs.Peaks.{greatest_peak, peak_text}
 use Rattle.drawings.specs.Pictures.{spot}
+use Rattle.drawings.specs.Sheet.{Spot}
 use Rattle.drawings.specs.Texts.{markup, disc_text, line_text, text_start, text_end, shown_name}
 use Rattle.drawings.specs.declared.views.View.{View}
 use Rattle.drawings.specs.declared.marks.Mark.{Mark}
@@ -54,10 +26,14 @@ unfoldable pub name_text : List ℕ → ℕ → List ℕ
 name_text name line = markup (codes "<g stroke=\"none\" font-family=\"monospace\">")
     ++ (text_start (record { across = 227000; down = line }) ++ (shown_name name ++ (text_end ++ markup (codes "</g>\n"))))
 
--- a label: the line to it from what it names, its disc, and its name
-unfoldable pub label_text : View → Mark → List ℕ → ℕ → List ℕ
-label_text plan mark name line = line_text (spot_of plan mark.place) (record { across = 222500; down = line - 1200 })
-    ++ (bullet_text mark.is_measured (line - 1200) ++ name_text name line)
+-- the leader of a label, from the place that it names: level as far as the frame's right edge, and from there straight to the label
+unfoldable pub leader_text : Spot → ℕ → List ℕ
+leader_text from middle = line_text from (spot 217000 from.down) ++ line_text (spot 217000 from.down) (spot 222500 middle)
+
+-- a label: its leader, its disc, its name, and its peak in a part with this greatest one
+unfoldable pub label_text : View → ℕ → Mark → List ℕ → ℕ → List ℕ
+label_text plan most mark name line = leader_text (spot_of plan mark.place) (line - 900)
+    ++ (bullet_text mark.is_measured (line - 900) ++ (name_text name line ++ peak_text most mark.peak line))
 
 -- at most 33 labels fit, each on a line of its own, 4.8 mm below the one above it
 abbrev pub most_labels : ℕ
@@ -68,7 +44,7 @@ abbrev pub Anchor : Type 0
 Anchor = ℕ × ℕ × ℕ
 
 abbrev pub anchor_of : View → ℕ → Mark → Anchor
-anchor_of plan number mark = ((spot_of plan mark.place).down + 1200, (spot_of plan mark.place).across, number)
+anchor_of plan number mark = ((spot_of plan mark.place).down + 900, (spot_of plan mark.place).across, number)
 
 -- the desired positions of marks, which are numbered from here on
 abbrev pub anchors_from : View → ℕ → List Mark → List Anchor
@@ -105,17 +81,25 @@ pub record AreHighest (order : List Anchor) (lines : List ℕ) : Type 0 where
   pub may : MayStand 26000 order lines
   pub highest : (others : List ℕ) → MayStand 26000 order others → AllZip (λ line other. line ≤ other) lines others
 
+-- leaders that end at these lines and are at these heights before, all below a height and a line: each is not above the one before it at
+-- the frame's edge, and below it at the labels, so none crosses another
+abbrev pub DoNotCross : ℕ → ℕ → List Anchor → List ℕ → Type 0
+DoNotCross height above [] [] = ⊤
+DoNotCross height above [] (line ∷ lines) = ⊥
+DoNotCross height above (a ∷ order) [] = ⊥
+DoNotCross height above (a ∷ order) (line ∷ lines) = (height ≤ a.0) × (above < line) × DoNotCross a.0 line order lines
+
 -- the label of a number at a line
-abbrev pub label_at : View → Option Mark → Option Wanted → ℕ → List ℕ
-label_at plan (Some mark) (Some w) line = label_text plan mark w.label line
-label_at plan (Some mark) None line = []
-label_at plan None w line = []
+abbrev pub label_at : View → ℕ → Option Mark → Option Wanted → ℕ → List ℕ
+label_at plan most (Some mark) (Some w) line = label_text plan most mark w.label line
+label_at plan most (Some mark) None line = []
+label_at plan most None w line = []
 
 -- the labels from top to bottom, each at its line
 abbrev pub labels_at : View → List Mark → List Wanted → List Anchor → List ℕ → List ℕ
 labels_at plan marks wanted [] lines = []
 labels_at plan marks wanted (a ∷ order) [] = []
-labels_at plan marks wanted (a ∷ order) (line ∷ lines) = label_at plan (slice_get marks a.2) (slice_get wanted a.2) line
+labels_at plan marks wanted (a ∷ order) (line ∷ lines) = label_at plan (greatest_peak marks) (slice_get marks a.2) (slice_get wanted a.2) line
     ++ labels_at plan marks wanted order lines
 
 -- the labels in this order, each on its line
@@ -133,7 +117,7 @@ more_if_any more = if more == 0 then [] else more_text more
 
 -- labels, and how many more there are
 unfoldable pub labels_text : List ℕ → ℕ → List ℕ
-labels_text labels more = markup (codes "<g stroke=\"#999\" stroke-width=\"0.15\" stroke-dasharray=\"1 0.7\">\n")
+labels_text labels more = markup (codes "<g font-size=\"2.5\" stroke=\"#999\" stroke-width=\"0.15\" stroke-dasharray=\"1 0.7\">\n")
     ++ (labels ++ (markup (codes "</g>\n") ++ more_if_any more))
 
 -- the labels of the features that a program asks for

@@ -2,14 +2,18 @@ pub mod Scales
 pub mod Places
 pub mod Sheet
 pub mod Texts
+pub mod Title
 pub mod Stops
+pub mod Seen
 pub mod Extents
 pub mod Views
 pub mod Placing
 pub mod Whiskers
 pub mod Marks
+pub mod Numbers
 pub mod Pictures
 pub mod Bars
+pub mod Peaks
 pub mod Named
 pub mod Labels
 pub mod Footer
@@ -19,4 +23,5 @@ pub mod BarCells
 pub mod Sections
 pub mod Pages
 pub mod Examples
+pub mod DrawnExamples
 pub mod Names

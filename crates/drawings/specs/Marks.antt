@@ -1,12 +1,16 @@
 -- What a view shows of the stops of the machine: a disc at each point, and a whisker from each one that is measured.
-use Rattle.std.specs.Prelude.{ℕ, List, [], ◌++◌, ◌+◌, ◌-◌, length, codes, nat_le, if◌then◌else◌}
+use Rattle.std.specs.Prelude.{ℕ, zero, suc, ℤ, pos, negsuc, Bool, true, false, Option, Some, None, List, [], ◌++◌, ◌+◌, ◌-◌, ◌*◌, ◌/◌, length, codes, unsigned_abs}
+use Rattle.std.specs.Prelude.{nat_le, nat_lt, if◌then◌else◌}
 use Rattle.std.specs.List.{flat_map}
+use Rattle.deviations.specs.Along.{squared}
+use Rattle.deviations.specs.declared.along.Deviation.{Deviation}
 use Rattle.drawings.specs.Scales.{on_paper}
 use Rattle.drawings.specs.Places.{height_in}
 use Rattle.drawings.specs.Sheet.{Spot}
 use Rattle.drawings.specs.Texts.{markup, attribute, disc_text, line_text, spot_text}
 use Rattle.drawings.specs.Views.{upright_of, tip_of}
 use Rattle.drawings.specs.declared.places.Place.{Place}
+use Rattle.drawings.specs.declared.seen.Seen.{Seen}
 use Rattle.drawings.specs.declared.views.View.{View}
 use Rattle.drawings.specs.declared.walk.Act.{Act}
 use Rattle.drawings.specs.declared.walk.Act.TheVariants as act
@@ -24,19 +28,46 @@ spot_of v p = record {
 abbrev pub open_disc : Spot → ℕ → Act → List ℕ
 open_disc at radius act.Touch = disc_text at radius
 open_disc at radius act.Move = []
-open_disc at radius (act.Measured away) = []
+open_disc at radius (act.Measured gap) = []
 
 -- the disc of a measured point; other stops have no disc in its group
 abbrev pub done_disc : Spot → ℕ → Act → List ℕ
-done_disc at radius (act.Measured away) = disc_text at radius
+done_disc at radius (act.Measured gap) = disc_text at radius
 done_disc at radius act.Move = []
 done_disc at radius act.Touch = []
 
--- the whisker of a measured point, from its position in the view; other stops have no whisker
-abbrev pub whisker_of : View → Whiskers → Spot → Act → List ℕ
-whisker_of v w from (act.Measured away) = line_text from (tip_of v.side w from away)
-whisker_of v w from act.Move = []
-whisker_of v w from act.Touch = []
+-- the colour of a whisker: red if there is too much material along the normal, blue if too little, grey if neither or without a normal
+abbrev pub colour_of : Option ℤ → List ℕ
+colour_of (Some (pos (suc n))) = codes "#d00000"
+colour_of (Some (pos zero)) = codes "#555"
+colour_of (Some (negsuc n)) = codes "#0050d0"
+colour_of None = codes "#555"
+
+-- the part of a deviation across its normal is longer than that along it (Pythagoras)
+abbrev pub is_sideways : Deviation → Option ℤ → Bool
+is_sideways v (Some along) = nat_lt (2 * squared (unsigned_abs along))
+    (squared (unsigned_abs v.x) + squared (unsigned_abs v.y) + squared (unsigned_abs v.z))
+is_sideways v None = false
+
+-- such a whisker is half as thick
+abbrev pub thinned : ℕ → Bool → ℕ
+thinned thickness true = thickness / 2
+thinned thickness false = thickness
+
+unfoldable pub line_start : List ℕ → ℕ → List ℕ
+line_start colour thickness = markup (codes "<g stroke=\"") ++ (markup colour
+    ++ (attribute (codes "\" stroke-width=\"") thickness ++ markup (codes ">")))
+
+-- a whisker from a position in the view
+unfoldable pub gap_text : View → Whiskers → ℕ → Spot → Option ℤ → Deviation → List ℕ
+gap_text v w thickness from along d = line_start (colour_of along) (thinned thickness (is_sideways d along))
+    ++ (line_text from (tip_of v.side w from d) ++ markup (codes "</g>\n"))
+
+-- the whisker of a measured point; other stops have no whisker
+abbrev pub whisker_of : View → Whiskers → ℕ → Spot → Option ℤ → Act → List ℕ
+whisker_of v w thickness from along (act.Measured gap) = gap_text v w thickness from along gap.deviation
+whisker_of v w thickness from along act.Move = []
+whisker_of v w thickness from along act.Touch = []
 
 -- the size of discs, smaller if there are more than 400 stops, and the thickness of whiskers
 abbrev pub radius_for : ℕ → ℕ
@@ -52,8 +83,8 @@ open_dot v radius s = open_disc (spot_of v s.place) radius s.act
 unfoldable pub done_dot : View → ℕ → Stop → List ℕ
 done_dot v radius s = done_disc (spot_of v s.place) radius s.act
 
-unfoldable pub whisker : View → Whiskers → Stop → List ℕ
-whisker v w s = whisker_of v w (spot_of v s.place) s.act
+unfoldable pub whisker : View → Whiskers → ℕ → Seen → List ℕ
+whisker v w thickness s = whisker_of v w thickness (spot_of v s.stop.place) s.along s.stop.act
 
 -- a stop on the way of the machine
 unfoldable pub way_spot : View → Stop → List ℕ
@@ -70,7 +101,7 @@ dots_text v stops = markup (codes "<g fill=\"#fff\" stroke=\"#000\" stroke-width
     ++ (flat_map (open_dot v (radius_for (length stops))) stops ++ (markup (codes "</g>\n<g fill=\"#000\">\n")
     ++ (flat_map (done_dot v (radius_for (length stops))) stops ++ markup (codes "</g>\n"))))
 
--- the whiskers, red
-unfoldable pub whiskers_text : View → Whiskers → List Stop → List ℕ
-whiskers_text v w stops = attribute (codes "<g stroke=\"#d00000\" stroke-linecap=\"round\" stroke-width=\"")
-    (thickness_for (length stops)) ++ (markup (codes ">\n") ++ (flat_map (whisker v w) stops ++ markup (codes "</g>\n")))
+-- the whiskers
+unfoldable pub whiskers_text : View → Whiskers → List Seen → List ℕ
+whiskers_text v w seen = markup (codes "<g stroke-linecap=\"round\">\n")
+    ++ (flat_map (whisker v w (thickness_for (length seen))) seen ++ markup (codes "</g>\n"))

@@ -1,10 +1,11 @@
--- What labels name: for each feature of a program, the touch that is farthest to the right, and whether the feature has begun.
-use Rattle.std.specs.Prelude.{Bool, true, false, List, [], ◌∷◌, int_lt, drop, map, if◌then◌else◌}
+-- What labels name: for each feature of a program, the touch that is farthest to the right, whether the feature has begun, and its peak.
+use Rattle.std.specs.Prelude.{◌≡◌, ⊤, Bool, true, false, None, List, [], ◌∷◌, int_lt, drop, if◌then◌else◌}
 use Rattle.contact_ledger.specs.declared.features.Feature.{Feature}
 use Rattle.dmis_program.specs.declared.features.Touch.{Touch}
 use Rattle.dmis_program.specs.declared.features.Wanted.{Wanted}
 use Rattle.fixed_um.specs.Points.{zero_point}
 use Rattle.fixed_um.specs.declared.lengths.Point.{Point}
+use Rattle.drawings.specs.Peaks.{IsPeakAfter}
 use Rattle.drawings.specs.Places.{place_of}
 use Rattle.drawings.specs.Stops.{zero_of, next_points}
 use Rattle.drawings.specs.declared.places.Place.{Place}
@@ -33,8 +34,15 @@ abbrev pub is_begun : List Point → Bool
 is_begun [] = false
 is_begun (p ∷ points) = true
 
+-- the mark of a feature of which these points were measured
+pub record IsMark (w : Wanted) (points : List Point) (m : Mark) : Type 0 where
+  pub place : m.place ≡ farthest_of w.touches
+  pub is_measured : m.is_measured ≡ is_begun points
+  pub peak : IsPeakAfter None w.touches points m.peak
+
 -- the mark of each feature that a program asks for, paired with the features that were measured first
-abbrev pub marks_of : List Wanted → List Feature → List Mark
-marks_of [] features = []
-marks_of (w ∷ wanted) features = record { place = farthest_of w.touches; is_measured = is_begun (next_points features) }
-    ∷ marks_of wanted (drop 1 features)
+abbrev pub AreMarks : List Wanted → List Feature → List Mark → Type 0
+AreMarks [] features [] = ⊤
+AreMarks [] features (m ∷ marks) = ⊥
+AreMarks (w ∷ wanted) features [] = ⊥
+AreMarks (w ∷ wanted) features (m ∷ marks) = IsMark w (next_points features) m × AreMarks wanted (drop 1 features) marks

@@ -14,13 +14,15 @@ use Rattle.deviations.specs.declared.entries.Limit.{Limit}
 use Rattle.drawings.specs.BarCells.{greatest}
 use Rattle.drawings.specs.Markup.{between}
 use Rattle.drawings.specs.Texts.{markup}
+use Rattle.drawings.specs.Title.{TitleTexts}
 use Rattle.drawings.specs.Sections.{sections_text}
 
--- what a page has besides its points: the part, the program, what the seals say, whether each feature has its run of contacts, the line
+-- what a page has besides its points: the part, the program, when it was complete, what the seals say, whether each feature has its run of contacts, the line
 -- of that verdict, the lines of the server's errors, and those of what else the record notes
 pub record PageFacts : Type 0 where
   pub part : List ℕ
   pub program : List ℕ
+  pub time : List ℕ
   pub seals : SealVerdict
   pub sound : Bool
   pub verdict : List ℕ
@@ -141,10 +143,14 @@ unfoldable pub page_end : List ℕ
 page_end = markup (codes "<h2>How to check this page</h2>\n<p><code>dme audit --record FILE [--setup FILE] [--seal-key FILE] PROGRAM</code> audits the record again, ")
     ++ markup (codes "<code>dme export --as csv --record FILE [--setup FILE] [--limits FILE] PROGRAM</code> prints the same numbers.</p>\n</body></html>\n")
 
+-- the title of its drawing
+abbrev pub title_of : PageFacts → TitleTexts
+title_of facts = record { part = facts.part; program = facts.program; time = facts.time }
+
 -- the page of a part, with a drawing of its program and features
 pub record IsPage (facts : PageFacts) (program : Meaning) (features : List Feature) (limits : Option (List Limit)) (rows : List Row)
     (text : List ℕ) : Type 0 where
   pub drawing : List ℕ
-  pub drawn : IsDrawing program features drawing
+  pub drawn : IsDrawing (title_of facts) program features drawing
   pub is : text ≡ page_head facts.part ++ (summary_text facts (length features) program.features limits rows
       ++ (sections_text (greatest rows) limits (length features) program.features rows ++ (drawing ++ page_end)))

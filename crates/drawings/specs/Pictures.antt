@@ -2,8 +2,10 @@
 use Rattle.std.specs.Prelude.{ℕ, List, ◌++◌, ◌-◌, codes}
 use Rattle.fixed_um.specs.Written.{written}
 use Rattle.drawings.specs.Marks.{way_text, dots_text, whiskers_text}
+use Rattle.drawings.specs.Numbers.{numbers_text}
 use Rattle.drawings.specs.Sheet.{Spot}
 use Rattle.drawings.specs.Texts.{markup, frame_text, line_text, text_start, text_end, text_element}
+use Rattle.drawings.specs.declared.seen.Seen.{Seen}
 use Rattle.drawings.specs.declared.sides.Side.{Side}
 use Rattle.drawings.specs.declared.sides.Side.TheVariants.{Plan, Front}
 use Rattle.drawings.specs.declared.spans.Span.{Span}
@@ -54,6 +56,7 @@ axes_text v = markup (codes "<g fill=\"none\" stroke=\"#000\" stroke-width=\"0.2
     ++ (frame_text (spot 10000 v.top) (spot 217000 v.bottom)
     ++ (arrows_text v ++ (markup (codes "</g>\n") ++ letters_text v)))
 
--- a view: its title, its frame, the way of the machine, the points, the whiskers
-unfoldable pub picture_text : View → Whiskers → List Stop → List ℕ
-picture_text v w stops = title_text v ++ (axes_text v ++ (way_text v stops ++ (dots_text v stops ++ whiskers_text v w stops)))
+-- a view: its title, its frame, the way of the machine, the points, the whiskers, the numbers
+unfoldable pub picture_text : View → Whiskers → List Stop → List Seen → List ℕ
+picture_text v w stops seen = title_text v ++ (axes_text v ++ (way_text v stops ++ (dots_text v stops
+    ++ (whiskers_text v w seen ++ numbers_text v stops seen))))

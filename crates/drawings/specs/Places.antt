@@ -1,11 +1,13 @@
 -- Positions in machine axes, and the spans that they fill along one axis.
-use Rattle.std.specs.Prelude.{ℕ, ℤ, ◌+ℤ◌, ◌-ℤ◌, ◌≤ℤ◌, unsigned_abs, int_lt, if◌then◌else◌}
+use Rattle.std.specs.Prelude.{ℕ, ℤ, Option, ◌+ℤ◌, ◌-ℤ◌, ◌≤ℤ◌, unsigned_abs, int_lt, if◌then◌else◌}
+use Rattle.deviations.specs.Along.{deviation}
+use Rattle.deviations.specs.declared.along.Deviation.{Deviation}
+use Rattle.dmis_program.specs.declared.features.Touch.{Touch}
+use Rattle.fixed_um.specs.Shapes.{Direction}
 use Rattle.fixed_um.specs.declared.lengths.Point.{Point}
-use Rattle.drawings.specs.declared.away.Away.{Away}
 use Rattle.drawings.specs.declared.places.Place.{Place}
 
--- a coordinate in machine axes, in micrometres: a wire coordinate plus a frame's zero point, which is also one. Nor do two points on the
--- wire lie farther apart
+-- a coordinate in machine axes, in micrometres: a wire coordinate plus a frame's zero point, which is also one
 abbrev pub machine_limit : ℕ
 machine_limit = 8000000000
 
@@ -13,13 +15,13 @@ machine_limit = 8000000000
 abbrev pub place_of : Point → Point → Place
 place_of p origin = record { x = p.x +ℤ origin.x; y = p.y +ℤ origin.y; z = p.z +ℤ origin.z }
 
--- the distance of a measured point from its nominal one, axis by axis
-abbrev pub away_of : Point → Point → Away
-away_of measured nominal = record {
-  x = measured.x -ℤ nominal.x;
-  y = measured.y -ℤ nominal.y;
-  z = measured.z -ℤ nominal.z;
-}
+-- how far a measured point lies from the target of its touch, and the normal of the surface there, if the program gives one
+pub record Gap : Type 0 where
+  pub deviation : Deviation
+  pub normal : Option Direction
+
+abbrev pub gap_of : Point → Touch → Gap
+gap_of measured t = record { deviation = deviation measured t.target; normal = t.dir }
 
 -- the span between two coordinates
 abbrev pub IsBetween : ℤ → ℤ → ℤ → Type 0

@@ -18,21 +18,21 @@ abbrev pub lengths_of : Extents → Lengths
 lengths_of e = record { across = span_length e.x; first = span_length e.y; second = span_length e.z }
 
 abbrev pub views_room : Room
-views_room = record { across = 177000; upright = 98000 }
+views_room = record { across = 187000; upright = 118000 }
 
 -- the space left above and below each view if both are drawn at a scale: a quarter of what they do not fill
 abbrev pub free_at : ℕ → Lengths → ℕ
-free_at scale lengths = (98000 - on_paper scale lengths.first - on_paper scale lengths.second) / 4
+free_at scale lengths = (118000 - on_paper scale lengths.first - on_paper scale lengths.second) / 4
 
 -- a view is placed in a frame from its top down: its content centred across, with margins on all sides and the space left above and below
 pub record IsPlaced (scale free top : ℕ) (across upright : Span) (v : View) : Type 0 where
   pub scale_is : v.scale ≡ scale
   pub across_is : v.across ≡ across
   pub upright_is : v.upright ≡ upright
-  pub left : v.left ≡ 25000 + (177000 - on_paper scale (span_length across)) / 2
+  pub left : v.left ≡ 20000 + (187000 - on_paper scale (span_length across)) / 2
   pub top_is : v.top ≡ top
-  pub base : v.base ≡ top + 15000 + free + on_paper scale (span_length upright)
-  pub bottom : v.bottom ≡ v.base + free + 15000
+  pub base : v.base ≡ top + 10000 + free + on_paper scale (span_length upright)
+  pub bottom : v.bottom ≡ v.base + free + 10000
 
 -- the plan, which is above, and the front view, at the largest scale at which both fit
 pub record AreViews (e : Extents) (v : Views) : Type 0 where

@@ -19,4 +19,4 @@ pub record IsOnSheet (p : Spot) : Type 0 where
 
 -- the margin around a view's content: the longest line of a deviation
 abbrev pub margin : ℕ
-margin = 15000
+margin = 10000

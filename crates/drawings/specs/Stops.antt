@@ -1,5 +1,5 @@
 -- Where a program stops the machine, and what was measured there. The steps before a step are given nearest first.
-use Rattle.std.specs.Prelude.{List, [], ◌∷◌, ◌++◌, drop}
+use Rattle.std.specs.Prelude.{Bool, true, false, filter, List, [], ◌∷◌, ◌++◌, drop}
 use Rattle.contact_ledger.specs.declared.features.Feature.{Feature}
 use Rattle.dmis_program.specs.declared.steps.Step.{Step}
 use Rattle.dmis_program.specs.declared.steps.Step.TheVariants.{Goto, Begin, Touch, Tool, Recall, End}
@@ -7,7 +7,8 @@ use Rattle.fixed_um.specs.Points.{zero_point}
 use Rattle.fixed_um.specs.declared.frames.Frame.{Frame}
 use Rattle.fixed_um.specs.declared.frames.Frame.TheVariants.{Machine, Part}
 use Rattle.fixed_um.specs.declared.lengths.Point.{Point}
-use Rattle.drawings.specs.Places.{place_of, away_of}
+use Rattle.dmis_program.specs.declared.features.Touch as touch
+use Rattle.drawings.specs.Places.{place_of, gap_of}
 use Rattle.drawings.specs.declared.walk.Act.{Act}
 use Rattle.drawings.specs.declared.walk.Act.TheVariants as act
 use Rattle.drawings.specs.declared.walk.Stop.{Stop}
@@ -63,15 +64,15 @@ points_left features [] = []
 points_left features (step ∷ above) = points_with step (later_features features above) (points_left features above)
 
 -- a touch has measured the first of the points that are left for it; if no point is left, it has not been made yet
-abbrev pub act_by : List Point → Point → Act
-act_by [] nominal = act.Touch
-act_by (p ∷ points) nominal = act.Measured (away_of p nominal)
+abbrev pub act_by : List Point → touch.Touch → Act
+act_by [] t = act.Touch
+act_by (p ∷ points) t = act.Measured (gap_of p t)
 
 -- the stop of a step: a move has one, and a touch, each in its frame
 abbrev pub stops_at : Point → List Point → Step → List Stop
 stops_at zero points (Goto target) = record { place = place_of target zero; act = act.Move } ∷ []
 stops_at zero points (Begin name) = []
-stops_at zero points (Touch t) = record { place = place_of t.target (zero_of t.frame); act = act_by points t.target } ∷ []
+stops_at zero points (Touch t) = record { place = place_of t.target (zero_of t.frame); act = act_by points t } ∷ []
 stops_at zero points (Tool name) = []
 stops_at zero points (Recall offset) = []
 stops_at zero points End = []
@@ -85,3 +86,21 @@ stops_from features above (step ∷ steps) = stops_at (zero_below above) (points
 -- the stops of a program, with the features that were measured first
 unfoldable pub stops_of : List Step → List Feature → List Stop
 stops_of steps features = stops_from features [] steps
+
+-- a stop that is a touch, made or not
+abbrev pub is_asked : Act → Bool
+is_asked (act.Measured gap) = true
+is_asked act.Move = false
+is_asked act.Touch = true
+
+abbrev pub touches_among : List Stop → List Stop
+touches_among stops = filter (λ (s : Stop). is_asked s.act) stops
+
+-- the first of two lists that has an item
+abbrev pub first_with_any : List Stop → List Stop → List Stop
+first_with_any [] others = others
+first_with_any (s ∷ stops) others = s ∷ stops
+
+-- the stops that the views must show: the touches; all if there is no touch. The way of the machine may lead out of a view
+abbrev pub shown_stops : List Stop → List Stop
+shown_stops stops = first_with_any (touches_among stops) stops

@@ -2,7 +2,7 @@
 use Rattle.std.specs.Prelude.{ℕ, ℤ, pos, negsuc, ◌+◌, ◌-◌, ◌≤◌, min, neg_ℤ, unsigned_abs}
 use Rattle.drawings.specs.Scales.{on_paper}
 use Rattle.drawings.specs.Sheet.{Spot, margin, sheet_width, sheet_height}
-use Rattle.drawings.specs.declared.away.Away.{Away}
+use Rattle.deviations.specs.declared.along.Deviation.{Deviation}
 use Rattle.drawings.specs.declared.places.Place.{Place}
 use Rattle.drawings.specs.declared.sides.Side.{Side}
 use Rattle.drawings.specs.declared.sides.Side.TheVariants.{Plan, Front}
@@ -14,7 +14,7 @@ upright_of Plan p = p.y
 upright_of Front p = p.z
 
 -- the part of a deviation that is up
-abbrev pub part_of : Side → Away → ℤ
+abbrev pub part_of : Side → Deviation → ℤ
 part_of Plan v = v.y
 part_of Front v = v.z
 
@@ -36,7 +36,7 @@ stretched w part = on_paper w.scale (min (unsigned_abs part) w.longest)
 
 -- the end of a deviation's whisker that starts at a position: moved to the right by its part along x, and upwards by its part
 -- that is up
-abbrev pub tip_of : Side → Whiskers → Spot → Away → Spot
+abbrev pub tip_of : Side → Whiskers → Spot → Deviation → Spot
 tip_of side w from v = record {
   across = moved from.across v.x (stretched w v.x);
   down = moved from.down (neg_ℤ (part_of side v)) (stretched w (part_of side v));

@@ -15,7 +15,7 @@ IsAtMost most across upright = unsigned_abs across * unsigned_abs across + unsig
 
 -- the deviation of a measured point is at most this long in both views
 abbrev pub NotLonger : ℕ → Act → Type 0
-NotLonger most (act.Measured away) = IsAtMost most away.x away.y × IsAtMost most away.x away.z
+NotLonger most (act.Measured gap) = IsAtMost most gap.deviation.x gap.deviation.y × IsAtMost most gap.deviation.x gap.deviation.z
 NotLonger most act.Move = ⊤
 NotLonger most act.Touch = ⊤
 
@@ -30,10 +30,12 @@ pub record IsLongestAway (stops : List Stop) (longest : ℕ) : Type 0 where
 abbrev pub one_length : ℕ → Lengths
 one_length length = record { across = length; first = 0; second = 0 }
 
+-- a twentieth of the width of a frame, in whole millimetres
 abbrev pub whisker_room : Room
-whisker_room = record { across = 15000; upright = 15000 }
+whisker_room = record { across = 10000; upright = 10000 }
 
--- deviations are drawn at the largest scale at which the longest is at most 15 mm on paper, at 1:1 if there is no deviation
+-- deviations are drawn at the largest scale at which the longest is at most a twentieth of a frame's width on paper, at 1:1 if there is no
+-- deviation
 pub record AreWhiskers (stops : List Stop) (w : Whiskers) : Type 0 where
   pub longest : IsLongestAway stops w.longest
   pub scale : IsScaleFor (one_length w.longest) whisker_room w.scale

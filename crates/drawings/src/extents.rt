@@ -1,12 +1,14 @@
 // The ranges that stops occupy.
 
-ghost use Rattle.std.specs.Prelude.{◌∷◌};
+ghost use Rattle.std.specs.Prelude.{◌∷◌, IfOk};
 ghost use Rattle.drawings.specs.Extents.{AreFilled, IsAlone, TakesIn};
+ghost use Rattle.drawings.specs.Stops.{shown_stops};
 
 use crate::places::Place;
 use crate::spans::Span;
-use crate::walk::Stop;
+use crate::walk::{Stop, first_with_any, touches_among};
 use fixed_um::Point;
+use std::alloc::{AllocError, Global};
 
 /// The spans that stops occupy along each axis.
 #[derive(Clone, Copy)]
@@ -48,12 +50,20 @@ impl Extents {
     }
 
     /// The extents of stops; the zero point if there is no stop.
-    pub fn of(stops: &[Stop]) -> Extents
+    fn of(stops: &[Stop]) -> Extents
         ensures { AreFilled stops.now result }
     {
         match stops {
             [first, others @ ..] => Extents::reaching(first, others),
             [] => Extents::at(Place::of(Point::zero(), Point::zero())),
         }
+    }
+
+    /// The extents of the touches among stops; those of all stops if there is no touch.
+    pub fn shown(alloc: Global, stops: &[Stop]) -> Result<Extents, AllocError>
+        ensures { IfOk result (λ extents. AreFilled (shown_stops stops.now) extents) }
+    {
+        let touches = touches_among(alloc, stops)?;
+        Ok(Extents::of(first_with_any(touches.as_slice(), stops)))
     }
 }

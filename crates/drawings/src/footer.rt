@@ -1,14 +1,14 @@
 // What is below the views: the scales, the legend, and how much was measured.
 
 ghost use Rattle.std.specs.Prelude.{◌≡◌, ◌≤◌, ◌+◌, ◌++◌, OnOk};
-ghost use Rattle.drawings.specs.Names.{bar_text, IsBar, AreBars, Adds, ratio_text, legend_marks, legend_words, measured_count, asked_count, is_measured, is_asked, counts_text, magnified_words, caption_text, IsFooter};
+ghost use Rattle.drawings.specs.Names.{bar_text, IsBar, AreBars, Adds, ratio_text, legend_marks, legend_words, measured_count, asked_count, is_measured, counts_text, magnified_words, caption_text, IsFooter};
 
 use crate::scales::{Scale, round};
 use crate::sheet::Position;
 use crate::texts::{
     begin_text, end_text, put_disc, put_line, put_markup, put_millimetres, put_number, put_text,
 };
-use crate::walk::{Act, Stop};
+use crate::walk::{Act, Stop, is_asked};
 use crate::whiskers::Whiskers;
 use std::alloc::AllocError;
 
@@ -17,13 +17,17 @@ const BAR_DOWN: u64 = 195_300;
 
 const TEXT_DOWN: u64 = 196_500;
 
+/// What the colours and the thickness of whiskers mean.
+const COLOURS: &[u8] =
+    b"Along the normal: red too much material, blue too little, grey as wanted or no normal; thin: more across than along. Bars: the greatest of each feature.";
+
 #[tactic(auto, unfolding(crate::specs::Footer::ratio_text))]
 fn put_ratio(out: &mut Vec<u8>, scale: Scale) -> Result<(), AllocError>
     ensures { OnOk result (out.new.items ≡ out.old.items ++ ratio_text scale) }
 {
-    put_number(out, scale.numerator())?;
+    put_millimetres(out, scale.numerator() * 100)?;
     out.push(b':')?;
-    put_number(out, scale.denominator())
+    put_millimetres(out, scale.denominator() * 100)
 }
 
 /// A bar from left to right, and the length that it represents.
@@ -76,7 +80,7 @@ fn put_bars(out: &mut Vec<u8>, scale: Scale, whiskers: &Whiskers) -> Result<(), 
 {
     put_markup(out, b"<g stroke=\"#000\" stroke-width=\"0.8\">\n")?;
     put_bar(out, scale, 10_000, 50_000, b" mm")?;
-    put_markup(out, b"</g>\n<g stroke=\"#d00000\" stroke-width=\"0.5\">\n")?;
+    put_markup(out, b"</g>\n<g stroke=\"#555\" stroke-width=\"0.5\">\n")?;
     put_bar(out, whiskers.scale, 85_000, 15_000, b" mm of deviation")?;
     put_markup(out, b"</g>\n")
 }
@@ -111,19 +115,14 @@ fn put_legend_words(out: &mut Vec<u8>) -> Result<(), AllocError>
         out,
         Position::new(236_500, TEXT_DOWN),
         b"way of the machine",
-    )
+    )?;
+    put_text(out, Position::new(10_000, 200_300), COLOURS)
 }
 
 fn is_measured(stop: &Stop) -> bool
     ensures { result ≡ is_measured stop.now.act }
 {
     matches!(stop.act, Act::Measured(_))
-}
-
-fn is_asked(stop: &Stop) -> bool
-    ensures { result ≡ is_asked stop.now.act }
-{
-    matches!(stop.act, Act::Measured(_) | Act::Touch)
 }
 
 #[tactic(auto, unfolding(crate::specs::Footer::counts_text))]

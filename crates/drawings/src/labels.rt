@@ -1,12 +1,15 @@
 // The column of the features' names.
 
-ghost use Rattle.std.specs.Prelude.{◌≡◌, ◌≤◌, ◌+◌, ◌-◌, ◌*◌, ◌++◌, length, take, slice_get, IfOk, OnOk};
-ghost use Rattle.drawings.specs.Names.{shown_name, Adds, bullet_start, bullet_text, name_text, label_text, most_labels, line_for, anchors_from, AreOrdered, AreOnLines, label_at, more_if_any, AreLabels};
+ghost use Rattle.std.specs.Prelude.{ℕ, List, ◌≡◌, ◌≤◌, ◌<◌, ◌+◌, ◌-◌, ◌*◌, ◌++◌, length, take, slice_get, IfOk, OnOk};
+ghost use Rattle.drawings.specs.Names.{shown_name, Adds, bullet_start, bullet_text, name_text, leader_text, label_text, most_labels, line_for, anchors_from, AreOrdered, AreOnLines, AreHighest, Anchor, DoNotCross, label_at, more_if_any, AreLabels};
+ghost use Rattle.drawings.specs.declared.marks.Mark.{Mark};
+ghost use Rattle.drawings.specs.declared.views.View.{View};
 
 use crate::marks::Mark;
+use crate::peaks::{greatest_peak, put_peak};
 use crate::sheet::Position;
 use crate::texts::{begin_text, end_text, put_disc, put_escaped, put_line, put_markup, put_number};
-use crate::views::View;
+use crate::views::{FRAME_RIGHT, View};
 use dmis_program::Wanted;
 use std::alloc::{AllocError, Global};
 
@@ -18,7 +21,7 @@ const PITCH: u64 = 4_800;
 const MOST: usize = 33;
 
 /// How far above its line the middle of a name is.
-const HALF_LETTER: u64 = 1_200;
+const HALF_LETTER: u64 = 900;
 
 /// The lowest line of the last label.
 const LAST_LINE: u64 = 186_000;
@@ -120,27 +123,37 @@ fn put_name_at(out: &mut Vec<u8>, name: &[u8], line: u64) -> Result<(), AllocErr
     put_markup(out, b"</g>\n")
 }
 
+/// The leader of a label: level to the frame's edge, and from there straight to the label.
+#[tactic(auto, unfolding(crate::specs::Labels::leader_text))]
+fn put_leader(out: &mut Vec<u8>, from: Position, middle: u64) -> Result<(), AllocError>
+    requires { middle ≤ 200000 }
+    ensures { OnOk result (out.new.items ≡ out.old.items ++ leader_text from middle) }
+{
+    let edge = Position::new(FRAME_RIGHT, from.down());
+    put_line(out, from, edge)?;
+    put_line(out, edge, Position::new(222_500, middle))
+}
+
 #[tactic(auto, unfolding(crate::specs::Labels::label_text))]
 fn put_label(
     out: &mut Vec<u8>,
     mark: &Mark,
     name: &[u8],
     plan: &View,
+    most: u128,
     line: u64,
 ) -> Result<(), AllocError>
+    requires some { 0 < most }
     requires low { 26000 ≤ line }
     requires high { line ≤ 186000 }
     ensures { OnOk result (out.new.items
-        ≡ out.old.items ++ label_text plan.now mark.now name.now line) }
+        ≡ out.old.items ++ label_text plan.now most mark.now name.now line) }
 {
     let middle = line - HALF_LETTER;
-    put_line(
-        out,
-        plan.position(mark.place),
-        Position::new(222_500, middle),
-    )?;
+    put_leader(out, plan.position(mark.place), middle)?;
     put_bullet(out, mark.is_measured, middle)?;
-    put_name_at(out, name, line)
+    put_name_at(out, name, line)?;
+    put_peak(out, most, &mark.peak, line)
 }
 
 /// The label of the feature of a number.
@@ -150,17 +163,19 @@ fn put_label_at(
     wanted: &[Wanted],
     number: usize,
     plan: &View,
+    most: u128,
     line: u64,
 ) -> Result<(), AllocError>
+    requires some { 0 < most }
     requires low { 26000 ≤ line }
     requires high { line ≤ 186000 }
     ensures { OnOk result (out.new.items ≡ out.old.items
-        ++ label_at plan.now (slice_get marks.now number) (slice_get wanted.now number) line) }
+        ++ label_at plan.now most (slice_get marks.now number) (slice_get wanted.now number) line) }
 {
     if let Some(mark) = marks.get(number)
         && let Some(feature) = wanted.get(number)
     {
-        return put_label(out, mark, feature.label.as_bytes(), plan, line);
+        return put_label(out, mark, feature.label.as_bytes(), plan, most, line);
     }
     Ok(())
 }
@@ -177,11 +192,12 @@ fn put_each_label(
     ensures { OnOk result (Adds (AreOnLines plan.now marks.now wanted.now order.now)
         out.old.items out.new.items) }
 {
+    let most = greatest_peak(marks);
     let mut highest = FIRST_LINE;
     let mut left = order;
     while let [anchor, below @ ..] = left {
         let line = line_at(highest, anchor.0, below.len() as u64);
-        put_label_at(out, marks, wanted, anchor.2, plan, line)?;
+        put_label_at(out, marks, wanted, anchor.2, plan, most, line)?;
         highest = line + PITCH;
         left = below;
     }
@@ -219,9 +235,15 @@ pub(crate) fn put_labels(
     let order = ordered(alloc, marks, plan)?;
     put_markup(
         out,
-        b"<g stroke=\"#999\" stroke-width=\"0.15\" stroke-dasharray=\"1 0.7\">\n",
+        b"<g font-size=\"2.5\" stroke=\"#999\" stroke-width=\"0.15\" stroke-dasharray=\"1 0.7\">\n",
     )?;
     put_each_label(out, marks, wanted, plan, order.as_slice())?;
     put_markup(out, b"</g>\n")?;
     put_more_if_any(out, marks.len().saturating_sub(MOST))
 }
+
+/// No leader of a label crosses another.
+pub fn leaders_do_not_cross()
+    ensures { (plan : View) (marks : List Mark) (order : List Anchor) (lines : List ℕ)
+        → AreOrdered plan marks order → AreHighest order lines → DoNotCross 0 0 order lines }
+{}

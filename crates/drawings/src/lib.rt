@@ -4,12 +4,12 @@
 //! - `places`, `away`: positions in machine axes, and deviations; `spans`, `extents`: the ranges of positions
 //! - `scales`: round scales, and the largest at which lengths fit
 //! - `sheet`: positions on the sheet of paper
-//! - `walk`: a program as stops of the machine in machine axes, each with what was measured there
+//! - `walk`: a program as stops of the machine in machine axes, each with what was measured there; `seen`: its deviation along the normal
 //! - `sides`, `views`: the two views, their places on the sheet, and where a position is in them
 //! - `whiskers`: the drawn length of deviations
-//! - `pictures`: what is drawn in a view; `marks`: what labels name; `labels`: the column of the features' names; `footer`: what is
+//! - `pictures`, `numbers`: what is drawn in a view; `marks`, `peaks`: what labels name; `labels`: the column of the features' names; `footer`: what is
 //!   below
-//! - `texts`: the elements of SVG; `drawing`: the whole
+//! - `texts`: the elements of SVG; `title`: what a drawing is called; `drawing`: the whole; `drawn_examples`: parts of one, written out
 //!
 //! And a page of HTML, which has a drawing in it:
 //!
@@ -21,6 +21,7 @@
 mod away;
 mod bar_cells;
 mod drawing;
+pub mod drawn_examples;
 pub mod examples;
 mod extents;
 mod footer;
@@ -28,19 +29,24 @@ mod labels;
 mod magnifying;
 mod marks;
 pub mod markup;
+mod numbers;
 mod pages;
+mod peaks;
 mod pictures;
 mod places;
 mod placing;
 mod scales;
 mod sections;
+mod seen;
 mod sheet;
 mod sides;
 mod spans;
 mod texts;
+mod title;
 mod views;
 mod walk;
 mod whiskers;
 
 pub use drawing::write_drawing;
 pub use pages::{Facts, report_text};
+pub use title::Title;

@@ -7,10 +7,10 @@ use crate::scales::{Lengths, Room, Scale};
 use crate::walk::{Act, Stop};
 use crate::whiskers::Whiskers;
 
-/// The longest line of a deviation on paper, in micrometres.
-const LONGEST: u64 = 15_000;
+/// The longest line of a deviation on paper, in micrometres: a twentieth of the width of a frame.
+const LONGEST: u64 = 10_000;
 
-fn squared(part: i64) -> u128
+pub(crate) fn squared(part: i64) -> u128
     requires { unsigned_abs part ≤ 8000000000 }
     ensures value { result ≡ unsigned_abs part * unsigned_abs part }
     ensures within { result ≤ 64000000000000000000 }
@@ -34,15 +34,16 @@ fn length(across: i64, upright: i64) -> u64
     up as u64
 }
 
-fn longest_of(stop: Stop) -> u64
-    ensures reaches { NotLonger result stop.act }
-    ensures least { (most : ℕ) → NotLonger most stop.act → result ≤ most }
+fn longest_of(stop: &Stop) -> u64
+    ensures reaches { NotLonger result stop.now.act }
+    ensures least { (most : ℕ) → NotLonger most stop.now.act → result ≤ most }
     ensures within { result ≤ 12000000000 }
 {
     match stop.act {
         Act::Measured(away) => {
-            let across = away.x.get();
-            length(across, away.y.get()).max(length(across, away.z.get()))
+            let deviation = away.deviation();
+            let across = deviation.x;
+            length(across, deviation.y).max(length(across, deviation.z))
         }
         Act::Move | Act::Touch => 0,
     }
@@ -54,7 +55,7 @@ fn longest(stops: &[Stop]) -> u64
 {
     let mut longest = 0;
     for stop in stops {
-        longest = longest_of(*stop).max(longest);
+        longest = longest_of(stop).max(longest);
     }
     longest
 }
@@ -77,7 +78,7 @@ fn scale_of(longest: u64) -> Scale
     Scale::for_room(lengths, room)
 }
 
-/// The deviations of stops at the largest scale at which the longest is at most 15 mm on paper; 1:1 if there is no deviation.
+/// The deviations of stops at the largest scale at which the longest is at most 10 mm on paper; 1:1 if there is no deviation.
 pub(crate) fn whiskers_of(stops: &[Stop]) -> Whiskers
     ensures { AreWhiskers stops.now result }
 {

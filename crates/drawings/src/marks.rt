@@ -1,19 +1,22 @@
 // What labels name.
 
 ghost use Rattle.std.specs.Prelude.{◌≡◌, ◌<◌, length, IfOk};
-ghost use Rattle.drawings.specs.Named.{touch_place, farther, farthest, farthest_of, marks_of};
+ghost use Rattle.drawings.specs.Named.{touch_place, farther, farthest, farthest_of, AreMarks};
 
+use crate::away::Along;
+use crate::peaks::peak_of;
 use crate::places::Place;
 use crate::walk::{after_first, next_points, zero_of};
 use contact_ledger::Feature;
 use dmis_program::{Program, Touch, Wanted};
 use std::alloc::{AllocError, Global};
 
-/// A feature: its touch that is farthest to the right, and whether its first touch was measured.
+/// A feature: its touch that is farthest to the right, whether its first touch was measured, and the greatest deviation along a normal.
 #[derive(Clone, Copy)]
 pub(crate) struct Mark {
     pub place: Place,
     pub is_measured: bool,
+    pub peak: Option<Along>,
 }
 
 fn touch_place(touch: &Touch) -> Place
@@ -59,7 +62,7 @@ pub(crate) fn marks_of(
     program: &Program,
     features: &[Feature],
 ) -> Result<Vec<Mark>, AllocError>
-    ensures { IfOk result (λ marks. marks.items ≡ marks_of program.now.features features.now) }
+    ensures { IfOk result (λ marks. AreMarks program.now.features features.now marks.items) }
 {
     let mut marks = Vec::new(alloc);
     let mut wanted = program.features();
@@ -67,7 +70,12 @@ pub(crate) fn marks_of(
     while let [feature, later @ ..] = wanted {
         let place = farthest_of(feature.touches.as_slice());
         let is_measured = !next_points(measured).is_empty();
-        marks.push(Mark { place, is_measured })?;
+        let peak = peak_of(feature.touches.as_slice(), next_points(measured));
+        marks.push(Mark {
+            place,
+            is_measured,
+            peak,
+        })?;
         wanted = later;
         measured = after_first(measured);
     }

@@ -1,13 +1,14 @@
 // The whole page.
 
 ghost use Rattle.std.specs.Prelude.{◌≡◌, ◌<◌, ◌++◌, drop, length, IfOk, OnOk};
-ghost use Rattle.drawings.specs.Names.{flat_map, Adds, style, page_head, complete_start, missing_label, complete_text, within_start, within_line, within_text, limits_text, broken_start, broken_end, broken_text, seals_text, audit_start, verdict_text, errors_text, audit_text, names_text, notes_text, program_line, program_text, summary_text, page_end, IsPage};
+ghost use Rattle.drawings.specs.Names.{flat_map, Adds, style, page_head, complete_start, missing_label, complete_text, within_start, within_line, within_text, limits_text, broken_start, broken_end, broken_text, seals_text, audit_start, verdict_text, errors_text, audit_text, names_text, notes_text, program_line, program_text, summary_text, title_of, page_end, IsPage};
 
 use crate::bar_cells::greatest;
 use crate::drawing::write_drawing;
 use crate::markup::{put_between, put_count};
 use crate::sections::put_sections;
 use crate::texts::{put_markup, put_number};
+use crate::title::Title;
 use contact_ledger::Feature;
 use deviations::{Limits, Row, compared_count, out_count};
 use dmis_program::{Program, Wanted};
@@ -22,6 +23,8 @@ pub struct Facts<'a> {
     pub part: &'a [u8],
     /// The name of the program.
     pub program: &'a [u8],
+    /// When its last feature was complete; empty if that is not noted.
+    pub time: &'a [u8],
     /// What the seals of the record say.
     pub seals: SealVerdict,
     /// Whether each feature has its run of contacts.
@@ -42,6 +45,7 @@ impl<'a> Model for Facts<'a> {
     ghost view = { λ f. record {
       part = f.part.now;
       program = f.program.now;
+      time = f.time.now;
       seals = f.seals;
       sound = f.sound;
       verdict = f.verdict.now;
@@ -61,6 +65,12 @@ impl<'a> Facts<'a> {
         ensures { result.now ≡ self.now.program }
     {
         self.program
+    }
+
+    fn time(&self) -> &[u8]
+        ensures { result.now ≡ self.now.time }
+    {
+        self.time
     }
 
     fn seals(&self) -> SealVerdict
@@ -394,6 +404,16 @@ fn put_end(out: &mut Vec<u8>) -> Result<(), AllocError>
     )
 }
 
+fn title_of<'a>(facts: &'a Facts<'_>) -> Title<'a>
+    ensures { result ≡ title_of facts.now }
+{
+    Title {
+        part: facts.part(),
+        program: facts.program(),
+        time: facts.time(),
+    }
+}
+
 fn put_page(
     alloc: Global,
     out: &mut Vec<u8>,
@@ -411,7 +431,7 @@ fn put_page(
     put_head(out, facts)?;
     put_summary(out, facts, measured, wanted, limits, rows)?;
     put_sections(alloc, out, greatest(rows), limits, measured, wanted, rows)?;
-    write_drawing(alloc, out, program, features)?;
+    write_drawing(alloc, out, &title_of(facts), program, features)?;
     put_end(out)
 }
 

@@ -1,8 +1,14 @@
 // What is drawn in a view.
 
 ghost use Rattle.std.specs.Prelude.{◌≡◌, ◌≤◌, ◌+◌, ◌++◌, OnOk};
-ghost use Rattle.drawings.specs.Names.{flat_map, open_dot, done_dot, whisker, thickness_for, way_spot, way_text, dots_text, whiskers_text, span_text, title_text, arrow_text, arrows_text, letters_text, axes_text, picture_text};
+ghost use Rattle.deviations.specs.Along.{IsDeviation};
+ghost use Rattle.drawings.specs.Names.{flat_map, open_dot, done_dot, spot_of, colour_of, is_sideways, thinned, line_start, gap_text, whisker, thickness_for, way_spot, way_text, dots_text, whiskers_text, span_text, title_text, arrow_text, arrows_text, letters_text, axes_text, picture_text};
 
+use crate::away::Along;
+use crate::magnifying::squared;
+use crate::numbers::put_numbers;
+use crate::places::Place;
+use crate::seen::Seen;
 use crate::sheet::Position;
 use crate::sides::Side;
 use crate::spans::Span;
@@ -13,7 +19,8 @@ use crate::texts::{
 use crate::views::{FRAME_LEFT, FRAME_RIGHT, View};
 use crate::walk::{Act, Stop};
 use crate::whiskers::Whiskers;
-use std::alloc::AllocError;
+use deviations::Deviation;
+use std::alloc::{AllocError, Global};
 
 /// The most stops for which dots are large.
 const FEW: usize = 400;
@@ -23,9 +30,9 @@ fn put_span(out: &mut Vec<u8>, name: &[u8], span: Span) -> Result<(), AllocError
     ensures { OnOk result (out.new.items ≡ out.old.items ++ span_text name.now span) }
 {
     out.extend_from_slice(name)?;
-    put_coordinate(out, span.low)?;
+    put_coordinate(out, i128::from(span.low))?;
     out.extend_from_slice(b" to ")?;
-    put_coordinate(out, span.high)
+    put_coordinate(out, i128::from(span.high))
 }
 
 /// The title above the frame: the view's name, and the ranges that it shows.
@@ -190,20 +197,104 @@ fn put_dots(out: &mut Vec<u8>, view: &View, stops: &[Stop]) -> Result<(), AllocE
     put_markup(out, b"</g>\n")
 }
 
+pub(crate) fn colour_of(along: &Option<Along>) -> &'static [u8]
+    ensures { result.now ≡ colour_of along.now }
+{
+    let Some(along) = along else {
+        return b"#555";
+    };
+    let along = along.get();
+    if along == 0 {
+        b"#555"
+    } else if along < 0 {
+        b"#0050d0"
+    } else {
+        b"#d00000"
+    }
+}
+
+/// Whether the part of a deviation across its normal is longer than that along it.
+#[tactic(auto, using(crate::proofs::Paper::far_along))]
+fn is_sideways(deviation: Deviation, along: &Option<Along>) -> bool
+    requires { IsDeviation deviation }
+    ensures { result ≡ is_sideways deviation along.now }
+{
+    let Some(along) = along else {
+        return false;
+    };
+    let along = along.get().unsigned_abs();
+    let square = squared(deviation.x) + squared(deviation.y) + squared(deviation.z);
+    along < 10_000_000_000 && 2 * (along * along) < square
+}
+
+fn thinned(thickness: u64, is_sideways: bool) -> u64
+    ensures value { result ≡ thinned thickness is_sideways }
+    ensures within { result ≤ thickness }
+{
+    if is_sideways {
+        thickness / 2
+    } else {
+        thickness
+    }
+}
+
+#[tactic(auto, unfolding(crate::specs::Marks::line_start))]
+fn put_line_start(out: &mut Vec<u8>, colour: &[u8], thickness: u64) -> Result<(), AllocError>
+    requires { thickness ≤ 500 }
+    ensures { OnOk result (out.new.items ≡ out.old.items ++ line_start colour.now thickness) }
+{
+    put_markup(out, b"<g stroke=\"")?;
+    put_markup(out, colour)?;
+    put_attribute(out, b"\" stroke-width=\"", thickness)?;
+    put_markup(out, b">")
+}
+
+/// A whisker: its colour is that of the side to which the point lies, and it is thin if the point lies more across the normal.
+#[tactic(auto, unfolding(crate::specs::Marks::gap_text))]
+fn put_gap(
+    out: &mut Vec<u8>,
+    view: &View,
+    whiskers: &Whiskers,
+    thickness: u64,
+    place: Place,
+    along: &Option<Along>,
+    deviation: Deviation,
+) -> Result<(), AllocError>
+    requires thickness { thickness ≤ 500 }
+    requires deviation { IsDeviation deviation }
+    ensures { OnOk result (out.new.items ≡ out.old.items
+        ++ gap_text view.now whiskers.now thickness (spot_of view.now place) along.now deviation) }
+{
+    let from = view.position(place);
+    let thickness = thinned(thickness, is_sideways(deviation, along));
+    put_line_start(out, colour_of(along), thickness)?;
+    put_line(out, from, view.tip(from, deviation, whiskers))?;
+    put_markup(out, b"</g>\n")
+}
+
 #[tactic(auto, unfolding(crate::specs::Marks::whisker))]
 fn put_each_whisker(
     out: &mut Vec<u8>,
     view: &View,
-    stops: &[Stop],
+    seen: &[Seen],
     whiskers: &Whiskers,
+    thickness: u64,
 ) -> Result<(), AllocError>
+    requires { thickness ≤ 500 }
     ensures { OnOk result (out.new.items
-        ≡ out.old.items ++ flat_map (whisker view.now whiskers.now) stops.now) }
+        ≡ out.old.items ++ flat_map (whisker view.now whiskers.now thickness) seen.now) }
 {
-    for stop in stops {
-        if let Act::Measured(away) = stop.act {
-            let from = view.position(stop.place);
-            put_line(out, from, view.tip(from, &away, whiskers))?;
+    for one in seen {
+        if let Act::Measured(away) = one.stop.act {
+            put_gap(
+                out,
+                view,
+                whiskers,
+                thickness,
+                one.stop.place,
+                &one.along,
+                away.deviation(),
+            )?;
         }
     }
     Ok(())
@@ -221,37 +312,34 @@ fn thickness_for(count: usize) -> u64
 fn put_whiskers(
     out: &mut Vec<u8>,
     view: &View,
-    stops: &[Stop],
+    seen: &[Seen],
     whiskers: &Whiskers,
 ) -> Result<(), AllocError>
     ensures { OnOk result (out.new.items
-        ≡ out.old.items ++ whiskers_text view.now whiskers.now stops.now) }
+        ≡ out.old.items ++ whiskers_text view.now whiskers.now seen.now) }
 {
-    let thickness = thickness_for(stops.len());
-    put_attribute(
-        out,
-        b"<g stroke=\"#d00000\" stroke-linecap=\"round\" stroke-width=\"",
-        thickness,
-    )?;
-    put_markup(out, b">\n")?;
-    put_each_whisker(out, view, stops, whiskers)?;
+    put_markup(out, b"<g stroke-linecap=\"round\">\n")?;
+    put_each_whisker(out, view, seen, whiskers, thickness_for(seen.len()))?;
     put_markup(out, b"</g>\n")
 }
 
 /// Appends a view.
 #[tactic(auto, unfolding(crate::specs::Pictures::picture_text))]
 pub(crate) fn put_picture(
+    alloc: Global,
     out: &mut Vec<u8>,
     view: &View,
     stops: &[Stop],
+    seen: &[Seen],
     whiskers: &Whiskers,
 ) -> Result<(), AllocError>
     ensures { OnOk result (out.new.items
-        ≡ out.old.items ++ picture_text view.now whiskers.now stops.now) }
+        ≡ out.old.items ++ picture_text view.now whiskers.now stops.now seen.now) }
 {
     put_title(out, view)?;
     put_axes(out, view)?;
     put_way(out, view, stops)?;
     put_dots(out, view, stops)?;
-    put_whiskers(out, view, stops, whiskers)
+    put_whiskers(out, view, seen, whiskers)?;
+    put_numbers(alloc, out, view, stops, seen)
 }

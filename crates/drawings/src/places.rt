@@ -1,12 +1,12 @@
 // Positions in machine axes.
 
-ghost use Rattle.std.specs.Prelude.{◌≡◌, ◌≤◌, ◌+ℤ◌, ◌-ℤ◌, unsigned_abs};
+ghost use Rattle.std.specs.Prelude.{◌≡◌, ◌≤◌, ◌+ℤ◌, unsigned_abs};
 ghost use Rattle.drawings.specs.Places.{machine_limit, place_of};
 
 use fixed_um::{Point, Um};
 use std::marker::Model;
 
-/// A coordinate in machine axes, or how far two lengths lie apart, in micrometres.
+/// A coordinate in machine axes, in micrometres.
 #[derive(Clone, Copy)]
 pub(crate) struct Coordinate {
     micrometres: i64,
@@ -31,15 +31,6 @@ impl Coordinate {
     {
         Coordinate {
             micrometres: length.get() + origin.get(),
-        }
-    }
-
-    /// How far a length lies from another.
-    pub fn between(measured: Um, nominal: Um) -> Coordinate
-        ensures { result ≡ measured -ℤ nominal }
-    {
-        Coordinate {
-            micrometres: measured.get() - nominal.get(),
         }
     }
 

@@ -14,12 +14,12 @@ const TOP: u64 = 22_000;
 const TITLE: u64 = 7_000;
 
 /// The margin around the drawn content.
-const MARGIN: u64 = 15_000;
+const MARGIN: u64 = 10_000;
 
 /// The paper within the margins of both frames.
 const ROOM: Room = Room {
-    across: 177_000,
-    upright: 98_000,
+    across: 187_000,
+    upright: 118_000,
 };
 
 /// Both views, at one scale, the plan above the front.
@@ -33,8 +33,8 @@ pub(crate) struct Views {
 fn scale_of(lengths: Lengths) -> Scale
     requires { AreShort lengths }
     ensures scale { IsScaleFor lengths views_room result }
-    ensures across { on_paper result lengths.across ≤ 177000 }
-    ensures upright { on_paper result lengths.first + on_paper result lengths.second ≤ 98000 }
+    ensures across { on_paper result lengths.across ≤ 187000 }
+    ensures upright { on_paper result lengths.first + on_paper result lengths.second ≤ 118000 }
 {
     Scale::for_room(lengths, ROOM)
 }

@@ -1,7 +1,7 @@
 // Scales, and the largest at which lengths fit.
 
 ghost use Rattle.std.specs.Prelude.{◌≡◌, ◌≤◌, ◌<◌, ◌*◌, ◌^◌, ℕ, IsTrue, ◌↔◌};
-ghost use Rattle.drawings.specs.Names.{round, numerator, denominator, on_paper, Fits, AreShort, IsScaleFor, length_limit, IsLongest};
+ghost use Rattle.drawings.specs.Names.{round, numerator, denominator, on_paper, tenths, Fits, AreShort, IsScaleFor, length_limit, IsLongest};
 
 use std::marker::Model;
 
@@ -20,7 +20,7 @@ pub(crate) struct Room {
     pub upright: u64,
 }
 
-/// A round scale (ISO 5455): 1, 2 or 5 times a power of ten to one, from 10,000:1 on, or one to that, down to 1:1,000,000.
+/// A round scale: 1, 2, 2.5, 3, 4 or 5 times a power of ten to one, from 10,000:1 on, or one to that, down to 1:2,000,000.
 #[derive(Clone, Copy)]
 pub(crate) struct Scale {
     number: usize,
@@ -33,39 +33,49 @@ impl Model for Scale {
 
     ghost view = { λ s. s.number };
 
-    ghost invariant = { λ s. s.number ≤ 30 };
+    ghost invariant = { λ s. s.number ≤ 61 };
 
     ghost inverse = { λ n. record { number = n } };
 }
 
-/// The round number of an index: 1, 2, 5, 10, 20, 50, ..
+/// The round length of an index: 1, 2, 5, 10, 20, 50, ..
 pub(crate) fn round(index: usize) -> u64
     requires { index ≤ 30 }
     ensures value { result ≡ round index }
-    ensures some { 0 < result }
-    ensures few { index ≤ 12 → result ≤ 10 ^ 4 }
     ensures within { result ≤ 10 ^ 10 }
 {
     [1, 2, 5][index % 3] * 10u64.pow(index as u32 / 3)
 }
 
+/// Ten times the number of a scale: 10, 20, 25, 30, 40, 50, 100, ..
+fn tenths(index: usize) -> u64
+    requires { index ≤ 37 }
+    ensures value { result ≡ tenths index }
+    ensures some { 10 ≤ result }
+    ensures few { index ≤ 24 → result ≤ 10 ^ 5 }
+    ensures within { result ≤ 5 * 10 ^ 7 }
+{
+    [10, 20, 25, 30, 40, 50][index % 6] * 10u64.pow(index as u32 / 6)
+}
+
 impl Scale {
-    /// The numerator of the ratio of paper to part.
+    /// The numerator of the ratio of paper to part, in tenths.
     #[tactic(auto, unfolding(crate::specs::Scales::numerator))]
     pub fn numerator(self) -> u64
         ensures value { result ≡ numerator self }
-        ensures within { result ≤ 10 ^ 4 }
+        ensures within { result ≤ 10 ^ 5 }
     {
-        round(12usize.saturating_sub(self.number))
+        tenths(24usize.saturating_sub(self.number))
     }
 
-    /// The denominator of the ratio of paper to part.
+    /// The denominator of the ratio of paper to part, in tenths.
     #[tactic(auto, unfolding(crate::specs::Scales::denominator))]
     pub fn denominator(self) -> u64
         ensures value { result ≡ denominator self }
-        ensures some { 0 < result }
+        ensures some { 10 ≤ result }
+        ensures within { result ≤ 5 * 10 ^ 7 }
     {
-        round(self.number.saturating_sub(12))
+        tenths(self.number.saturating_sub(24))
     }
 
     /// A length on paper, in whole micrometres, rounded down.
@@ -91,28 +101,28 @@ impl Scale {
     /// The largest scale at which the lengths fit. Requires that they fit at the smallest.
     fn largest(lengths: Lengths, room: Room) -> Scale
         requires lengths { AreShort lengths }
-        requires smallest { Fits 30 lengths room }
+        requires smallest { Fits 61 lengths room }
         ensures fits { Fits result lengths room }
         ensures largest { (larger : ℕ) → larger < result → Fits larger lengths room → ⊥ }
     {
-        for number in 0..30 {
+        for number in 0..61 {
             let scale = Scale { number };
             if scale.fits(lengths, room) {
                 return scale;
             }
         }
-        Scale { number: 30 }
+        Scale { number: 61 }
     }
 
     /// The largest scale at which the lengths fit; 1:1 if there is nothing to draw. Requires that they fit at the smallest.
     #[tactic(auto, using(crate::proofs::Paper::nothing))]
     pub fn for_room(lengths: Lengths, room: Room) -> Scale
         requires lengths { AreShort lengths }
-        requires smallest { Fits 30 lengths room }
+        requires smallest { Fits 61 lengths room }
         ensures { IsScaleFor lengths room result }
     {
         if lengths.across == 0 && lengths.first == 0 && lengths.second == 0 {
-            Scale { number: 12 }
+            Scale { number: 24 }
         } else {
             Scale::largest(lengths, room)
         }
@@ -124,7 +134,7 @@ impl Scale {
         ensures within { result ≤ 30 }
         ensures longest { 10000 ≤ room → IsLongest self room result }
     {
-        let _within = self.numerator();
+        let _within = (self.numerator(), self.denominator());
         for back in 0..30 {
             let number = 30 - back;
             if self.on_paper(round(number)) <= room {

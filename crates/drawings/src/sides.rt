@@ -1,10 +1,11 @@
 // The side from which the part is seen.
 
 ghost use Rattle.std.specs.Prelude.{◌≡◌, ◌≤◌, unsigned_abs};
+ghost use Rattle.deviations.specs.Along.{IsDeviation, deviation_limit};
 ghost use Rattle.drawings.specs.Views.{upright_of, part_of};
 
-use crate::away::Away;
 use crate::places::{Coordinate, Place};
+use deviations::Deviation;
 
 /// The side from which the part is seen.
 #[derive(Clone, Copy)]
@@ -27,13 +28,14 @@ impl Side {
     }
 
     /// The part of a deviation that is up.
-    pub fn part_of(self, away: &Away) -> i64
-        ensures value { result ≡ part_of self away.now }
-        ensures within { unsigned_abs result ≤ 8000000000 }
+    pub fn part_of(self, deviation: Deviation) -> i64
+        requires { IsDeviation deviation }
+        ensures value { result ≡ part_of self deviation }
+        ensures within { unsigned_abs result ≤ deviation_limit }
     {
         match self {
-            Side::Plan => away.y.get(),
-            Side::Front => away.z.get(),
+            Side::Plan => deviation.y,
+            Side::Front => deviation.z,
         }
     }
 }

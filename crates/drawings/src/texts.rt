@@ -1,6 +1,6 @@
 // The elements of SVG (W3C SVG 1.1), and texts between tags.
 
-ghost use Rattle.std.specs.Prelude.{◌≡◌, ◌≤◌, ◌<◌, ◌++◌, ◌∷◌, [], pos, decimal, codes, OnOk};
+ghost use Rattle.std.specs.Prelude.{◌≡◌, ◌≤◌, ◌<◌, ◌^◌, ◌++◌, ◌∷◌, [], pos, decimal, codes, unsigned_abs, OnOk};
 ghost use Rattle.drawings.specs.Names.{written, three_digits, Writes, escaped, escaped_byte, spot_text, markup, attribute, disc_text, line_text, frame_text, text_start, text_end, text_element, millimetres};
 
 use crate::sheet::Position;
@@ -154,18 +154,19 @@ fn put_three(out: &mut Vec<u8>, number: u64) -> Result<(), AllocError>
     Ok(out.push(b'0' + (number % 10) as u8)?)
 }
 
-/// Appends a coordinate in millimetres with three decimals.
+/// Appends a coordinate or a deviation in millimetres with three decimals.
 #[tactic(auto, unfolding(fixed_um::specs::Written::written))]
-pub(crate) fn put_coordinate(out: &mut Vec<u8>, micrometres: i64) -> Result<(), AllocError>
+pub(crate) fn put_coordinate(out: &mut Vec<u8>, micrometres: i128) -> Result<(), AllocError>
+    requires { unsigned_abs micrometres ≤ 2 ^ 64 }
     ensures { OnOk result (out.new.items ≡ out.old.items ++ written micrometres) }
 {
     if micrometres < 0 {
         out.push(b'-')?;
     }
     let magnitude = micrometres.unsigned_abs();
-    put_number(out, magnitude / 1000)?;
+    put_number(out, (magnitude / 1000) as u64)?;
     out.push(b'.')?;
-    put_three(out, magnitude % 1000)
+    put_three(out, (magnitude % 1000) as u64)
 }
 
 /// Appends a length in millimetres with as many decimals as it needs.

@@ -1,18 +1,19 @@
 // The two views.
 
 ghost use Rattle.std.specs.Prelude.{◌≡◌, ◌≤◌, ◌+◌, ◌-◌, ◌-ℤ◌, unsigned_abs};
+ghost use Rattle.deviations.specs.Along.{IsDeviation};
 ghost use Rattle.drawings.specs.Scales.{on_paper};
 ghost use Rattle.drawings.specs.Sheet.{margin, sheet_width, sheet_height};
 ghost use Rattle.drawings.specs.Places.{height_in, IsBetween};
 ghost use Rattle.drawings.specs.Views.{upright_of, part_of, IsInView, moved, tip_of};
 
-use crate::away::Away;
 use crate::places::Place;
 use crate::scales::Scale;
 use crate::sheet::Position;
 use crate::sides::Side;
 use crate::spans::Span;
 use crate::whiskers::Whiskers;
+use deviations::Deviation;
 
 /// The left and the right edge of both frames.
 pub(crate) const FRAME_LEFT: u64 = 10_000;
@@ -69,13 +70,14 @@ impl View {
     }
 
     /// The end of a deviation's line that starts at a position in the view.
-    pub fn tip(&self, from: Position, away: &Away, whiskers: &Whiskers) -> Position
-        requires { IsInView from }
-        ensures { result ≡ tip_of self.now.side whiskers.now from away.now }
+    pub fn tip(&self, from: Position, deviation: Deviation, whiskers: &Whiskers) -> Position
+        requires in_view { IsInView from }
+        requires deviation { IsDeviation deviation }
+        ensures { result ≡ tip_of self.now.side whiskers.now from deviation }
     {
-        let right = away.x.get();
+        let right = deviation.x;
         let across = moved(from.across(), right, whiskers.length(right));
-        let part = self.side.part_of(away);
+        let part = self.side.part_of(deviation);
         let down = moved(from.down(), -part, whiskers.length(part));
         Position::new(across, down)
     }

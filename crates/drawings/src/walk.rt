@@ -1,12 +1,15 @@
 // A program as stops of the machine.
 
 ghost use Rattle.std.specs.Prelude.{◌≡◌, ◌++◌, ◌∷◌, [], drop, IfOk, OnOk};
-ghost use Rattle.drawings.specs.Names.{place_of, zero_of, zero_with, later_with, next_points, points_with, act_by, stops_at, stops_of};
+ghost use Rattle.std.specs.List.{AllByRecursion};
+ghost use Rattle.dmis_program.specs.Programs.{IsStep};
+ghost use Rattle.fixed_um.specs.Points.{IsInVolume};
+ghost use Rattle.drawings.specs.Names.{place_of, zero_of, zero_with, later_with, next_points, points_with, act_by, stops_at, stops_of, is_asked, touches_among, first_with_any};
 
 use crate::away::Away;
 use crate::places::Place;
 use contact_ledger::Feature;
-use dmis_program::Step;
+use dmis_program::{Step, Touch};
 use fixed_um::{Frame, Point};
 use std::alloc::{AllocError, Global};
 
@@ -65,18 +68,20 @@ pub(crate) fn after_first<'a, T>(items: &'a [T]) -> &'a [T]
     }
 }
 
-/// What the next of the remaining points means for a nominal point: measured, with its deviation, or still open.
-fn act_by(points: &[Point], nominal: Point) -> Act
-    ensures { result ≡ act_by points.now nominal }
+/// What the next of the remaining points means for a touch: measured, with its deviation, or still open.
+fn act_by(points: &[Point], touch: &Touch) -> Act
+    requires { IsInVolume touch.now.target }
+    ensures { result ≡ act_by points.now touch.now }
 {
     match points {
-        [point, ..] => Act::Measured(Away::of(*point, nominal)),
+        [point, ..] => Act::Measured(Away::of(*point, touch)),
         [] => Act::Touch,
     }
 }
 
 impl<'a> Walk<'a> {
     fn take(&mut self, step: &Step) -> Result<(), AllocError>
+        requires { IsStep step.now }
         ensures origin { OnOk result (self.new.origin ≡ zero_with step.now self.old.origin) }
         ensures later { OnOk result (self.new.features.now
             ≡ later_with step.now self.old.features.now) }
@@ -92,7 +97,7 @@ impl<'a> Walk<'a> {
                 self.features = after_first(self.features);
             }
             Step::Touch(touch) => {
-                let act = act_by(self.points, touch.target);
+                let act = act_by(self.points, touch);
                 self.origin = zero_of(touch.frame);
                 self.points = after_first(self.points);
                 self.stop(touch.target, act)?;
@@ -123,6 +128,7 @@ pub(crate) fn stops_of(
     steps: &[Step],
     features: &[Feature],
 ) -> Result<Vec<Stop>, AllocError>
+    requires { AllByRecursion IsStep steps.now }
     ensures { IfOk result (λ stops. stops.items ≡ stops_of steps.now features.now) }
 {
     let mut walk = Walk {
@@ -136,4 +142,33 @@ pub(crate) fn stops_of(
     }
     let Walk { stops, .. } = walk;
     Ok(stops)
+}
+
+pub(crate) fn is_asked(stop: &Stop) -> bool
+    ensures { result ≡ is_asked stop.now.act }
+{
+    matches!(stop.act, Act::Measured(_) | Act::Touch)
+}
+
+/// The stops that are touches.
+pub(crate) fn touches_among(alloc: Global, stops: &[Stop]) -> Result<Vec<Stop>, AllocError>
+    ensures { IfOk result (λ touches. touches.items ≡ touches_among stops.now) }
+{
+    let mut touches = Vec::new(alloc);
+    for stop in stops {
+        if is_asked(stop) {
+            touches.push(*stop)?;
+        }
+    }
+    Ok(touches)
+}
+
+/// The touches; all stops if there is no touch.
+pub(crate) fn first_with_any<'a>(touches: &'a [Stop], stops: &'a [Stop]) -> &'a [Stop]
+    ensures { result.now ≡ first_with_any touches.now stops.now }
+{
+    match touches {
+        [_, ..] => touches,
+        [] => stops,
+    }
 }

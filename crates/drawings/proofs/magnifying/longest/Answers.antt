@@ -1,6 +1,6 @@
 use Rattle.std.proofs.Math.Nat.{max-le}
 use Rattle.drawings.proofs.Items.{drop_item, drop_past}
-use Rattle.drawings.proofs.Longest.{found_none, found_more, found_all}
+use Rattle.drawings.proofs.Longest.{found_more, found_all}
 use Rattle.drawings.proofs.magnifying.longest.Goals as goal
 
 pub loop-stop-preserved : goal.loop-stop-preserved

@@ -1,4 +1,4 @@
-use Rattle.std.proofs.Common.{◌≡◌, ◌∙◌}
+use Rattle.std.proofs.Common.{◌∙◌}
 use Rattle.drawings.proofs.Farthest.{farthest_more}
 use Rattle.drawings.proofs.Items.{drop_item, drop_past}
 use Rattle.drawings.proofs.marks.farthest.Goals as goal

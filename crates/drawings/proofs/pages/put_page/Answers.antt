@@ -8,5 +8,5 @@ returns c = on_ok_weaker c.put_end.result
     c.args.out.now.items c.put_head.new.out.items c.put_summary.new.out.items c.put_sections.new.out.items c.write_drawing.new.out.items
     c.put_end.new.out.items c.in_ok-put_head.ensures (rw (c.features-wanted.ensures.features) at c.in_ok-put_summary.ensures)
     (rw (c.greatest.ensures.value, c.features-wanted.ensures.features) at c.in_ok-put_sections.ensures)
-    c.in_ok-write_drawing.ensures.ok e)
+    (rw c.title_of.ensures at c.in_ok-write_drawing.ensures.ok) e)
     c.put_end.ensures

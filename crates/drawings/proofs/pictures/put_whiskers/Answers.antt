@@ -8,8 +8,7 @@ returns c = on_ok_weaker c.put_markup-2.result
     (λ e. e ∙ simp (
       c.in_ok-put_each_whisker.ensures,
       c.in_ok-put_markup.ensures,
-      c.in_ok-put_attribute.ensures,
-      c.thickness_for-thickness.ensures.value,
+      c.thickness_for.ensures.value,
       append_assoc,
     ))
     c.put_markup-2.ensures
