@@ -6,7 +6,7 @@ use Rattle.std.specs.Str.{bytes_eq}
 use Rattle.deviations.specs.Styles.{RowsOf}
 use Rattle.dme_orders.specs.RunNotes.{notes_in}
 use Rattle.drawings.specs.Title.{TitleTexts}
-use Rattle.record_text.specs.Notes.{Remark}
+use Rattle.record_text.specs.declared.run_errors.Remark.{Remark}
 use Rattle.record_text.specs.Records.{Recorded}
 use Rattle.record_text.specs.declared.notes.Note.{Note}
 use Rattle.record_text.specs.declared.notes.Note.TheVariants as note
