@@ -1,3 +1,4 @@
 pub mod Touches
 pub mod Tallies
+pub mod Placing
 pub mod Reasons

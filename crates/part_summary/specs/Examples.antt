@@ -1,11 +1,21 @@
 -- The parts of examples.
-use Rattle.std.specs.Prelude.{ℕ, List, codes, pos, ℤ, Option, Some}
+use Rattle.std.specs.Prelude.{ℕ, List, [], codes, pos, ℤ, Option, Some, None}
 use Rattle.deviations.specs.declared.ranges.Range.{Range}
 use Rattle.part_summary.specs.Batches.{BatchPart}
+use Rattle.part_summary.specs.Spans.{Span}
+use Rattle.part_summary.specs.Times.{Plot}
 
 -- a part with these deviations of its touches, and this many features
 abbrev pub part_with : List ℕ → ℕ → List (Option ℤ) → BatchPart
-part_with name measured alongs = record { name = name; measured = measured; alongs = alongs }
+part_with name measured alongs = record { plot = plot_with name measured None []; alongs = alongs }
+
+-- what is plotted of a part
+abbrev pub plot_with : List ℕ → ℕ → Option (List ℕ) → List (Option Span) → Plot
+plot_with name measured time spans = record { name = name; measured = measured; time = time; spans = spans }
+
+-- from a least deviation to a greatest
+abbrev pub span : ℤ → ℤ → Span
+span least greatest = record { least = least; greatest = greatest }
 
 -- from 0 to 0.003
 abbrev pub small : Option Range
