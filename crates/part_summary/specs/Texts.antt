@@ -60,6 +60,6 @@ last_words = codes "In millimetres, along the normal. No fit and no other tolera
 unfoldable pub summary_text : ℕ → Summed → List ℕ
 summary_text named s = head_text [] named s ++ (touch_lines (touches_of s.program) s.tallies ++ last_words)
 
--- what is said of a record that does not count, before why
+-- the line for a record that does not count; why follows it
 unfoldable pub uncounted_line : List ℕ → List ℕ
 uncounted_line name = codes "dme: " ++ (name ++ codes " does not count:\n")
