@@ -1,6 +1,6 @@
 -- The run chart of a feature (this profile), as an element of SVG (W3C SVG 1.1) in HTML. It is drawn in millimetres, with y up, so that its
 -- numbers are the deviations themselves; the browser stretches it. Part n has x = n.
-use Rattle.std.specs.Prelude.{ℕ, ◌+◌, ◌*◌, ◌/◌, List, [], ◌∷◌, ◌++◌, length, codes, decimal, slice_get, ℤ, pos, ◌+ℤ◌, ◌-ℤ◌, neg_ℤ, unsigned_abs}
+use Rattle.std.specs.Prelude.{ℕ, ◌+◌, ◌*◌, ◌/◌, List, [], ◌∷◌, ◌++◌, length, codes, decimal, slice_get, ℤ, pos, ◌+ℤ◌, ◌-ℤ◌, ◌≤ℤ◌, neg_ℤ, unsigned_abs}
 use Rattle.std.specs.Prelude.{Option, Some, None, unwrap_or}
 use Rattle.std.specs.Int.{int_min, int_max}
 use Rattle.deviations.specs.declared.ranges.Range.{Range}
@@ -26,6 +26,11 @@ reach_with reach (Some s) = record { least = int_min reach.least s.least; greate
 abbrev pub reach_after : ℕ → Span → List Plot → Span
 reach_after feature reach [] = reach
 reach_after feature reach (p ∷ parts) = reach_after feature (reach_with reach (span_at feature p)) parts
+
+-- a span, if there is one, within a reach
+abbrev pub IsWithin : Span → Option Span → Type 0
+IsWithin reach None = Unit {0}
+IsWithin reach (Some s) = (reach.least ≤ℤ s.least) × (s.greatest ≤ℤ reach.greatest)
 
 -- its height, and what is left above and below: at least a micrometre
 abbrev pub height : Span → ℕ

@@ -334,7 +334,7 @@ fn put_sections(
     let mut left = wanted;
     let mut later = tallies;
     while let [feature, others @ ..] = left {
-        let count = feature.touches.len();
+        let count = feature.touches.as_slice().len();
         let range = range_named(limits, &feature.label);
         let label = feature.label.as_bytes();
         put_section(

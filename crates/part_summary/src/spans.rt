@@ -74,7 +74,7 @@ pub(crate) fn spans_of(
     let mut left = wanted;
     let mut later = rows;
     while let [feature, others @ ..] = left {
-        let count = feature.touches.len();
+        let count = feature.touches.as_slice().len();
         spans.push(span_of(first_rows(later, count)))?;
         later = later_rows(later, count);
         left = others;
