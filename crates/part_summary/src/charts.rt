@@ -24,8 +24,8 @@ fn span_at(feature: usize, part: &Plot) -> Option<Span>
 }
 
 /// Zero and limits.
-fn reach_of(range: Option<Range>) -> Span
-    ensures { result ≡ reach_of range }
+fn reach_of(range: &Option<Range>) -> Span
+    ensures { result ≡ reach_of range.now }
 {
     match range {
         None => Span {
@@ -112,8 +112,8 @@ fn put_level(out: &mut Vec<u8>, class: &[u8], at: i128, count: usize) -> Result<
     put_markup(out, b"\"/>\n")
 }
 
-fn put_limits(out: &mut Vec<u8>, range: Option<Range>, count: usize) -> Result<(), AllocError>
-    ensures { OnOk result (out.new.items ≡ out.old.items ++ limit_levels range count) }
+fn put_limits(out: &mut Vec<u8>, range: &Option<Range>, count: usize) -> Result<(), AllocError>
+    ensures { OnOk result (out.new.items ≡ out.old.items ++ limit_levels range.now count) }
 {
     let Some(range) = range else {
         return Ok(());
@@ -167,10 +167,11 @@ fn put_strokes(out: &mut Vec<u8>, feature: usize, parts: &[Plot]) -> Result<(), 
 pub(crate) fn put_chart(
     out: &mut Vec<u8>,
     feature: usize,
-    range: Option<Range>,
+    range: &Option<Range>,
     parts: &[Plot],
 ) -> Result<(), AllocError>
-    ensures { OnOk result (out.new.items ≡ out.old.items ++ chart_text feature range parts.now) }
+    ensures { OnOk result (out.new.items
+        ≡ out.old.items ++ chart_text feature range.now parts.now) }
 {
     let count = parts.len();
     put_start(out, reach_after(feature, reach_of(range), parts), count)?;

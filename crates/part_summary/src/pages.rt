@@ -257,8 +257,8 @@ fn put_titles(out: &mut Vec<u8>) -> Result<(), AllocError>
 }
 
 #[tactic(auto, unfolding(crate::specs::Pages::range_line))]
-fn put_range_line(out: &mut Vec<u8>, range: Range) -> Result<(), AllocError>
-    ensures { OnOk result (out.new.items ≡ out.old.items ++ range_line range) }
+fn put_range_line(out: &mut Vec<u8>, range: &Range) -> Result<(), AllocError>
+    ensures { OnOk result (out.new.items ≡ out.old.items ++ range_line range.now) }
 {
     put_markup(out, b"<p>Limits ")?;
     put_length(out, i128::from(range.lower.get()))?;
@@ -267,8 +267,8 @@ fn put_range_line(out: &mut Vec<u8>, range: Range) -> Result<(), AllocError>
     put_markup(out, b"</p>\n")
 }
 
-fn put_range(out: &mut Vec<u8>, range: Option<Range>) -> Result<(), AllocError>
-    ensures { OnOk result (out.new.items ≡ out.old.items ++ range_lines range) }
+fn put_range(out: &mut Vec<u8>, range: &Option<Range>) -> Result<(), AllocError>
+    ensures { OnOk result (out.new.items ≡ out.old.items ++ range_lines range.now) }
 {
     match range {
         None => put_markup(out, b"<p>No limit is for it.</p>\n"),
@@ -281,12 +281,12 @@ fn put_section(
     out: &mut Vec<u8>,
     feature: usize,
     label: &[u8],
-    range: Option<Range>,
+    range: &Option<Range>,
     parts: &[Plot],
     tallies: &[Tally],
 ) -> Result<(), AllocError>
     ensures { OnOk result (out.new.items
-        ≡ out.old.items ++ section feature label.now range parts.now tallies.now) }
+        ≡ out.old.items ++ section feature label.now range.now parts.now tallies.now) }
 {
     put_between(out, b"<h2>", label, b"</h2>\n")?;
     put_range(out, range)?;
@@ -341,7 +341,7 @@ fn put_sections(
             out,
             number,
             label,
-            range,
+            &range,
             parts,
             first_tallies(later, count),
         )?;
