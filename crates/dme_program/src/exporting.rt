@@ -2,16 +2,16 @@
 
 use crate::explaining::{key_of, refused};
 use crate::files::{NamedSource, Sources, file_of};
-use byte_ports::{Failed, Writing, push_all};
+use byte_ports::{Writing, push_all};
 use deviations::Limits;
 use dme_orders::{
     ExportFiles, Exported, RecordFiles, RecordText, explain, export_files, export_record,
     named_limits, named_setup, program_under, report_record,
 };
-use dme_words::{BatchSummary, Export, PartReport, RecordExport, RecordForm};
+use dme_words::{BatchSummary, Export, PartReport, RecordExport, RecordForm, SummaryForm};
 use dmis_program::Program;
 use order_parts::FilesFault;
-use part_summary::Summary;
+use part_summary::{Form, Summary, uncounted_line};
 use refusal_guide::{InputFiles, Topic};
 use std::alloc::AllocError;
 use std::io::{self, Write};
@@ -160,49 +160,70 @@ fn summed_program(
     Ok((limits, program))
 }
 
-/// Counts the record of a file: the exit status, 0 unless it does not count. Standard error then has the file, and why.
-fn add_record(rt: HostRuntime, summary: &mut Summary<'_>, name: &str, source: NamedSource) -> u8 {
+/// Counts the record of a file, or says on standard error that it does not count, and why.
+fn add_record(
+    rt: HostRuntime,
+    summary: &mut Summary<'_>,
+    name: &str,
+    source: NamedSource,
+) -> Result<(), AllocError> {
     let mut source = source;
     let Err(fault) = summary.add(name, &mut source) else {
-        return 0;
+        return Ok(());
     };
-    let _ = eprint!(rt; "dme: {name} does not count:\n");
+    let line = uncounted_line(rt.alloc(), name)?;
+    let _ = eprint!(rt; "{line}");
     let files = InputFiles {
         record: source.into_file(),
         ..InputFiles::unnamed(rt.alloc())
     };
-    refused(rt, fault, files, false)
+    refused(rt, fault, files, false);
+    Ok(())
 }
 
 /// Prints a summary of records of which this many were named: the exit status.
 fn print_summary(
     rt: HostRuntime,
-    summary: &Summary<'_>,
-    is_csv: bool,
+    summary: &mut Summary<'_>,
+    form: Form,
+    program: &str,
     named: usize,
 ) -> Result<u8, AllocError> {
-    let text = if is_csv {
-        let notes = summary.head(rt.alloc(), "dme: ", named)?;
-        let _ = rt.stderr().write_all(notes.as_slice());
-        summary.table(rt.alloc())?
-    } else {
-        summary.text(rt.alloc(), named)?
-    };
-    match push_all(&mut Writing::new(io::writer(&rt)), text.as_slice()) {
-        Ok(()) => Ok(summary.status()),
-        Err(Failed) => {
-            let files = InputFiles::unnamed(rt.alloc());
-            Ok(refused(rt, FilesFault::Write, files, false))
-        }
+    let printed = summary.printed(rt.alloc(), form, program, named)?;
+    let _ = rt.stderr().write_all(printed.notes.as_slice());
+    if push_all(&mut Writing::new(io::writer(&rt)), printed.text.as_slice()).is_err() {
+        summary.blame(&FilesFault::Write);
+        refused(
+            rt,
+            FilesFault::Write,
+            InputFiles::unnamed(rt.alloc()),
+            false,
+        );
+    }
+    Ok(summary.status())
+}
+
+/// How a summary is printed.
+fn summary_form(form: SummaryForm) -> Form {
+    match form {
+        SummaryForm::Text => Form::Text,
+        SummaryForm::Csv => Form::Csv,
+        SummaryForm::Html => Form::Html,
     }
 }
 
-/// The order `summary`: its exit status, the greatest of those of its records and its own.
+/// The order `summary`: its exit status.
 #[inline(never)]
 pub fn summary_of_records(rt: HostRuntime, order: BatchSummary) -> Result<u8, AllocError> {
     let mut sources = Sources::new(rt, false);
+    let key = sources.maybe(order.seal_key);
+    let key = match key_of(rt, key, false) {
+        Ok(key) => key,
+        Err(status) => return Ok(status),
+    };
     let mut limits = sources.maybe(order.limits);
     let mut setup = sources.maybe(order.setup);
+    let program_name = order.program.clone()?;
     let mut program = sources.file(order.program);
     let read = summed_program(rt, &mut limits, &mut setup, &mut program);
     let files = InputFiles {
@@ -215,16 +236,15 @@ pub fn summary_of_records(rt: HostRuntime, order: BatchSummary) -> Result<u8, Al
         Ok(read) => read,
         Err(fault) => return Ok(refused(rt, fault, files, false)),
     };
-    let mut summary = Summary::new(rt.alloc(), &program, &limits)?;
+    let mut summary = Summary::new(rt.alloc(), &program, &limits, &key)?;
     let named = order.records.len();
-    let mut status = 0;
     for record in order.records {
         let name = record.clone()?;
         let source = sources.file(record);
-        status = add_record(rt, &mut summary, name.as_str(), source).max(status);
+        add_record(rt, &mut summary, name.as_str(), source)?;
     }
-    let end = print_summary(rt, &summary, order.is_csv, named)?;
-    Ok(if status == 0 { end } else { status })
+    let form = summary_form(order.form);
+    print_summary(rt, &mut summary, form, program_name.as_str(), named)
 }
 
 /// The order `explain`: its exit status.

@@ -154,7 +154,7 @@ const FINDING_FORM_HELP: &str =
     "The form that is printed: json, for other programs; lines if none is named";
 
 const SUMMARY_FORM_HELP: &str =
-    "The form that is printed: text, or csv, comma-separated values; text if none is named";
+    "The form that is printed: text; csv, comma-separated values; html, a page; text if none is named";
 
 const RUN_PROGRAM_HELP: &str =
     "The DMIS program that was run; - is standard input, as if none is named";
@@ -407,6 +407,7 @@ const LATER_LINES: [Line; 9] = [
             Text("as", "FORM", SUMMARY_FORM_HELP),
             SETUP,
             Text("limits", "FILE", LIMITS_HELP),
+            SEAL_KEY,
             Text("program", "FILE", RUN_PROGRAM_HELP),
             Words("RECORD", RECORDS_HELP),
         ],
