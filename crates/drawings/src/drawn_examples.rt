@@ -5,7 +5,8 @@ ghost use Rattle.drawings.specs.DrawnExamples.{lean, mark, move_at, to_touch, me
 ghost use Rattle.drawings.specs.Footer.{ratio_text};
 ghost use Rattle.drawings.specs.Labels.{DoNotCross, leader_text};
 ghost use Rattle.drawings.specs.Marks.{colour_of, is_sideways, thinned};
-ghost use Rattle.drawings.specs.Peaks.{farther_out, greatest_peak, left_end, peak_length, peak_text, right_end};
+ghost use Rattle.drawings.specs.Numbers.{is_near, number_if};
+ghost use Rattle.drawings.specs.Peaks.{along_text, farther_out, greatest_peak, left_end, peak_length, peak_text, right_end};
 ghost use Rattle.drawings.specs.Pictures.{spot};
 ghost use Rattle.drawings.specs.Scales.{denominator, numerator, on_paper};
 ghost use Rattle.drawings.specs.Stops.{shown_stops};
@@ -93,4 +94,17 @@ pub fn peaks_have_bars()
     ensures left { left_end (negsuc 0) 9 ≡ 274491 }
     ensures left_start { right_end (negsuc 0) 9 ≡ 274500 }
     ensures none { peak_text 9 None 30000 ≡ [] }
+{}
+
+/// A number needs 9 mm across and 3.5 mm down, and is to the right above its point.
+pub fn numbers_keep_their_room()
+    ensures corner { is_near (spot 0 0) (spot 9000 3500) ≡ true }
+    ensures right { is_near (spot 0 0) (spot 9001 0) ≡ false }
+    ensures left { is_near (spot 9001 0) (spot 0 0) ≡ false }
+    ensures below { is_near (spot 0 0) (spot 0 3501) ≡ false }
+    ensures above { is_near (spot 0 3501) (spot 0 0) ≡ false }
+    ensures alone { number_if true (spot 30000 40000) (Some (negsuc 1))
+        ≡ along_text (spot 31000 39300) (negsuc 1) }
+    ensures crowded { number_if false (spot 30000 40000) (Some (negsuc 1)) ≡ [] }
+    ensures none { number_if true (spot 30000 40000) None ≡ [] }
 {}
