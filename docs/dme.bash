@@ -30,8 +30,8 @@ _dme()
         loop) options="--setup --window --progress --trace --explain" ;;
         serve) options="--setup --listen --port --connections --endless --contacts --progress --trace --log --timeout --stop --explain" ;;
         run) options="--machine --setup --host --port --window --features --record --records --part --operator --seal-key --contacts --progress --trace --log --timeout --wait --stop --confirm --pause --explain" ;;
-        export) options="--as --setup --features --record --limits --explain" ;;
-        report) options="--record --setup --limits --explain" ;;
+        export) options="--as --setup --features --record --limits --separator --decimal --with-part --explain" ;;
+        report) options="--record --setup --limits --seal-key --explain" ;;
         summary) options="--as --setup --limits --seal-key --program" ;;
         review) options="--as --setup" ;;
         lower) options="--setup --no-clearing --compensated --skip-manual --stored-frames --explain" ;;

@@ -227,7 +227,7 @@ def must_be_drawn(name, schedule, program):
     must_lead(shapes, plan, labels, [it[1] for it in dots_of(plan, shapes)])
     ends = [sum(int(it[1]) for it in blocks[:k + 1]) for k in range(len(blocks))]
     must_have_peaks(shapes, [(label, alongs[end - int(count):end]) for (label, count), end in zip(blocks, ends)])
-    must("Measured points and their deviations" in [it[2] for it in shapes], "title")
+    must(f"Program {program}" in [it[2] for it in shapes], "title")
     must_have_bar(shapes, scale)
 
 

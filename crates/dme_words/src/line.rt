@@ -142,10 +142,10 @@ const FORM_HELP: &str =
     "The form that is printed: csv, comma-separated values; json; svg, a drawing; of a record also features or contacts";
 
 const SEPARATOR_HELP: &str =
-    "What stands between the fields of --as csv: comma, semicolon or tab; comma if none is named";
+    "What is between the fields of --as csv: ',', ';' or tab; a comma if none is named";
 
 const DECIMAL_HELP: &str =
-    "What stands before the decimals in --as csv: point or comma; point if none is named";
+    "What is before the decimals of --as csv: point or comma; a point if none is named";
 
 const WITH_PART_HELP: &str =
     "Says in each row of a table its part, its program, and whether its point is missing";
