@@ -43,4 +43,6 @@ mod walk;
 mod whiskers;
 
 pub use drawing::write_drawing;
-pub use pages::{Facts, report_text};
+pub use markup::{put_between, put_cell, put_count};
+pub use pages::{Facts, put_within_line, report_text, style};
+pub use texts::put_markup;

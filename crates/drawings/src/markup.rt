@@ -8,7 +8,7 @@ use std::alloc::AllocError;
 
 /// Appends a text between two pieces of markup.
 #[tactic(auto, unfolding(crate::specs::Markup::between))]
-pub(crate) fn put_between(
+pub fn put_between(
     out: &mut Vec<u8>,
     before: &[u8],
     text: &[u8],
@@ -22,14 +22,14 @@ pub(crate) fn put_between(
 }
 
 /// Appends a count.
-pub(crate) fn put_count(out: &mut Vec<u8>, count: usize) -> Result<(), AllocError>
+pub fn put_count(out: &mut Vec<u8>, count: usize) -> Result<(), AllocError>
     ensures { OnOk result (out.new.items ≡ out.old.items ++ decimal count) }
 {
     put_number(out, count as u64)
 }
 
 /// Appends a cell of a table.
-pub(crate) fn put_cell(out: &mut Vec<u8>, text: &[u8]) -> Result<(), AllocError>
+pub fn put_cell(out: &mut Vec<u8>, text: &[u8]) -> Result<(), AllocError>
     ensures { OnOk result (out.new.items ≡ out.old.items ++ cell text.now) }
 {
     put_between(out, b"<td>", text, b"</td>")

@@ -84,8 +84,8 @@ impl<'a> Facts<'a> {
     }
 }
 
-/// How a browser shows the page: light or dark as its reader has it, and also on A4.
-fn style() -> &'static [u8]
+/// How a browser shows a page, from its title to its body: light or dark as its reader has it, and also on A4.
+pub fn style() -> &'static [u8]
     ensures { result.now ≡ style }
 {
     b"</title>\n<style>\n\
@@ -178,8 +178,9 @@ fn within_start(outside: usize, compared: usize, complete: bool, others: usize) 
     }
 }
 
+/// Appends how many points are out of limits, of how many that are compared, and how many others there are. Fails only if out of memory.
 #[tactic(auto, unfolding(crate::specs::Pages::within_line))]
-fn put_within_line(
+pub fn put_within_line(
     out: &mut Vec<u8>,
     outside: usize,
     compared: usize,

@@ -60,7 +60,7 @@ pub(crate) fn put_escaped(out: &mut Vec<u8>, text: &[u8]) -> Result<(), AllocErr
 
 /// Appends markup as it is.
 #[tactic(auto, unfolding(crate::specs::Texts::markup))]
-pub(crate) fn put_markup(out: &mut Vec<u8>, text: &[u8]) -> Result<(), AllocError>
+pub fn put_markup(out: &mut Vec<u8>, text: &[u8]) -> Result<(), AllocError>
     ensures { OnOk result (out.new.items ≡ out.old.items ++ markup text.now) }
 {
     out.extend_from_slice(text)
