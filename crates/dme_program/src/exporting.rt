@@ -2,7 +2,7 @@
 
 use crate::explaining::refused;
 use crate::files::{NamedSource, Sources, file_of};
-use byte_ports::{Failed, Writing, push_all};
+use byte_ports::{Writing, push_all};
 use deviations::Limits;
 use dme_orders::{
     ExportFiles, Exported, RecordFiles, RecordText, explain, export_files, export_record,
@@ -11,7 +11,7 @@ use dme_orders::{
 use dme_words::{BatchSummary, Export, PartReport, RecordExport, RecordForm};
 use dmis_program::Program;
 use order_parts::FilesFault;
-use part_summary::Summary;
+use part_summary::{Form, Summary, uncounted_line};
 use refusal_guide::{InputFiles, Topic};
 use std::alloc::AllocError;
 use std::io::{self, Write};
@@ -137,44 +137,44 @@ fn summed_program(
     Ok((limits, program))
 }
 
-/// Counts the record of a file: the exit status, 0 unless it does not count. Standard error then has the file, and why.
-fn add_record(rt: HostRuntime, summary: &mut Summary<'_>, name: &str, source: NamedSource) -> u8 {
+/// Counts the record of a file, or says on standard error that it does not count, and why.
+fn add_record(
+    rt: HostRuntime,
+    summary: &mut Summary<'_>,
+    name: &str,
+    source: NamedSource,
+) -> Result<(), AllocError> {
     let mut source = source;
     let Err(fault) = summary.add(name, &mut source) else {
-        return 0;
+        return Ok(());
     };
-    let _ = eprint!(rt; "dme: {name} does not count:\n");
+    let line = uncounted_line(rt.alloc(), name)?;
+    let _ = eprint!(rt; "{line}");
     let files = InputFiles {
         record: source.into_file(),
         ..InputFiles::unnamed(rt.alloc())
     };
-    refused(rt, fault, files, false)
+    refused(rt, fault, files, false);
+    Ok(())
 }
 
 /// Prints a summary of records of which this many were named: the exit status.
 fn print_summary(
     rt: HostRuntime,
-    summary: &Summary<'_>,
-    is_csv: bool,
+    summary: &mut Summary<'_>,
+    form: Form,
     named: usize,
 ) -> Result<u8, AllocError> {
-    let text = if is_csv {
-        let notes = summary.head(rt.alloc(), "dme: ", named)?;
-        let _ = rt.stderr().write_all(notes.as_slice());
-        summary.table(rt.alloc())?
-    } else {
-        summary.text(rt.alloc(), named)?
-    };
-    match push_all(&mut Writing::new(io::writer(&rt)), text.as_slice()) {
-        Ok(()) => Ok(summary.status()),
-        Err(Failed) => {
-            let files = InputFiles::unnamed(rt.alloc());
-            Ok(refused(rt, FilesFault::Write, files, false))
-        }
+    let printed = summary.printed(rt.alloc(), form, named)?;
+    let _ = rt.stderr().write_all(printed.notes.as_slice());
+    if push_all(&mut Writing::new(io::writer(&rt)), printed.text.as_slice()).is_err() {
+        summary.blame(&FilesFault::Write);
+        refused(rt, FilesFault::Write, InputFiles::unnamed(rt.alloc()), false);
     }
+    Ok(summary.status())
 }
 
-/// The order `summary`: its exit status, the greatest of those of its records and its own.
+/// The order `summary`: its exit status.
 #[inline(never)]
 pub fn summary_of_records(rt: HostRuntime, order: BatchSummary) -> Result<u8, AllocError> {
     let mut sources = Sources::new(rt, false);
@@ -194,14 +194,13 @@ pub fn summary_of_records(rt: HostRuntime, order: BatchSummary) -> Result<u8, Al
     };
     let mut summary = Summary::new(rt.alloc(), &program, &limits)?;
     let named = order.records.len();
-    let mut status = 0;
     for record in order.records {
         let name = record.clone()?;
         let source = sources.file(record);
-        status = add_record(rt, &mut summary, name.as_str(), source).max(status);
+        add_record(rt, &mut summary, name.as_str(), source)?;
     }
-    let end = print_summary(rt, &summary, order.is_csv, named)?;
-    Ok(if status == 0 { end } else { status })
+    let form = if order.is_csv { Form::Csv } else { Form::Text };
+    print_summary(rt, &mut summary, form, named)
 }
 
 /// The order `explain`: its exit status.

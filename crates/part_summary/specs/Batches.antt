@@ -1,5 +1,5 @@
 -- The parts of a batch that count, and the deviations of each touch of their program over them (this profile).
-use Rattle.std.specs.Prelude.{◌≡◌, ◌⊎◌, ◌==◌, ℕ, ◌+◌, List, [], ◌∷◌, ◌++◌, length, map, ℤ, Option, Some, None, unwrap_or, if◌then◌else◌}
+use Rattle.std.specs.Prelude.{◌≡◌, ◌⊎◌, ◌==◌, ℕ, ◌+◌, max, List, [], ◌∷◌, ◌++◌, length, map, ℤ, Option, Some, None, unwrap_or, if◌then◌else◌}
 use Rattle.std.specs.List.{AllZip}
 use Rattle.deviations.specs.Limits.{range_for}
 use Rattle.deviations.specs.Rows.{IsRow, Place, Row, missing_places, places_of}
@@ -11,6 +11,7 @@ use Rattle.dme_orders.specs.OfRecords.{RefusesRecord}
 use Rattle.dme_orders.specs.Reading.{Came, ReadsRecord, WhyNoRecord}
 use Rattle.dme_orders.specs.Recorded.{IsOfProgram, features_in}
 use Rattle.order_parts.specs.declared.faults.FilesFault.{FilesFault}
+use Rattle.order_parts.specs.declared.faults.FilesFault.TheVariants as files
 use Rattle.part_summary.specs.Sums.{Tally, joined, tally_of}
 use Rattle.record_text.specs.Records.{Recorded}
 
@@ -97,13 +98,14 @@ abbrev pub unfinished_in : ℕ → List BatchPart → List UnfinishedPart
 unfinished_in asked [] = []
 unfinished_in asked (part ∷ parts) = named_if_unfinished asked part.name part.measured (unfinished_in asked parts)
 
--- what is kept of a batch
+-- what is kept of a batch; `worst` is the greatest exit status of what was refused, 0 if nothing was
 pub record Summed : Type 0 where
   pub program : Meaning
   pub limits : Option (List Limit)
   pub counted : ℕ
   pub tallies : List Tally
   pub unfinished : List UnfinishedPart
+  pub worst : ℕ
 
 -- this is kept of these parts, of which the last is first
 pub record IsSummary (s : Summed) (parts : List BatchPart) : Type 0 where
@@ -119,10 +121,28 @@ with_part s name measured alongs = record s {
   unfinished = named_if_unfinished (length s.program.features) name measured s.unfinished;
 }
 
+-- the exit status of a fault: 4 if memory ran out, else 1
+abbrev pub fault_status : FilesFault → ℕ
+fault_status files.Memory = 4
+fault_status _ = 1
+
+-- with one fault more: the greatest status stays
+abbrev pub with_fault : Summed → FilesFault → Summed
+with_fault s cause = record s { worst = max s.worst (fault_status cause) }
+
+-- the exit status: the greatest of what was refused; if nothing was, 3 if a part lacks a feature
+abbrev pub unfinished_status : List UnfinishedPart → ℕ
+unfinished_status [] = 0
+unfinished_status (part ∷ parts) = 3
+
+abbrev pub summary_status : Summed → ℕ
+summary_status s = if s.worst == 0 then unfinished_status s.unfinished else s.worst
+
 -- a record counts as one part more
 pub record Adds (file : List ℕ) (held : Option Recorded) (old new : Summed) : Type 0 where
   pub program : new.program ≡ old.program
   pub limits : new.limits ≡ old.limits
+  pub worst : new.worst ≡ old.worst
   pub part : BatchPart
   pub is : IsBatchPart old.program file held part
   pub sums : (parts : List BatchPart) → IsSummary old parts → IsSummary new (part ∷ parts)

@@ -2,4 +2,5 @@ pub mod Sums
 pub mod Batches
 pub mod Texts
 pub mod Tables
+pub mod Printed
 pub mod Examples

@@ -60,7 +60,6 @@ last_words = codes "In millimetres, along the normal. No fit and no other tolera
 unfoldable pub summary_text : ℕ → Summed → List ℕ
 summary_text named s = head_text [] named s ++ (touch_lines (touches_of s.program) s.tallies ++ last_words)
 
--- the exit status: 3 if a part lacks a feature
-abbrev pub summary_status : List UnfinishedPart → ℕ
-summary_status [] = 0
-summary_status (part ∷ parts) = 3
+-- the line for a record that does not count; why follows it
+unfoldable pub uncounted_line : List ℕ → List ℕ
+uncounted_line name = codes "dme: " ++ (name ++ codes " does not count:\n")

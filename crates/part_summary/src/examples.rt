@@ -3,7 +3,8 @@
 ghost use Rattle.std.specs.Prelude.{◌≡◌, ◌++◌, ◌∷◌, [], codes, decimal, pos, negsuc, Some, None};
 ghost use Rattle.fixed_um.specs.Written.{written};
 ghost use Rattle.deviations.specs.Rows.{Place};
-ghost use Rattle.part_summary.specs.Batches.{BatchPart, deviations_over, unfinished_in};
+ghost use Rattle.order_parts.specs.declared.faults.FilesFault.TheVariants as files;
+ghost use Rattle.part_summary.specs.Batches.{BatchPart, Summed, deviations_over, summary_status, unfinished_in, with_fault};
 ghost use Rattle.part_summary.specs.Examples.{part_with, small};
 ghost use Rattle.part_summary.specs.Sums.{greatest, least, mean, outside, sums_of, total};
 ghost use Rattle.part_summary.specs.Tables.{touch_fields};
@@ -68,4 +69,22 @@ pub fn touches_are_said()
         ∷ written (pos 1) ∷ written (pos 3) ∷ [] ∷ [] }
     ensures no_fields { touch_fields (codes "A") 1 small (sums_of small [])
         ≡ codes "A" ∷ decimal 1 ∷ codes "0" ∷ [] ∷ [] ∷ [] ∷ [] ∷ decimal 0 ∷ [] }
+{}
+
+/// The greatest status of what was refused goes before that of an unfinished part.
+pub fn statuses_have_their_order()
+    ensures none { (s : Summed)
+        → summary_status (record s { worst = 0; unfinished = [] }) ≡ 0 }
+    ensures lacking { (s : Summed) → summary_status (record s {
+      worst = 0;
+      unfinished =
+          record { name = codes "C"; measured = 1 } ∷ [];
+    }) ≡ 3 }
+    ensures refused { (s : Summed) → summary_status (with_fault (record s {
+      worst = 0;
+      unfinished =
+          record { name = codes "C"; measured = 1 } ∷ [];
+    }) (files.BadSeal 4)) ≡ 1 }
+    ensures full { (s : Summed) → summary_status (with_fault (with_fault (record s { worst = 0 })
+        files.Memory) files.NotOurs) ≡ 4 }
 {}

@@ -3,14 +3,17 @@
 //!
 //! - `sums`: what is kept of the deviations of a touch
 //! - `summary`: `Summary`, which counts records one after the other
-//! - `texts`: a summary as text; `tables`: as comma-separated values
+//! - `texts`: a summary as text; `tables`: as comma-separated values; `printed`: in a form
 //! - `examples`: batches that are written out
 #![tactic(auto)]
 
 pub mod examples;
+mod printed;
 mod summary;
 mod sums;
 mod tables;
 mod texts;
 
+pub use printed::{Form, Printed};
 pub use summary::Summary;
+pub use texts::uncounted_line;

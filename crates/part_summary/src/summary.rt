@@ -4,8 +4,7 @@ ghost use Rattle.std.specs.Prelude.{◌≡◌, [], length, IfOk, IfErr, OnOk, On
 ghost use Rattle.dme_orders.specs.Exporting.{RefusesFeatures};
 ghost use Rattle.dme_orders.specs.Reading.{came};
 ghost use Rattle.dme_orders.specs.Recorded.{features_in};
-ghost use Rattle.part_summary.specs.Batches.{Adds, Counts, IsSummary, WhyNotCounted, alongs_in, empty_tallies, joined_all, name_of, named_if_unfinished, places_in, range_at, touches_of, with_part};
-ghost use Rattle.part_summary.specs.Texts.{summary_status};
+ghost use Rattle.part_summary.specs.Batches.{Adds, Counts, IsSummary, WhyNotCounted, alongs_in, empty_tallies, fault_status, joined_all, name_of, named_if_unfinished, places_in, range_at, summary_status, touches_of, with_fault, with_part};
 
 use crate::sums::Tally;
 use byte_ports::Source;
@@ -43,6 +42,7 @@ pub struct Summary<'a> {
     pub(crate) counted: u64,
     pub(crate) tallies: Vec<Tally>,
     pub(crate) unfinished: Vec<Unfinished>,
+    worst: u8,
 }
 
 impl<'a> Model for Summary<'a> {
@@ -56,6 +56,7 @@ impl<'a> Model for Summary<'a> {
       counted = s.counted;
       tallies = s.tallies.items;
       unfinished = s.unfinished.items;
+      worst = s.worst;
     } };
 }
 
@@ -140,6 +141,16 @@ fn name_of<'a>(file: &'a str, held: &'a Option<Record>) -> &'a [u8]
     }
 }
 
+/// The exit status of a fault.
+fn fault_status(fault: &FilesFault) -> u8
+    ensures { result ≡ fault_status fault.now }
+{
+    match fault {
+        FilesFault::Memory => 4,
+        _ => 1,
+    }
+}
+
 impl<'a> Summary<'a> {
     /// A summary of no part, for records of a program, with limits for its features if there are any. Fails only if out of memory.
     pub fn new(
@@ -150,6 +161,7 @@ impl<'a> Summary<'a> {
         ensures program { IfOk result (λ s. s.program ≡ program.now) }
         ensures limits { IfOk result (λ s. s.limits ≡ limits.now) }
         ensures none { IfOk result (λ s. IsSummary s []) }
+        ensures best { IfOk result (λ s. s.worst ≡ 0) }
     {
         let rows = open_rows(alloc, program)?;
         let tallies = empty_tallies(alloc, limits, rows.as_slice())?;
@@ -160,6 +172,7 @@ impl<'a> Summary<'a> {
             counted: 0,
             tallies,
             unfinished: Vec::new(alloc),
+            worst: 0,
         })
     }
 
@@ -209,11 +222,9 @@ impl<'a> Summary<'a> {
         Ok(())
     }
 
-    /// Reads the record of a part to the end of its text, and counts it. The part is called by its record, or as this file if the record
-    /// names none; a record that is not begun is that of a part without any feature. A record that is damaged, or cannot be read, or is
-    /// of another program does not count, and changes nothing. Four thousand million parts count; more are called out of memory.
+    /// Reads the record of a part, and counts it.
     #[tactic(auto, using(crate::proofs::Reasons::counts, crate::proofs::Reasons::stranger))]
-    pub fn add<S: Source>(&mut self, file: &str, source: &mut S) -> Result<(), FilesFault>
+    fn read<S: Source>(&mut self, file: &str, source: &mut S) -> Result<(), FilesFault>
         ensures counts { OnOk result (Counts (came S.left S.has_failed source.old source.new)
             file.now self.old self.new) }
         ensures refused { IfErr result (WhyNotCounted
@@ -225,13 +236,39 @@ impl<'a> Summary<'a> {
         self.count(file, &held)
     }
 
-    /// The exit status: 3 if a part lacks a feature, else 0.
-    pub fn status(&self) -> u8
-        ensures { result ≡ summary_status self.now.unfinished }
+    /// Keeps the exit status of a fault, if it is the greatest so far.
+    pub fn blame(&mut self, fault: &FilesFault)
+        ensures { self.new ≡ with_fault self.old fault.now }
     {
-        match self.unfinished.as_slice() {
-            [] => 0,
-            [_, ..] => 3,
+        self.worst = self.worst.max(fault_status(fault));
+    }
+
+    /// Reads the record of a part to the end of its text, and counts it. The part is called by its record, or as this file if the record
+    /// names none; a record that is not begun is that of a part without any feature. A record that is damaged, or cannot be read, or is
+    /// of another program does not count, and changes nothing but the exit status. Four thousand million parts count; more are called out
+    /// of memory.
+    pub fn add<S: Source>(&mut self, file: &str, source: &mut S) -> Result<(), FilesFault>
+        ensures counts { OnOk result (Counts (came S.left S.has_failed source.old source.new)
+            file.now self.old self.new) }
+        ensures refused { IfErr result (WhyNotCounted
+            (came S.left S.has_failed source.old source.new) self.old.program) }
+        ensures blamed { IfErr result (λ cause. self.new ≡ with_fault self.old cause) }
+    {
+        let counted = self.read(file, source);
+        if let Err(fault) = &counted {
+            self.blame(fault);
+        }
+        counted
+    }
+
+    /// The exit status: the greatest of what was blamed; if nothing was, 3 if a part lacks a feature, else 0.
+    pub fn status(&self) -> u8
+        ensures { result ≡ summary_status self.now }
+    {
+        match (self.worst, self.unfinished.as_slice()) {
+            (0, []) => 0,
+            (0, [_, ..]) => 3,
+            (worst, _) => worst,
         }
     }
 }

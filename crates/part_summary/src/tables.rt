@@ -147,7 +147,7 @@ impl<'a> Summary<'a> {
     /// The summary as comma-separated values (RFC 4180): a header, and a record for each touch of the program, whose fields are empty if it
     /// has no deviation, the last one if no limit is for its feature. Lines end with LF. Fails only if out of memory.
     #[tactic(auto, unfolding(crate::specs::Tables::table_text))]
-    pub fn table(&self, alloc: Global) -> Result<Vec<u8>, AllocError>
+    pub(crate) fn table(&self, alloc: Global) -> Result<Vec<u8>, AllocError>
         ensures { IfOk result (λ text. text.items ≡ table_text self.now) }
     {
         let rows = open_rows(alloc, self.program)?;

@@ -3,7 +3,7 @@
 ghost use Rattle.std.specs.Prelude.{◌≡◌, ◌++◌, [], length, OnOk, IfOk, string_bytes};
 ghost use Rattle.std.specs.List.{flat_map};
 ghost use Rattle.part_summary.specs.Batches.{places_in};
-ghost use Rattle.part_summary.specs.Texts.{few_words, head_text, high_words, low_words, out_words, start_words, summary_text, sums_words, tally_words, touch_line, touch_lines, unfinished_line};
+ghost use Rattle.part_summary.specs.Texts.{few_words, head_text, high_words, low_words, out_words, start_words, summary_text, sums_words, tally_words, touch_line, touch_lines, uncounted_line, unfinished_line};
 
 use crate::summary::{Summary, Unfinished, open_rows};
 use crate::sums::{Sums, Tally};
@@ -137,11 +137,24 @@ fn push_all_unfinished(
     Ok(())
 }
 
+/// The line for a record of this name that does not count; why follows it. Fails only if out of memory.
+#[tactic(auto, unfolding(crate::specs::Texts::uncounted_line))]
+pub fn uncounted_line(alloc: Global, name: &str) -> Result<String, AllocError>
+    ensures { IfOk result (λ text. string_bytes text ≡ uncounted_line name.now) }
+{
+    format!(in alloc; "dme: {name} does not count:\n")
+}
+
 impl<'a> Summary<'a> {
     /// How many records count of how many that were named, and a line for each part that lacks a feature, as
     /// `unfinished: 0042/7: 1 of 2 features`; each line after these bytes. Fails only if out of memory.
     #[tactic(auto, unfolding(crate::specs::Texts::head_text))]
-    pub fn head(&self, alloc: Global, before: &str, named: usize) -> Result<Vec<u8>, AllocError>
+    pub(crate) fn head(
+        &self,
+        alloc: Global,
+        before: &str,
+        named: usize,
+    ) -> Result<Vec<u8>, AllocError>
         ensures { IfOk result (λ text. text.items ≡ head_text before.now named self.now) }
     {
         let counted = self.counted;
@@ -156,7 +169,7 @@ impl<'a> Summary<'a> {
     /// `BORE 1: count 3, least -0.012, mean 0.001, greatest 0.021, range 0.033, out 1`, and what was not evaluated. Fails only if out of
     /// memory.
     #[tactic(auto, unfolding(crate::specs::Texts::summary_text, crate::specs::Texts::last_words))]
-    pub fn text(&self, alloc: Global, named: usize) -> Result<Vec<u8>, AllocError>
+    pub(crate) fn text(&self, alloc: Global, named: usize) -> Result<Vec<u8>, AllocError>
         ensures { IfOk result (λ text. text.items ≡ summary_text named self.now) }
     {
         let rows = open_rows(alloc, self.program)?;
