@@ -32,7 +32,7 @@ _dme()
         run) options="--machine --setup --host --port --window --features --record --records --part --operator --seal-key --contacts --progress --trace --log --timeout --wait --stop --confirm --pause --explain" ;;
         export) options="--as --setup --features --record --limits --explain" ;;
         report) options="--record --setup --limits --explain" ;;
-        summary) options="--as --setup --limits --program" ;;
+        summary) options="--as --setup --limits --seal-key --program" ;;
         review) options="--as --setup" ;;
         lower) options="--setup --no-clearing --compensated --skip-manual --stored-frames --explain" ;;
         ledger) options="--up --down --connection" ;;

@@ -55,6 +55,7 @@ pub use orders::check_under_setup;
 pub use preparing::setup_and_program;
 pub use reading::{
     named_limits, named_setup, program_under, read_key, read_machine, read_setup, record_from,
+    sealed_from,
 };
 pub use reporting::report_record;
 pub use reviewing::review_program;

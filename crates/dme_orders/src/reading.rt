@@ -148,7 +148,7 @@ fn check_seals(alloc: Global, key: &Option<Vec<u8>>, text: &[u8]) -> Result<(), 
 }
 
 /// The record that a source gives, if it is begun; with a key its seals stand for each of its lines.
-pub(crate) fn sealed_from<S: Source>(
+pub fn sealed_from<S: Source>(
     alloc: Global,
     key: &Option<Vec<u8>>,
     source: &mut S,

@@ -2,13 +2,14 @@
 
 use crate::explaining::refused;
 use crate::files::{NamedSource, Sources, file_of};
+use crate::running::key_of;
 use byte_ports::{Writing, push_all};
 use deviations::Limits;
 use dme_orders::{
     ExportFiles, Exported, RecordFiles, RecordText, explain, export_files, export_record,
     named_limits, named_setup, program_under, report_record,
 };
-use dme_words::{BatchSummary, Export, PartReport, RecordExport, RecordForm};
+use dme_words::{BatchSummary, Export, PartReport, RecordExport, RecordForm, SummaryForm};
 use dmis_program::Program;
 use order_parts::FilesFault;
 use part_summary::{Form, Summary, uncounted_line};
@@ -174,10 +175,23 @@ fn print_summary(
     Ok(summary.status())
 }
 
+/// How a summary is printed.
+fn summary_form(form: SummaryForm) -> Form {
+    match form {
+        SummaryForm::Text => Form::Text,
+        SummaryForm::Csv => Form::Csv,
+    }
+}
+
 /// The order `summary`: its exit status.
 #[inline(never)]
 pub fn summary_of_records(rt: HostRuntime, order: BatchSummary) -> Result<u8, AllocError> {
     let mut sources = Sources::new(rt, false);
+    let key = sources.maybe(order.seal_key);
+    let key = match key_of(rt, key, false) {
+        Ok(key) => key,
+        Err(status) => return Ok(status),
+    };
     let mut limits = sources.maybe(order.limits);
     let mut setup = sources.maybe(order.setup);
     let mut program = sources.file(order.program);
@@ -192,15 +206,14 @@ pub fn summary_of_records(rt: HostRuntime, order: BatchSummary) -> Result<u8, Al
         Ok(read) => read,
         Err(fault) => return Ok(refused(rt, fault, files, false)),
     };
-    let mut summary = Summary::new(rt.alloc(), &program, &limits)?;
+    let mut summary = Summary::new(rt.alloc(), &program, &limits, &key)?;
     let named = order.records.len();
     for record in order.records {
         let name = record.clone()?;
         let source = sources.file(record);
         add_record(rt, &mut summary, name.as_str(), source)?;
     }
-    let form = if order.is_csv { Form::Csv } else { Form::Text };
-    print_summary(rt, &mut summary, form, named)
+    print_summary(rt, &mut summary, summary_form(order.form), named)
 }
 
 /// The order `explain`: its exit status.

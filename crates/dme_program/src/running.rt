@@ -264,7 +264,7 @@ fn audit(rt: HostRuntime, order: Audit) -> u8 {
 }
 
 /// The key of this name, if one is named; if it is refused, standard error shows why, and this is the exit status.
-fn key_of(
+pub fn key_of(
     rt: HostRuntime,
     source: Option<NamedSource>,
     is_explained: bool,

@@ -129,10 +129,10 @@ report_line = line_of (codes "report") (needed_rule (codes "record") ∷ text_ru
 abbrev pub records_rule : Rule
 records_rule = record (new_rule (codes "RECORD")) { required = true; action = Some Append }
 
--- `summary [--as FORM] [--setup FILE] [--limits FILE] [--program FILE] RECORD ..`
+-- `summary [--as FORM] [--setup FILE] [--limits FILE] [--seal-key FILE] [--program FILE] RECORD ..`
 abbrev pub summary_line : App
 summary_line = line_of (codes "summary") (text_rule (codes "as") ∷ text_rule (codes "setup") ∷ text_rule (codes "limits")
-    ∷ text_rule (codes "program") ∷ records_rule ∷ [])
+    ∷ text_rule (codes "seal-key") ∷ text_rule (codes "program") ∷ records_rule ∷ [])
 
 -- the command without its subcommands, of which one is required
 abbrev pub bare_line : App

@@ -34,6 +34,8 @@ use Rattle.dme_words.specs.declared.orders.PartReport.{PartReport}
 use Rattle.dme_words.specs.declared.orders.RecordAudit.{RecordAudit}
 use Rattle.dme_words.specs.declared.orders.RecordExport.{RecordExport}
 use Rattle.dme_words.specs.declared.orders.RecordForm.{RecordForm}
+use Rattle.dme_words.specs.declared.orders.SummaryForm.{SummaryForm}
+use Rattle.dme_words.specs.declared.orders.SummaryForm.TheVariants as summary
 use Rattle.dme_words.specs.declared.orders.RecordForm.TheVariants.{Table, Features, Contacts}
 use Rattle.dme_words.specs.declared.orders.Review.{Review}
 use Rattle.dme_words.specs.declared.orders.Run.{Run}
@@ -284,15 +286,16 @@ IsReportOf rows o =
     × IsProgramOf rows (string_bytes o.program)
 
 -- a summary is printed as comma-separated values if that is the named form, as text if it is that or none is named
-abbrev pub IsSummaryFormOf : List Row → Bool → Type 0
-IsSummaryFormOf rows true = IsValueOf (codes "as") rows (codes "csv")
-IsSummaryFormOf rows false = HasNone (codes "as") rows ⊎ IsValueOf (codes "as") rows (codes "text")
+abbrev pub IsSummaryFormOf : List Row → SummaryForm → Type 0
+IsSummaryFormOf rows summary.Csv = IsValueOf (codes "as") rows (codes "csv")
+IsSummaryFormOf rows summary.Text = HasNone (codes "as") rows ⊎ IsValueOf (codes "as") rows (codes "text")
 
--- a summary of the named records, in their order, under the named program and the named setup and limits, each if one is named
+-- a summary of the named records, in their order, under the named program and the named setup, limits and key of seals, each if one is named
 abbrev pub IsSummaryOf : List Row → BatchSummary → Type 0
 IsSummaryOf rows o =
-    IsSummaryFormOf rows o.is_csv × IsMaybeOf (codes "setup") rows (option_map string_bytes o.setup)
-    × IsMaybeOf (codes "limits") rows (option_map string_bytes o.limits) × IsValueOrInput (codes "program") rows (string_bytes o.program)
+    IsSummaryFormOf rows o.form × IsMaybeOf (codes "setup") rows (option_map string_bytes o.setup)
+    × IsMaybeOf (codes "limits") rows (option_map string_bytes o.limits)
+    × IsMaybeOf (codes "seal-key") rows (option_map string_bytes o.seal_key) × IsValueOrInput (codes "program") rows (string_bytes o.program)
     × (map string_bytes o.records.items ≡ unwrap_or (all_of (codes "RECORD") rows) [])
 
 -- the order of a subcommand with its values, by its name

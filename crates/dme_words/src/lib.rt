@@ -18,7 +18,7 @@ pub mod words;
 pub use misfits::{Lacks, Misfit};
 pub use orders::{
     Audit, BatchSummary, Check, Export, Judge, Ledger, Loop, Lower, Order, PartReport, RecordAudit,
-    RecordExport, RecordForm, Review, Run, Service, Simulation, Watch,
+    RecordExport, RecordForm, Review, Run, Service, Simulation, SummaryForm, Watch,
 };
 pub use version::{COMMIT, TOOLCHAIN, VERSION};
 pub use words::{WordsFault, read_words};

@@ -394,6 +394,7 @@ const LATER_LINES: [Line; 9] = [
             Text("as", "FORM", SUMMARY_FORM_HELP),
             SETUP,
             Text("limits", "FILE", LIMITS_HELP),
+            SEAL_KEY,
             Text("program", "FILE", RUN_PROGRAM_HELP),
             Words("RECORD", RECORDS_HELP),
         ],

@@ -322,15 +322,26 @@ pub struct PartReport {
     pub program: String,
 }
 
+/// The form of a summary.
+#[derive(Clone, Copy, Debug, PartialEq, Eq)]
+pub enum SummaryForm {
+    /// Text.
+    Text,
+    /// Comma-separated values.
+    Csv,
+}
+
 /// The values of `summary`.
 #[derive(Debug, Drop)]
 pub struct BatchSummary {
-    /// Whether comma-separated values are printed, or a text.
-    pub is_csv: bool,
+    /// What is printed.
+    pub form: SummaryForm,
     /// The file of the machine's setup, whose frames the program may recall; `-` is standard input.
     pub setup: Option<String>,
     /// The file of the limits that the points are compared with; `-` is standard input.
     pub limits: Option<String>,
+    /// The file of the key of the records' seals, if they are to stand for all of them; `-` is standard input.
+    pub seal_key: Option<String>,
     /// The file of the program; `-` is standard input.
     pub program: String,
     /// The files of the records; `-` is standard input.

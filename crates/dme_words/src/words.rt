@@ -13,7 +13,7 @@ use crate::line::whole_command;
 use crate::misfits::{Lacks, Misfit};
 use crate::orders::{
     Audit, BatchSummary, Check, Export, Judge, Ledger, Loop, Lower, Order, PartReport, RecordAudit,
-    RecordExport, RecordForm, Review, Run, Service, Simulation, Watch,
+    RecordExport, RecordForm, Review, Run, Service, Simulation, SummaryForm, Watch,
 };
 use clap::error::ErrorKind;
 use clap::parser::ValueSource;
@@ -715,14 +715,14 @@ fn report_order(alloc: Global, values: &ArgMatches) -> Result<PartReport, AllocE
     })
 }
 
-/// Whether a summary is printed as comma-separated values.
-fn is_csv(alloc: Global, values: &ArgMatches) -> Result<bool, WordsFault>
+/// The form of a summary: text if none is named.
+fn summary_form(alloc: Global, values: &ArgMatches) -> Result<SummaryForm, WordsFault>
     ensures named { IfOk result (IsSummaryFormOf (rows_of (found_of values.now))) }
     ensures none { IfErr result (HasNoSummary (rows_of (found_of values.now))) }
 {
     match value_of(values, "as") {
-        None | Some("text") => Ok(false),
-        Some("csv") => Ok(true),
+        None | Some("text") => Ok(SummaryForm::Text),
+        Some("csv") => Ok(SummaryForm::Csv),
         Some(word) => Err(WordsFault::NoSummaryForm(String::from_str(alloc, word)?)),
     }
 }
@@ -764,9 +764,10 @@ fn summary_order(alloc: Global, values: &ArgMatches) -> Result<BatchSummary, Wor
     ensures none { IfErr result (HasNoSummary (rows_of (found_of values.now))) }
 {
     Ok(BatchSummary {
-        is_csv: is_csv(alloc, values)?,
+        form: summary_form(alloc, values)?,
         setup: copied_maybe(alloc, values, "setup")?,
         limits: copied_maybe(alloc, values, "limits")?,
+        seal_key: copied_maybe(alloc, values, "seal-key")?,
         program: copied_or_input(alloc, values, "program")?,
         records: copied_all(alloc, values, "RECORD")?,
     })

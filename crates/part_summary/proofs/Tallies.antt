@@ -90,6 +90,7 @@ adds file held rows old new are is = subst (λ (s : Summed). Adds file held old 
     record {
       program = refl;
       limits = refl;
+      key = refl;
       worst = refl;
       part = part;
       is = record { rows = rows; are = are; name = refl; measured = refl; alongs = refl };

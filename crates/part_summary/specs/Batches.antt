@@ -8,7 +8,7 @@ use Rattle.deviations.specs.declared.ranges.Range.{Range}
 use Rattle.dmis_program.specs.Meaning.{Meaning}
 use Rattle.dme_orders.specs.Exporting.{RefusesFeatures}
 use Rattle.dme_orders.specs.OfRecords.{RefusesRecord}
-use Rattle.dme_orders.specs.Reading.{Came, ReadsRecord, WhyNoRecord}
+use Rattle.dme_orders.specs.Reading.{Came, IsSealed, Reads, ReadsRecord, WhyNoSealed}
 use Rattle.dme_orders.specs.Recorded.{IsOfProgram, features_in}
 use Rattle.order_parts.specs.declared.faults.FilesFault.{FilesFault}
 use Rattle.order_parts.specs.declared.faults.FilesFault.TheVariants as files
@@ -98,10 +98,11 @@ abbrev pub unfinished_in : ℕ → List BatchPart → List UnfinishedPart
 unfinished_in asked [] = []
 unfinished_in asked (part ∷ parts) = named_if_unfinished asked part.name part.measured (unfinished_in asked parts)
 
--- what is kept of a batch; `worst` is the greatest exit status of what was refused, 0 if nothing was
+-- what is kept of a batch; `key` is that of the seals, if they are checked; `worst` is the greatest exit status of what was refused, 0 if nothing was
 pub record Summed : Type 0 where
   pub program : Meaning
   pub limits : Option (List Limit)
+  pub key : Option (List ℕ)
   pub counted : ℕ
   pub tallies : List Tally
   pub unfinished : List UnfinishedPart
@@ -142,16 +143,18 @@ summary_status s = if s.worst == 0 then unfinished_status s.unfinished else s.wo
 pub record Adds (file : List ℕ) (held : Option Recorded) (old new : Summed) : Type 0 where
   pub program : new.program ≡ old.program
   pub limits : new.limits ≡ old.limits
+  pub key : new.key ≡ old.key
   pub worst : new.worst ≡ old.worst
   pub part : BatchPart
   pub is : IsBatchPart old.program file held part
   pub sums : (parts : List BatchPart) → IsSummary old parts → IsSummary new (part ∷ parts)
 
 module _ {S : Type 0} (j : Came S) where
-  -- a record was read from a source, is of the program, and counts
+  -- a record was read from a source, is sealed if seals are checked, is of the program, and counts
   pub record Counts (file : List ℕ) (old new : Summed) : Type 0 where
     pub held : Option Recorded
     pub read : ReadsRecord j held
+    pub sealed : Reads j (IsSealed old.key)
     pub same : IsOfProgram held old.program
     pub adds : Adds file held old new
 
@@ -161,6 +164,6 @@ module _ {S : Type 0} (j : Came S) where
     pub read : ReadsRecord j held
     pub why : RefusesRecord held program cause ⊎ RefusesFeatures program (features_in held) cause
 
-  -- why a record does not count: it is damaged, was not read to its end, or is not of the program
-  abbrev pub WhyNotCounted : Meaning → FilesFault → Type 0
-  WhyNotCounted program cause = WhyNoRecord j cause ⊎ IsStranger program cause
+  -- why a record does not count: it is damaged, was not read to its end, is not sealed, or is not of the program
+  abbrev pub WhyNotCounted : Option (List ℕ) → Meaning → FilesFault → Type 0
+  WhyNotCounted key program cause = WhyNoSealed j key cause ⊎ IsStranger program cause

@@ -1,6 +1,6 @@
 // A summary, which counts records one after the other.
 
-ghost use Rattle.std.specs.Prelude.{◌≡◌, [], length, IfOk, IfErr, OnOk, OnErr};
+ghost use Rattle.std.specs.Prelude.{◌≡◌, [], length, option_map, IfOk, IfErr, OnOk, OnErr};
 ghost use Rattle.dme_orders.specs.Exporting.{RefusesFeatures};
 ghost use Rattle.dme_orders.specs.Reading.{came};
 ghost use Rattle.dme_orders.specs.Recorded.{features_in};
@@ -10,7 +10,7 @@ use crate::sums::Tally;
 use byte_ports::Source;
 use contact_ledger::Feature;
 use deviations::{Limits, Range, Row, rows_of};
-use dme_orders::{of_program, record_from};
+use dme_orders::{of_program, sealed_from};
 use dmis_program::Program;
 use order_parts::FilesFault;
 use record_text::Record;
@@ -39,6 +39,7 @@ pub struct Summary<'a> {
     alloc: Global,
     pub(crate) program: &'a Program,
     limits: &'a Option<Limits>,
+    key: &'a Option<Vec<u8>>,
     pub(crate) counted: u64,
     pub(crate) tallies: Vec<Tally>,
     pub(crate) unfinished: Vec<Unfinished>,
@@ -46,6 +47,7 @@ pub struct Summary<'a> {
 }
 
 impl<'a> Model for Summary<'a> {
+    ghost use Rattle.std.specs.Prelude.{option_map};
     ghost use Rattle.part_summary.specs.Batches.{Summed};
 
     ghost Value = { Summed };
@@ -53,6 +55,7 @@ impl<'a> Model for Summary<'a> {
     ghost view = { λ s. record {
       program = s.program.now;
       limits = s.limits.now;
+      key = option_map (λ key. key.items) s.key.now;
       counted = s.counted;
       tallies = s.tallies.items;
       unfinished = s.unfinished.items;
@@ -152,14 +155,17 @@ fn fault_status(fault: &FilesFault) -> u8
 }
 
 impl<'a> Summary<'a> {
-    /// A summary of no part, for records of a program, with limits for its features if there are any. Fails only if out of memory.
+    /// A summary of no part, for records of a program, with limits for its features if there are any, and with the key of their seals if
+    /// these are to be checked. Fails only if out of memory.
     pub fn new(
         alloc: Global,
         program: &'a Program,
         limits: &'a Option<Limits>,
+        key: &'a Option<Vec<u8>>,
     ) -> Result<Summary<'a>, AllocError>
         ensures program { IfOk result (λ s. s.program ≡ program.now) }
         ensures limits { IfOk result (λ s. s.limits ≡ limits.now) }
+        ensures key { IfOk result (λ s. s.key ≡ option_map (λ key. key.items) key.now) }
         ensures none { IfOk result (λ s. IsSummary s []) }
         ensures best { IfOk result (λ s. s.worst ≡ 0) }
     {
@@ -169,6 +175,7 @@ impl<'a> Summary<'a> {
             alloc,
             program,
             limits,
+            key,
             counted: 0,
             tallies,
             unfinished: Vec::new(alloc),
@@ -228,10 +235,10 @@ impl<'a> Summary<'a> {
         ensures counts { OnOk result (Counts (came S.left S.has_failed source.old source.new)
             file.now self.old self.new) }
         ensures refused { IfErr result (WhyNotCounted
-            (came S.left S.has_failed source.old source.new) self.old.program) }
+            (came S.left S.has_failed source.old source.new) self.old.key self.old.program) }
         ensures same { OnErr result (self.new ≡ self.old) }
     {
-        let held = record_from(self.alloc, source)?;
+        let held = sealed_from(self.alloc, self.key, source)?;
         of_program(self.alloc, &held, self.program)?;
         self.count(file, &held)
     }
@@ -245,13 +252,13 @@ impl<'a> Summary<'a> {
 
     /// Reads the record of a part to the end of its text, and counts it. The part is called by its record, or as this file if the record
     /// names none; a record that is not begun is that of a part without any feature. A record that is damaged, or cannot be read, or is
-    /// of another program does not count, and changes nothing but the exit status. Four thousand million parts count; more are called out
-    /// of memory.
+    /// of another program does not count, nor does one of which no seal of the key stands for a line; it changes nothing but the exit
+    /// status. Four thousand million parts count; more are called out of memory.
     pub fn add<S: Source>(&mut self, file: &str, source: &mut S) -> Result<(), FilesFault>
         ensures counts { OnOk result (Counts (came S.left S.has_failed source.old source.new)
             file.now self.old self.new) }
         ensures refused { IfErr result (WhyNotCounted
-            (came S.left S.has_failed source.old source.new) self.old.program) }
+            (came S.left S.has_failed source.old source.new) self.old.key self.old.program) }
         ensures blamed { IfErr result (λ cause. self.new ≡ with_fault self.old cause) }
     {
         let counted = self.read(file, source);
