@@ -14,7 +14,7 @@ _dme()
         --as)
             options="csv json svg features contacts"
             [[ ${COMP_WORDS[1]} == review ]] && options=json
-            [[ ${COMP_WORDS[1]} == summary ]] && options="text csv"
+            [[ ${COMP_WORDS[1]} == summary ]] && options="text csv html"
             mapfile -t COMPREPLY < <(compgen -W "$options" -- "$word")
             return ;;
         --host | --listen)

@@ -2,8 +2,8 @@
 
 The connection of one run breaks and one run is killed: the same call again measures the rest. One part is never finished, and one is off by
 0.030 mm at each third touch. Then each part has its record under its name in the folder of records; its page says what is missing and what is
-out of limits; and the summary of all, of one unfinished part, has the figures that are computed here from the tables of the parts, as a table
-and as text. Each record is sealed: each of its seals is the HMAC that Python gives, the audit with the key accepts it, and refuses it once a
+out of limits; and the summary of all, of one unfinished part, has the figures that are computed here from the tables of the parts, as a table,
+as text and as a page, whose charts have each part at its place in time. Each record is sealed: each of its seals is the HMAC that Python gives, the audit with the key accepts it, and refuses it once a
 point is edited or the last seal is taken away.
 
 `run` calls this; by itself: tests/batch.py
@@ -13,6 +13,7 @@ import csv
 import fractions
 import hashlib
 import hmac
+import html.parser
 import io
 import json
 import pathlib
@@ -25,6 +26,7 @@ import threading
 from growths import Wrong, must
 from killed import dme, program
 from listening import free_port
+from pages_of_parts import FOREIGN, micrometres
 from watched import ended, listening
 
 PARTS = 30
@@ -154,6 +156,79 @@ def check_seals(folder, number):
     path.write_bytes(text)
 
 
+class Page(html.parser.HTMLParser):
+    """The page of a summary: its lines with their classes, and for each heading its table and the paths and the box of its chart."""
+
+    def __init__(self, text):
+        super().__init__(convert_charrefs=True)
+        self.lines, self.parts, self.foreign, self.text = [], [], [], ""
+        self.feed(text)
+        self.close()
+
+    def handle_starttag(self, tag, attributes):
+        given, self.text = dict(attributes), ""
+        self.foreign += [tag] if tag in FOREIGN or any(it in ("src", "href", "style") or it.startswith("on") for it in given) else []
+        if tag == "p":
+            self.lines.append([given.get("class"), ""])
+        if tag == "h2":
+            self.parts.append({"heading": "", "rows": [], "paths": [], "box": None})
+        if tag == "tr":
+            self.parts[-1]["rows"].append([])
+        if tag == "svg":
+            self.parts[-1]["box"] = given["viewbox"].split()
+        if tag == "path":
+            self.parts[-1]["paths"].append([given.get("class"), given["d"], None])
+
+    def handle_endtag(self, tag):
+        if tag == "p":
+            self.lines[-1][1] = self.text
+        if tag == "h2":
+            self.parts[-1]["heading"] = self.text
+        if tag == "td":
+            self.parts[-1]["rows"][-1].append(self.text)
+        if tag == "title" and self.parts:
+            self.parts[-1]["paths"][-1][2] = self.text
+        self.text = ""
+
+    def handle_data(self, data):
+        self.text += data
+
+
+def opened(folder, number):
+    """When the first connection of a part was made."""
+    return next(it for it in (folder / record_of(number)).read_text().splitlines() if " OPENED " in it).split()[2]
+
+
+def check_chart(part, feature, tables, order):
+    """Each part that has the feature has its stroke, at its place in time, and all of the chart is in its box."""
+    expected = [["zero", f"M0 0.000H{PARTS + 1}", None], *(["limit", f"M0 {length(it)}H{PARTS + 1}", None] for it in (LEAST, MOST))]
+    for place, number in enumerate(order, 1):
+        values = [int(value * 1000) for (label, _), value in tables[number - 1].items() if label == feature and value is not None]
+        if values:
+            expected.append([None, f"M{place} {length(min(values))}V{length(max(values))}", name_of(number)])
+    must(part["paths"] == expected, "the chart of", feature, part["paths"])
+    left, top, width, height = part["box"]
+    seen = [micrometres(it) for _, path, _ in expected for it in path.split(" ")[1].partition("H")[0].split("V")]
+    must(left == "0" and int(width) == PARTS + 1, "the width of a chart")
+    must(-micrometres(top) - micrometres(height) < min(seen) <= max(seen) < -micrometres(top), "the box of", feature, part["box"])
+
+
+def check_summary_page(folder, words, records, tables, expected):
+    status, text, errors = ended(dme(folder, *words, "--seal-key", "cell.key", "--as", "html", *records))
+    page = Page(text)
+    must(status == 3 and not page.foreign and len(errors.splitlines()) == 2, "the page", status, errors, page.foreign)
+    out, points = sum(int(it[-1]) for it in expected), sum(int(it[2]) for it in expected)
+    starts = ["yes", "no", "no", "yes", None]
+    must([it[0] for it in page.lines[:5]] == starts and f"{out} of {points} compared" in page.lines[2][1], "the lines of the page", page.lines[:5])
+    must(name_of(UNFINISHED) in page.lines[1][1], "the unfinished part of the page")
+    order = sorted(range(1, PARTS + 1), key=lambda it: opened(folder, it))
+    *features, parts = page.parts
+    must([[it["heading"], *row] for it in features for row in it["rows"] if row] == expected, "the figures of the page")
+    for it in features:
+        check_chart(it, it["heading"], tables, order)
+    must([row[:3] for row in parts["rows"] if row] == [[str(at), name_of(it), opened(folder, it)] for at, it in enumerate(order, 1)], "the parts")
+
+
 def check_summary(folder):
     tables = [table_of(folder, number) for number in range(1, PARTS + 1)]
     expected = [[feature, str(touch), *figures([it[feature, touch] for it in tables])] for feature, touch in tables[0]]
@@ -161,6 +236,7 @@ def check_summary(folder):
     records = [record_of(number) for number in range(1, PARTS + 1)]
     status, text, errors = ended(dme(folder, *words, "--as", "csv", *records))
     must(status == 3 and list(csv.reader(io.StringIO(text)))[1:] == expected, "the table of the summary", status, errors)
+    check_summary_page(folder, words, records[::-1], tables, expected)
     status, text, errors = ended(dme(folder, *words, *records))
     lines = text.splitlines()
     must(status == 3 and lines[0] == f"{PARTS} of {PARTS} records count", "the summary", status, errors)

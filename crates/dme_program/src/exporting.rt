@@ -164,9 +164,10 @@ fn print_summary(
     rt: HostRuntime,
     summary: &mut Summary<'_>,
     form: Form,
+    program: &str,
     named: usize,
 ) -> Result<u8, AllocError> {
-    let printed = summary.printed(rt.alloc(), form, named)?;
+    let printed = summary.printed(rt.alloc(), form, program, named)?;
     let _ = rt.stderr().write_all(printed.notes.as_slice());
     if push_all(&mut Writing::new(io::writer(&rt)), printed.text.as_slice()).is_err() {
         summary.blame(&FilesFault::Write);
@@ -180,6 +181,7 @@ fn summary_form(form: SummaryForm) -> Form {
     match form {
         SummaryForm::Text => Form::Text,
         SummaryForm::Csv => Form::Csv,
+        SummaryForm::Html => Form::Html,
     }
 }
 
@@ -194,6 +196,7 @@ pub fn summary_of_records(rt: HostRuntime, order: BatchSummary) -> Result<u8, Al
     };
     let mut limits = sources.maybe(order.limits);
     let mut setup = sources.maybe(order.setup);
+    let program_name = order.program.clone()?;
     let mut program = sources.file(order.program);
     let read = summed_program(rt, &mut limits, &mut setup, &mut program);
     let files = InputFiles {
@@ -213,7 +216,8 @@ pub fn summary_of_records(rt: HostRuntime, order: BatchSummary) -> Result<u8, Al
         let source = sources.file(record);
         add_record(rt, &mut summary, name.as_str(), source)?;
     }
-    print_summary(rt, &mut summary, summary_form(order.form), named)
+    let form = summary_form(order.form);
+    print_summary(rt, &mut summary, form, program_name.as_str(), named)
 }
 
 /// The order `explain`: its exit status.

@@ -285,9 +285,10 @@ IsReportOf rows o =
     × IsMaybeOf (codes "limits") rows (option_map string_bytes o.limits) × IsExplainedOf rows o.explain
     × IsProgramOf rows (string_bytes o.program)
 
--- a summary is printed as comma-separated values if that is the named form, as text if it is that or none is named
+-- a summary is printed as comma-separated values or as a page if that is the named form, as text if it is that or none is named
 abbrev pub IsSummaryFormOf : List Row → SummaryForm → Type 0
 IsSummaryFormOf rows summary.Csv = IsValueOf (codes "as") rows (codes "csv")
+IsSummaryFormOf rows summary.Html = IsValueOf (codes "as") rows (codes "html")
 IsSummaryFormOf rows summary.Text = HasNone (codes "as") rows ⊎ IsValueOf (codes "as") rows (codes "text")
 
 -- a summary of the named records, in their order, under the named program and the named setup, limits and key of seals, each if one is named
@@ -513,6 +514,7 @@ HasNoReview rows _ = ⊥
 abbrev pub HasNoSummary : List Row → WordsFault → Type 0
 HasNoSummary rows (NoSummaryForm word) =
     IsValueOf (codes "as") rows (string_bytes word) × (string_bytes word ≢ codes "text") × (string_bytes word ≢ codes "csv")
+    × (string_bytes word ≢ codes "html")
 HasNoSummary rows Memory = Unit {0}
 HasNoSummary rows _ = ⊥
 

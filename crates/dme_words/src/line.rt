@@ -145,7 +145,7 @@ const FINDING_FORM_HELP: &str =
     "The form that is printed: json, for other programs; lines if none is named";
 
 const SUMMARY_FORM_HELP: &str =
-    "The form that is printed: text, or csv, comma-separated values; text if none is named";
+    "The form that is printed: text; csv, comma-separated values; html, a page; text if none is named";
 
 const RUN_PROGRAM_HELP: &str =
     "The DMIS program that was run; - is standard input, as if none is named";

@@ -329,6 +329,8 @@ pub enum SummaryForm {
     Text,
     /// Comma-separated values.
     Csv,
+    /// A page of HTML.
+    Html,
 }
 
 /// The values of `summary`.

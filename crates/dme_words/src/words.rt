@@ -32,7 +32,7 @@ const FORMS: &str = "\n  [possible values: csv, json, svg, features, contacts]";
 const FINDING_FORMS: &str = "\n  [possible values: json]";
 
 /// Likewise, of a summary.
-const SUMMARY_FORMS: &str = "\n  [possible values: text, csv]";
+const SUMMARY_FORMS: &str = "\n  [possible values: text, csv, html]";
 
 /// Why words ask for nothing. Shown as `clap` shows its own faults.
 #[derive(Debug, Drop)]
@@ -723,6 +723,7 @@ fn summary_form(alloc: Global, values: &ArgMatches) -> Result<SummaryForm, Words
     match value_of(values, "as") {
         None | Some("text") => Ok(SummaryForm::Text),
         Some("csv") => Ok(SummaryForm::Csv),
+        Some("html") => Ok(SummaryForm::Html),
         Some(word) => Err(WordsFault::NoSummaryForm(String::from_str(alloc, word)?)),
     }
 }

@@ -8,7 +8,8 @@ use Rattle.deviations.specs.declared.ranges.Range.{Range}
 use Rattle.dme_orders.specs.Recorded.{features_in}
 use Rattle.record_text.specs.Records.{Recorded}
 use Rattle.part_summary.specs.Batches.{Adds, BatchPart, IsSummary, Summed, alongs_in, deviations_over, empty_tallies, joined_all}
-use Rattle.part_summary.specs.Batches.{name_of, named_if_unfinished, put, put_all, range_at, tallies_of, touches_of, with_part}
+use Rattle.part_summary.specs.Batches.{named_if_unfinished, plot_of, put, put_all, range_at, tallies_of, touches_of, with_part}
+use Rattle.part_summary.specs.Times.{placed}
 use Rattle.part_summary.specs.Sums.{Sums, Tally, greatest, is_outside, joined, least, more, only, outside, sums_of, tally_of, total}
 
 with_counts : Sums → (count out : ℕ) → Option Sums
@@ -65,35 +66,37 @@ none_over limits [] = refl
 none_over limits (p ∷ places) = ap (λ (ts : List Tally). tally_of (range_at limits p) [] ∷ ts) (none_over limits places)
 
 -- a summary without parts
-pub of_none : (s : Summed) → s.counted ≡ 0 → s.tallies ≡ empty_tallies s.limits (touches_of s.program) → s.unfinished ≡ [] → IsSummary s []
-of_none s counted tallies unfinished = record {
+pub of_none : (s : Summed) → s.counted ≡ 0 → s.tallies ≡ empty_tallies s.limits (touches_of s.program) → s.unfinished ≡ [] → s.plots ≡ [] → IsSummary s []
+of_none s counted tallies unfinished plots = record {
   counted = counted;
   tallies = tallies ∙ none_over s.limits (touches_of s.program);
   unfinished = unfinished;
+  plots = plots;
 }
 
 one_more : (s : Summed) (part : BatchPart) (parts : List BatchPart) → IsSummary s parts
-    → IsSummary (with_part s part.name part.measured part.alongs) (part ∷ parts)
+    → IsSummary (with_part s part.plot part.alongs) (part ∷ parts)
 one_more s part parts is = record {
   counted = ap (λ (n : ℕ). n + 1) is.counted ∙ omega arith;
   tallies = ap (joined_all part.alongs) is.tallies
       ∙ sym (all_joined s.limits (touches_of s.program) part.alongs (deviations_over (touches_of s.program) parts));
-  unfinished = ap (named_if_unfinished (length s.program.features) part.name part.measured) is.unfinished;
+  unfinished = ap (named_if_unfinished (length s.program.features) part.plot.name part.plot.measured) is.unfinished;
+  plots = ap (placed part.plot) is.plots;
 }
 
 -- a record counts
 pub adds : (file : List ℕ) (held : Option Recorded) (rows : List Row) (old new : Summed)
     → AllZip IsRow (places_of old.program.features (features_in held)) rows
-    → new ≡ with_part old (name_of file held) (length (features_in held)) (alongs_in rows) → Adds file held old new
+    → new ≡ with_part old (plot_of old.program file held rows) (alongs_in rows) → Adds file held old new
 adds file held rows old new are is = subst (λ (s : Summed). Adds file held old s) (sym is) (
-    let part : BatchPart = record { name = name_of file held; measured = length (features_in held); alongs = alongs_in rows } in
+    let part : BatchPart = record { plot = plot_of old.program file held rows; alongs = alongs_in rows } in
     record {
       program = refl;
       limits = refl;
       key = refl;
       worst = refl;
       part = part;
-      is = record { rows = rows; are = are; name = refl; measured = refl; alongs = refl };
+      is = record { rows = rows; are = are; plot = refl; alongs = refl };
       sums = λ parts is. one_more old part parts is;
     }
     )

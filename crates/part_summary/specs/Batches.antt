@@ -10,16 +10,18 @@ use Rattle.dme_orders.specs.Exporting.{RefusesFeatures}
 use Rattle.dme_orders.specs.OfRecords.{RefusesRecord}
 use Rattle.dme_orders.specs.Reading.{Came, IsSealed, Reads, ReadsRecord, WhyNoSealed}
 use Rattle.dme_orders.specs.Recorded.{IsOfProgram, features_in}
+use Rattle.dme_orders.specs.RunNotes.{notes_in}
 use Rattle.order_parts.specs.declared.faults.FilesFault.{FilesFault}
 use Rattle.order_parts.specs.declared.faults.FilesFault.TheVariants as files
+use Rattle.part_summary.specs.Spans.{spans_of}
 use Rattle.part_summary.specs.Sums.{Tally, joined, tally_of}
+use Rattle.part_summary.specs.Times.{Plot, placed, time_in}
 use Rattle.record_text.specs.Records.{Recorded}
 
--- a part that counts: its name, how many features of the program it has, and for each touch of the program how far it was measured from
--- its target along the normal; nothing where it was not measured, or has no normal
+-- a part that counts: what is plotted of it, and for each touch of the program how far it was measured from its target along the normal;
+-- nothing where it was not measured, or has no normal
 pub record BatchPart : Type 0 where
-  pub name : List ℕ
-  pub measured : ℕ
+  pub plot : Plot
   pub alongs : List (Option ℤ)
 
 -- what a part is called: by its record, or as the file of the record
@@ -34,12 +36,20 @@ places_in rows = map (λ (r : Row). r.place) rows
 abbrev pub alongs_in : List Row → List (Option ℤ)
 alongs_in rows = map (λ (r : Row). r.along) rows
 
+-- what is plotted of a record in a file, by the rows of its features
+abbrev pub plot_of : Meaning → List ℕ → Option Recorded → List Row → Plot
+plot_of program file held rows = record {
+  name = name_of file held;
+  measured = length (features_in held);
+  time = time_in (notes_in held);
+  spans = spans_of program.features rows;
+}
+
 -- the part of a record in a file: its deviations are those of the rows of its features
 pub record IsBatchPart (program : Meaning) (file : List ℕ) (held : Option Recorded) (part : BatchPart) : Type 0 where
   pub rows : List Row
   pub are : AllZip IsRow (places_of program.features (features_in held)) rows
-  pub name : part.name ≡ name_of file held
-  pub measured : part.measured ≡ length (features_in held)
+  pub plot : part.plot ≡ plot_of program file held rows
   pub alongs : part.alongs ≡ alongs_in rows
 
 -- one deviation more, if there is one
@@ -62,10 +72,13 @@ deviations_over places (part ∷ parts) = put_all part.alongs (deviations_over p
 abbrev pub touches_of : Meaning → List Place
 touches_of program = missing_places program.features
 
--- the range for a touch, if a limit is for its feature
+-- the range for a feature, and for a touch, if a limit is for it
+abbrev pub range_named : Option (List Limit) → List ℕ → Option Range
+range_named None label = None
+range_named (Some limits) label = range_for limits label
+
 abbrev pub range_at : Option (List Limit) → Place → Option Range
-range_at None place = None
-range_at (Some limits) place = range_for limits place.feature
+range_at limits place = range_named limits place.feature
 
 -- what is kept of the list of each touch
 abbrev pub tallies_of : Option (List Limit) → List Place → List (List ℤ) → List Tally
@@ -96,7 +109,12 @@ named_if_unfinished asked name measured earlier =
 -- the parts that lack a feature, in the order in which they were read; of these the last is first
 abbrev pub unfinished_in : ℕ → List BatchPart → List UnfinishedPart
 unfinished_in asked [] = []
-unfinished_in asked (part ∷ parts) = named_if_unfinished asked part.name part.measured (unfinished_in asked parts)
+unfinished_in asked (part ∷ parts) = named_if_unfinished asked part.plot.name part.plot.measured (unfinished_in asked parts)
+
+-- the parts in the order of their times
+abbrev pub in_order : List BatchPart → List Plot
+in_order [] = []
+in_order (part ∷ parts) = placed part.plot (in_order parts)
 
 -- what is kept of a batch; `key` is that of the seals, if they are checked; `worst` is the greatest exit status of what was refused, 0 if nothing was
 pub record Summed : Type 0 where
@@ -106,6 +124,7 @@ pub record Summed : Type 0 where
   pub counted : ℕ
   pub tallies : List Tally
   pub unfinished : List UnfinishedPart
+  pub plots : List Plot
   pub worst : ℕ
 
 -- this is kept of these parts, of which the last is first
@@ -113,13 +132,15 @@ pub record IsSummary (s : Summed) (parts : List BatchPart) : Type 0 where
   pub counted : s.counted ≡ length parts
   pub tallies : s.tallies ≡ tallies_of s.limits (touches_of s.program) (deviations_over (touches_of s.program) parts)
   pub unfinished : s.unfinished ≡ unfinished_in (length s.program.features) parts
+  pub plots : s.plots ≡ in_order parts
 
 -- with one part more
-abbrev pub with_part : Summed → List ℕ → ℕ → List (Option ℤ) → Summed
-with_part s name measured alongs = record s {
+abbrev pub with_part : Summed → Plot → List (Option ℤ) → Summed
+with_part s plot alongs = record s {
   counted = s.counted + 1;
   tallies = joined_all alongs s.tallies;
-  unfinished = named_if_unfinished (length s.program.features) name measured s.unfinished;
+  unfinished = named_if_unfinished (length s.program.features) plot.name plot.measured s.unfinished;
+  plots = placed plot s.plots;
 }
 
 -- the exit status of a fault: 4 if memory ran out, else 1

@@ -1,6 +1,10 @@
 pub mod Sums
+pub mod Spans
+pub mod Times
 pub mod Batches
 pub mod Texts
 pub mod Tables
+pub mod Charts
+pub mod Pages
 pub mod Printed
 pub mod Examples

@@ -16,13 +16,15 @@ abbrev pub out_field : Option Range → ℕ → List ℕ
 out_field None out = []
 out_field (Some range) out = decimal out
 
+-- the number of a touch and its figures
+abbrev pub figures : ℕ → Option Range → Option Sums → List (List ℕ)
+figures number range None = decimal number ∷ codes "0" ∷ [] ∷ [] ∷ [] ∷ [] ∷ out_field range 0 ∷ []
+figures number range (Some s) = decimal number ∷ decimal s.count ∷ written s.least ∷ written (mean s.total s.count) ∷ written s.greatest
+    ∷ written (s.greatest -ℤ s.least) ∷ out_field range s.out ∷ []
+
 -- the fields of a touch
 abbrev pub touch_fields : List ℕ → ℕ → Option Range → Option Sums → List (List ℕ)
-touch_fields feature number range None =
-    feature ∷ decimal number ∷ codes "0" ∷ [] ∷ [] ∷ [] ∷ [] ∷ out_field range 0 ∷ []
-touch_fields feature number range (Some s) =
-    feature ∷ decimal number ∷ decimal s.count ∷ written s.least ∷ written (mean s.total s.count) ∷ written s.greatest
-    ∷ written (s.greatest -ℤ s.least) ∷ out_field range s.out ∷ []
+touch_fields feature number range sums = feature ∷ figures number range sums
 
 abbrev pub touch_rows : List Place → List Tally → List ℕ
 touch_rows [] tallies = []

@@ -3,12 +3,17 @@
 //!
 //! - `sums`: what is kept of the deviations of a touch
 //! - `summary`: `Summary`, which counts records one after the other
-//! - `texts`: a summary as text; `tables`: as comma-separated values; `printed`: in a form
+//! - `spans`, `plots`: what is kept of each part for a run chart
+//! - `texts`: a summary as text; `tables`: as comma-separated values; `charts`, `pages`: as a page; `printed`: in a form
 //! - `examples`: batches that are written out
 #![tactic(auto)]
 
+mod charts;
 pub mod examples;
+mod pages;
+mod plots;
 mod printed;
+mod spans;
 mod summary;
 mod sums;
 mod tables;

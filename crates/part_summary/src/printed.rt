@@ -13,6 +13,8 @@ pub enum Form {
     Text,
     /// As comma-separated values.
     Csv,
+    /// As a page of HTML.
+    Html,
 }
 
 /// A summary in a form.
@@ -25,9 +27,15 @@ pub struct Printed {
 }
 
 impl<'a> Summary<'a> {
-    /// The summary in a form, of records of which this many were named. Fails only if out of memory.
-    pub fn printed(&self, alloc: Global, form: Form, named: usize) -> Result<Printed, AllocError>
-        ensures text { IfOk result (λ p. p.text.items ≡ form_text form named self.now) }
+    /// The summary in a form, with the name of the program, of records of which this many were named. Fails only if out of memory.
+    pub fn printed(
+        &self,
+        alloc: Global,
+        form: Form,
+        program: &str,
+        named: usize,
+    ) -> Result<Printed, AllocError>
+        ensures text { IfOk result (λ p. p.text.items ≡ form_text form program.now named self.now) }
         ensures notes { IfOk result (λ p. p.notes.items ≡ form_notes form named self.now) }
     {
         match form {
@@ -37,6 +45,10 @@ impl<'a> Summary<'a> {
             }),
             Form::Csv => Ok(Printed {
                 text: self.table(alloc)?,
+                notes: self.head(alloc, "dme: ", named)?,
+            }),
+            Form::Html => Ok(Printed {
+                text: self.page(alloc, program, named)?,
                 notes: self.head(alloc, "dme: ", named)?,
             }),
         }

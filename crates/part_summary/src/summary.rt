@@ -1,17 +1,21 @@
 // A summary, which counts records one after the other.
 
-ghost use Rattle.std.specs.Prelude.{◌≡◌, [], length, option_map, IfOk, IfErr, OnOk, OnErr};
+ghost use Rattle.std.specs.Prelude.{◌≡◌, ◌<◌, vec_capacity, vec_len, [], length, option_map, IfOk, IfErr, OnOk, OnErr};
 ghost use Rattle.dme_orders.specs.Exporting.{RefusesFeatures};
 ghost use Rattle.dme_orders.specs.Reading.{came};
 ghost use Rattle.dme_orders.specs.Recorded.{features_in};
-ghost use Rattle.part_summary.specs.Batches.{Adds, Counts, IsSummary, WhyNotCounted, alongs_in, empty_tallies, fault_status, joined_all, name_of, named_if_unfinished, places_in, range_at, summary_status, touches_of, with_fault, with_part};
+ghost use Rattle.part_summary.specs.Batches.{Adds, Counts, IsSummary, WhyNotCounted, alongs_in, empty_tallies, fault_status, joined_all, name_of, named_if_unfinished, places_in, plot_of, range_named, summary_status, touches_of, with_fault, with_part};
+ghost use Rattle.part_summary.specs.Times.{placed};
 
+use crate::plots::{Plot, place_for, time_of};
+use crate::spans::spans_of;
 use crate::sums::Tally;
 use byte_ports::Source;
 use contact_ledger::Feature;
 use deviations::{Limits, Range, Row, rows_of};
 use dme_orders::{of_program, sealed_from};
 use dmis_program::Program;
+use fixed_um::Name;
 use order_parts::FilesFault;
 use record_text::Record;
 use std::alloc::{AllocError, Global};
@@ -38,11 +42,12 @@ impl Model for Unfinished {
 pub struct Summary<'a> {
     alloc: Global,
     pub(crate) program: &'a Program,
-    limits: &'a Option<Limits>,
-    key: &'a Option<Vec<u8>>,
+    pub(crate) limits: &'a Option<Limits>,
+    pub(crate) key: &'a Option<Vec<u8>>,
     pub(crate) counted: u64,
     pub(crate) tallies: Vec<Tally>,
     pub(crate) unfinished: Vec<Unfinished>,
+    pub(crate) plots: Vec<Plot>,
     worst: u8,
 }
 
@@ -59,6 +64,7 @@ impl<'a> Model for Summary<'a> {
       counted = s.counted;
       tallies = s.tallies.items;
       unfinished = s.unfinished.items;
+      plots = s.plots.items;
       worst = s.worst;
     } };
 }
@@ -74,11 +80,12 @@ pub(crate) fn open_rows<'a>(alloc: Global, program: &'a Program) -> Result<Vec<R
     }
 }
 
-fn range_at(limits: &Option<Limits>, row: &Row<'_>) -> Option<Range>
-    ensures { result ≡ range_at limits.now row.now.place }
+/// The range for a feature, if a limit is for it.
+pub(crate) fn range_named(limits: &Option<Limits>, label: &Name) -> Option<Range>
+    ensures { result ≡ range_named limits.now label.now }
 {
     match limits {
-        Some(limits) => limits.range_for(row.feature()),
+        Some(limits) => limits.range_for(label),
         None => None,
     }
 }
@@ -96,7 +103,7 @@ fn empty_tallies(
     let mut left = rows;
     while let [row, others @ ..] = left {
         tallies.push(Tally {
-            range: range_at(limits, row),
+            range: range_named(limits, row.feature()),
             sums: None,
         })?;
         left = others;
@@ -154,6 +161,58 @@ fn fault_status(fault: &FilesFault) -> u8
     }
 }
 
+/// What is plotted of a record in a file, by the rows of its features. Fails only if out of memory.
+fn plot_of(
+    alloc: Global,
+    program: &Program,
+    file: &str,
+    held: &Option<Record>,
+    rows: &[Row<'_>],
+) -> Result<Plot, AllocError>
+    ensures { IfOk result (λ p. p ≡ plot_of program.now file.now held.now rows.now) }
+{
+    Ok(Plot {
+        name: Vec::from_slice(alloc, name_of(file, held))?,
+        measured: features_in(held).len(),
+        time: time_of(alloc, held)?,
+        spans: spans_of(alloc, program.features(), rows)?,
+    })
+}
+
+/// Names a part if it lacks one of this many features. Fails only if out of memory.
+fn name_unfinished(
+    unfinished: &mut Vec<Unfinished>,
+    asked: usize,
+    part: &Plot,
+) -> Result<(), AllocError>
+    ensures named { OnOk result (unfinished.new.items
+        ≡ named_if_unfinished asked part.now.name part.now.measured unfinished.old.items) }
+    ensures same { OnErr result (unfinished.new.items ≡ unfinished.old.items) }
+{
+    if part.measured == asked {
+        return Ok(());
+    }
+    let name = Vec::from_slice(*unfinished.allocator(), part.name.as_slice())?;
+    unfinished.push(Unfinished {
+        name,
+        measured: part.measured,
+    })?;
+    Ok(())
+}
+
+/// Puts a part in at its place, if there is room for it.
+#[tactic(auto, using(crate::proofs::Placing::put_in))]
+fn put_in(plots: &mut Vec<Plot>, part: Plot)
+    requires { vec_len plots.old < vec_capacity plots.old }
+    ensures { plots.new.items ≡ placed part plots.old.items }
+{
+    let place = place_for(&part.time, plots.as_slice());
+    match plots.insert(place, part) {
+        Ok(()) => {}
+        Err(_) => unreachable!(),
+    }
+}
+
 impl<'a> Summary<'a> {
     /// A summary of no part, for records of a program, with limits for its features if there are any, and with the key of their seals if
     /// these are to be checked. Fails only if out of memory.
@@ -179,37 +238,24 @@ impl<'a> Summary<'a> {
             counted: 0,
             tallies,
             unfinished: Vec::new(alloc),
+            plots: Vec::new(alloc),
             worst: 0,
         })
     }
 
-    /// Names a part if it lacks a feature.
-    fn name_unfinished(&mut self, name: &[u8], measured: usize) -> Result<(), AllocError>
-        ensures named { OnOk result (self.new ≡ record self.old {
-          unfinished = named_if_unfinished (length self.old.program.features) name.now measured
-              self.old.unfinished;
-        }) }
-        ensures same { OnErr result (self.new ≡ self.old) }
-    {
-        if measured == self.program.features().len() {
-            return Ok(());
-        }
-        let name = Vec::from_slice(self.alloc, name)?;
-        self.unfinished.push(Unfinished { name, measured })?;
-        Ok(())
-    }
-
-    /// Keeps the deviations of a part, and its name if it lacks a feature. Fails only if out of memory, or if there are too many parts.
-    fn keep(&mut self, name: &[u8], measured: usize, rows: &[Row<'_>]) -> Result<(), AllocError>
-        ensures kept { OnOk result (self.new
-            ≡ with_part self.old name.now measured (alongs_in rows.now)) }
+    /// Keeps the deviations of a part, what is plotted of it, and its name if it lacks a feature. Fails only if out of memory, or if there
+    /// are too many parts.
+    fn keep(&mut self, part: Plot, rows: &[Row<'_>]) -> Result<(), AllocError>
+        ensures kept { OnOk result (self.new ≡ with_part self.old part (alongs_in rows.now)) }
         ensures same { OnErr result (self.new ≡ self.old) }
     {
         let tallies = joined_all(self.alloc, self.tallies.as_slice(), rows)?;
         let Some(counted) = self.counted.checked_add(1) else {
             return Err(AllocError);
         };
-        self.name_unfinished(name, measured)?;
+        self.plots.reserve(1)?;
+        name_unfinished(&mut self.unfinished, self.program.features().len(), &part)?;
+        put_in(&mut self.plots, part);
         self.counted = counted;
         self.tallies = tallies;
         Ok(())
@@ -225,8 +271,8 @@ impl<'a> Summary<'a> {
         let features = features_in(held);
         let program = self.program;
         let rows = rows_of(self.alloc, program, features)?;
-        self.keep(name_of(file, held), features.len(), rows.as_slice())?;
-        Ok(())
+        let part = plot_of(self.alloc, program, file, held, rows.as_slice())?;
+        Ok(self.keep(part, rows.as_slice())?)
     }
 
     /// Reads the record of a part, and counts it.

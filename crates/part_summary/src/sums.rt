@@ -47,7 +47,8 @@ impl Model for Sums {
         × (unsigned_abs s.greatest ≤ 2 ^ 64) };
 }
 
-fn lesser(one: i128, other: i128) -> i128
+/// The lesser of two deviations.
+pub(crate) fn lesser(one: i128, other: i128) -> i128
     requires one { unsigned_abs one ≤ 2 ^ 64 }
     requires other { unsigned_abs other ≤ 2 ^ 64 }
     ensures value { result ≡ int_min one other }
@@ -56,7 +57,8 @@ fn lesser(one: i128, other: i128) -> i128
     if other < one { other } else { one }
 }
 
-fn greater(one: i128, other: i128) -> i128
+/// The greater of two deviations.
+pub(crate) fn greater(one: i128, other: i128) -> i128
     requires one { unsigned_abs one ≤ 2 ^ 64 }
     requires other { unsigned_abs other ≤ 2 ^ 64 }
     ensures value { result ≡ int_max one other }

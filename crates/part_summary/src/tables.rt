@@ -4,13 +4,14 @@ ghost use Rattle.std.specs.Prelude.{◌≡◌, ◌++◌, Some, None, decimal, On
 ghost use Rattle.csv.specs.Writing.{default_writer, row_text};
 ghost use Rattle.fixed_um.specs.Written.{written};
 ghost use Rattle.part_summary.specs.Batches.{places_in};
-ghost use Rattle.part_summary.specs.Tables.{out_field, table_text, touch_fields, touch_rows};
+ghost use Rattle.part_summary.specs.Tables.{figures, out_field, table_text, touch_fields, touch_rows};
 
 use crate::summary::{Summary, open_rows};
 use crate::sums::{Sums, Tally};
 use csv::{ByteRecord, WriterBuilder};
 use deviations::{Micrometres, Range, Row};
 use std::alloc::{AllocError, Global};
+use std::marker::Model;
 
 /// Appends a record of these fields. Fails only if out of memory.
 fn push_fields(out: &mut Vec<u8>, fields: &[&[u8]]) -> Result<(), AllocError>
@@ -31,7 +32,7 @@ fn push_fields(out: &mut Vec<u8>, fields: &[&[u8]]) -> Result<(), AllocError>
 }
 
 /// A length in millimetres. Fails only if out of memory.
-fn length_text(alloc: Global, length: i128) -> Result<String, AllocError>
+pub(crate) fn length_text(alloc: Global, length: i128) -> Result<String, AllocError>
     ensures { IfOk result (λ text. string_bytes text ≡ written length) }
 {
     let length = Micrometres(length);
@@ -53,77 +54,91 @@ fn out_text(alloc: Global, range: Option<Range>, out: u64) -> Result<String, All
     }
 }
 
-/// Appends the record of a touch without deviations. Fails only if out of memory.
-fn push_none(
-    out: &mut Vec<u8>,
-    feature: &[u8],
-    number: u64,
-    range: Option<Range>,
-) -> Result<(), AllocError>
-    ensures { OnOk result (out.new.items ≡ out.old.items
-        ++ row_text default_writer (touch_fields feature.now number range None)) }
-{
-    let alloc = *out.allocator();
-    let number = number_text(alloc, number)?;
-    let outside = out_text(alloc, range, 0)?;
-    push_fields(
-        out,
-        &[
-            feature,
-            number.as_bytes(),
-            b"0",
-            b"",
-            b"",
-            b"",
-            b"",
-            outside.as_bytes(),
-        ],
-    )
+/// The number of a touch and its figures, as texts.
+#[derive(Drop)]
+pub(crate) struct Figures {
+    pub(crate) number: String,
+    pub(crate) count: String,
+    pub(crate) least: String,
+    pub(crate) mean: String,
+    pub(crate) greatest: String,
+    pub(crate) range: String,
+    pub(crate) out: String,
 }
 
-/// Appends the record of a touch with deviations. Fails only if out of memory.
-fn push_sums(
-    out: &mut Vec<u8>,
-    feature: &[u8],
+impl Model for Figures {
+    ghost use Rattle.std.specs.Prelude.{ℕ, List, [], ◌∷◌, string_bytes};
+
+    ghost Value = { List (List ℕ) };
+
+    ghost view = { λ f. string_bytes f.number ∷ string_bytes f.count ∷ string_bytes f.least
+        ∷ string_bytes f.mean ∷ string_bytes f.greatest ∷ string_bytes f.range
+        ∷ string_bytes f.out ∷ [] };
+}
+
+fn no_figures(alloc: Global, number: u64, range: Option<Range>) -> Result<Figures, AllocError>
+    ensures { IfOk result (λ f. f ≡ figures number range None) }
+{
+    Ok(Figures {
+        number: number_text(alloc, number)?,
+        count: String::from_str(alloc, "0")?,
+        least: String::new(alloc),
+        mean: String::new(alloc),
+        greatest: String::new(alloc),
+        range: String::new(alloc),
+        out: out_text(alloc, range, 0)?,
+    })
+}
+
+fn sums_figures(
+    alloc: Global,
     number: u64,
     range: Option<Range>,
     sums: &Sums,
-) -> Result<(), AllocError>
-    ensures { OnOk result (out.new.items ≡ out.old.items
-        ++ row_text default_writer (touch_fields feature.now number range (Some sums.now))) }
+) -> Result<Figures, AllocError>
+    ensures { IfOk result (λ f. f ≡ figures number range (Some sums.now)) }
 {
-    let alloc = *out.allocator();
-    let number = number_text(alloc, number)?;
-    let count = number_text(alloc, sums.count)?;
-    let least = length_text(alloc, sums.least)?;
-    let mean = length_text(alloc, sums.mean())?;
-    let greatest = length_text(alloc, sums.greatest)?;
-    let between = length_text(alloc, sums.range())?;
-    let outside = out_text(alloc, range, sums.out)?;
-    push_fields(
-        out,
-        &[
-            feature,
-            number.as_bytes(),
-            count.as_bytes(),
-            least.as_bytes(),
-            mean.as_bytes(),
-            greatest.as_bytes(),
-            between.as_bytes(),
-            outside.as_bytes(),
-        ],
-    )
+    Ok(Figures {
+        number: number_text(alloc, number)?,
+        count: number_text(alloc, sums.count)?,
+        least: length_text(alloc, sums.least)?,
+        mean: length_text(alloc, sums.mean())?,
+        greatest: length_text(alloc, sums.greatest)?,
+        range: length_text(alloc, sums.range())?,
+        out: out_text(alloc, range, sums.out)?,
+    })
+}
+
+/// The figures of a touch; those of one without deviations are empty. Fails only if out of memory.
+pub(crate) fn figures_of(alloc: Global, number: u64, tally: &Tally) -> Result<Figures, AllocError>
+    ensures { IfOk result (λ f. f ≡ figures number tally.now.range tally.now.sums) }
+{
+    match &tally.sums {
+        Some(sums) => sums_figures(alloc, number, tally.range, sums),
+        None => no_figures(alloc, number, tally.range),
+    }
 }
 
 fn push_touch(out: &mut Vec<u8>, row: &Row<'_>, tally: &Tally) -> Result<(), AllocError>
     ensures { OnOk result (out.new.items ≡ out.old.items ++ row_text default_writer
         (touch_fields row.now.place.feature row.now.place.number tally.now.range tally.now.sums)) }
 {
+    let alloc = *out.allocator();
     let feature = row.feature().as_bytes();
-    match &tally.sums {
-        Some(sums) => push_sums(out, feature, row.number(), tally.range, sums),
-        None => push_none(out, feature, row.number(), tally.range),
-    }
+    let figures = figures_of(alloc, row.number(), tally)?;
+    push_fields(
+        out,
+        &[
+            feature,
+            figures.number.as_bytes(),
+            figures.count.as_bytes(),
+            figures.least.as_bytes(),
+            figures.mean.as_bytes(),
+            figures.greatest.as_bytes(),
+            figures.range.as_bytes(),
+            figures.out.as_bytes(),
+        ],
+    )
 }
 
 fn push_touches(out: &mut Vec<u8>, rows: &[Row<'_>], tallies: &[Tally]) -> Result<(), AllocError>

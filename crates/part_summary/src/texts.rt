@@ -87,8 +87,9 @@ fn push_touches(text: &mut String, rows: &[Row<'_>], tallies: &[Tally]) -> Resul
     Ok(())
 }
 
+/// How many features a part has. Fails only if out of memory.
 #[tactic(auto, unfolding(crate::specs::Texts::few_words))]
-fn few_text(alloc: Global, measured: usize, asked: usize) -> Result<String, AllocError>
+pub(crate) fn few_text(alloc: Global, measured: usize, asked: usize) -> Result<String, AllocError>
     ensures { IfOk result (λ text. string_bytes text ≡ few_words measured asked) }
 {
     let noun = feature_noun(asked);

@@ -1,0 +1,18 @@
+use Rattle.std.proofs.Common.{refl}
+use Rattle.drawings.specs.Markup.{between}
+use Rattle.drawings.specs.Texts.{markup}
+use Rattle.fixed_um.specs.Written.{written}
+use Rattle.part_summary.specs.Charts.{chart_start, level, stroke}
+use Rattle.part_summary.proofs.examples.charts_have_strokes.Goals as goal
+
+pub returns-clause-strokes : goal.returns-clause-strokes
+unfolding stroke level chart_start between markup written
+returns-clause-strokes c = refl
+
+pub returns-clause-limits : goal.returns-clause-limits
+unfolding stroke level chart_start between markup written
+returns-clause-limits c = refl
+
+pub returns-clause-start : goal.returns-clause-start
+unfolding stroke level chart_start between markup written
+returns-clause-start c = refl
