@@ -10,6 +10,7 @@ ghost use Rattle.order_parts.specs.Kept.{IsFeaturesText};
 ghost use Rattle.dme_orders.specs.OfRecords.{RefusesRecord, IsRecordText, AuditsRecord, ExportsRecord};
 ghost use Rattle.dme_orders.specs.Exporting.{Compares, RefusesFeatures};
 ghost use Rattle.dme_orders.specs.Input.{named, ReadsHeld, WhyNoneHeld, WhyNoneSealed, AreUntouched, ReadsJudged, ReadsLimited, WhyNoLimited};
+ghost use Rattle.deviations.specs.Styles.{style_of};
 ghost use Rattle.dme_orders.specs.Missing.{IsMissing};
 ghost use Rattle.dme_orders.specs.Named.{last_dated, part_text, time_in};
 ghost use Rattle.dme_orders.specs.Orders.{went};
@@ -402,6 +403,61 @@ fn text_of_part(
     Ok((Exported { missing, compared }, text))
 }
 
+/// What a record's text is called by: its part, and when its last feature was complete.
+#[derive(Drop)]
+struct Names {
+    part: String,
+    time: Vec<u8>,
+}
+
+fn names_of(alloc: Global, held: &Option<Record>) -> Result<Names, AllocError>
+    ensures part { IfOk result (λ names. string_bytes names.part ≡ part_text held.now) }
+    ensures time { IfOk result (λ names. names.time.items ≡ time_in held.now) }
+{
+    let part = part_text(alloc, held)?;
+    let time = time_of(alloc, held)?;
+    Ok(Names { part, time })
+}
+
+/// What is printed of features and acts of a record that is called so, under a program of this name, and what is said besides it.
+fn text_under(
+    alloc: Global,
+    form: RecordText,
+    table: TableOptions,
+    name: &str,
+    names: &Names,
+    limits: &Option<Limits>,
+    program: &Program,
+    features: &[Feature],
+    ledger: &ServerLedger,
+) -> Result<(Exported, Vec<u8>), FilesFault>
+    requires { HaveOrigins features.now }
+    ensures leaves { IfOk result (λ end. IsRecordText form
+        (style_of table (record { part = string_bytes names.now.part; program = name.now }))
+        (record { part = string_bytes names.now.part; program = name.now; time = names.now.time.items })
+        limits.now program.now features.now ledger.now end.1.items) }
+    ensures lacks { IfOk result (λ end. IsMissing program.now.features features.now
+        end.0.missing) }
+    ensures compares { IfOk result (λ end. Compares limits.now program.now features.now
+        (string_bytes end.0.compared)) }
+    ensures some { IfOk result (λ end. 0 < length end.1.items) }
+    ensures refused { IfErr result (RefusesFeatures program.now features.now) }
+{
+    let of = RowsOf {
+        part: names.part.as_str(),
+        program: name,
+    };
+    let style = style_of(table, &of);
+    let title = Title {
+        part: names.part.as_bytes(),
+        program: name.as_bytes(),
+        time: names.time.as_slice(),
+    };
+    text_of_part(
+        alloc, form, &style, &title, limits, program, features, ledger,
+    )
+}
+
 /// Reads limits if they are named, then a setup if one is named, then a record, then a program under the setup's frames, each to the end of
 /// its text and understood before the next is read; and writes what the record holds in a form: the table of its features as `export_files` writes it, or the text of a
 /// features file or of a contacts file. The answer is which features of the program are missing, and with limits what they say of the
@@ -426,24 +482,14 @@ pub fn export_record<L: Source, S: Source, J: Source, R: Source, W: Sink>(
 {
     let (ranges, held, program) = limited_input(alloc, limits, files)?;
     of_program(alloc, &held, &program)?;
-    let part = part_text(alloc, &held)?;
-    let time = time_of(alloc, &held)?;
+    let names = names_of(alloc, &held)?;
     let (features, ledger) = parts_of(alloc, held);
-    let of = RowsOf {
-        part: part.as_str(),
-        program: shown_name(name),
-    };
-    let style = style_of(table, &of);
-    let title = Title {
-        part: part.as_bytes(),
-        program: shown_name(name).as_bytes(),
-        time: time.as_slice(),
-    };
-    let (exported, text) = text_of_part(
+    let (exported, text) = text_under(
         alloc,
         form,
-        &style,
-        &title,
+        table,
+        shown_name(name),
+        &names,
         &ranges,
         &program,
         features.list(),

@@ -1,7 +1,7 @@
 use Rattle.dme_orders.proofs.Names.{◌∙◌, ◌≡◌, false, inl, inr, List, refl, rules, subst}
 use Rattle.client_core.specs.Clients.{are_ours}
 use Rattle.contact_ledger.specs.declared.features.Feature.{Feature}
-use Rattle.dme_orders.proofs.OrderLemmas.{first_why, refuses, stops_at, torn_as}
+use Rattle.dme_orders.proofs.OrderLemmas.{first_why, no_room, refuses, stops_at, torn_as}
 use Rattle.dme_orders.proofs.of_records.export_record.Goals as goal
 
 pub returns-in_err-write_text : goal.returns-in_err-write_text
@@ -59,3 +59,10 @@ returns-in_err-of_program g c = refuses _ _ _ _ c.in_err-of_program.field-0.0 c.
       read = c.in_ok-ranges.ensures.ok.1.1;
       other = no.2;
     }))) c.in_err-of_program.ensures.other)
+
+pub returns-in_err-names : goal.returns-in_err-names
+returns-in_err-names g c = no_room _ _ _ _ c.from_residual-in_err-names.result (search rules) (record {
+  limits = c.in_ok-ranges.ranges;
+  input = record { setup = c.in_ok-ranges.ensures.ok.0; held = c.in_ok-ranges.held; program = c.in_ok-ranges.program };
+})
+    c.in_ok-ranges.ensures.ok.1 refl
