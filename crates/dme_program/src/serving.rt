@@ -15,6 +15,7 @@ use refusal_guide::InputFiles;
 use run_opening::Opening;
 use services::{Relay, RelaySession, Service as Values, Session};
 use std::alloc::AllocError;
+use std::io::IsTerminal;
 use tool_rack::Setup;
 use watched_ends::{Job, Session as Reading};
 

@@ -42,13 +42,13 @@ margin reach = height reach / 20 + 1
 -- the box that is seen: as wide as there are parts, with one more for both sides
 unfoldable pub chart_start : Span → ℕ → List ℕ
 chart_start reach count = markup (codes "<svg class=\"run\" preserveAspectRatio=\"none\" viewBox=\"0 ")
-    ++ (written (neg_ℤ (reach.greatest +ℤ pos (margin reach))) ++ (codes " " ++ (decimal (count + 1) ++ (codes " "
+    ++ (written (neg_ℤ (reach.greatest +ℤ pos (margin reach))) ++ (markup (codes " ") ++ (decimal (count + 1) ++ (markup (codes " ")
     ++ (written (pos (height reach + 2 * margin reach)) ++ markup (codes "\"><g transform=\"scale(1 -1)\">\n"))))))
 
 -- a line over the whole width
 unfoldable pub level : List ℕ → ℤ → ℕ → List ℕ
-level class at count = markup (codes "<path class=\"") ++ (class ++ (codes "\" d=\"M0 " ++ (written at ++ (codes "H" ++ (decimal (count + 1)
-    ++ markup (codes "\"/>\n"))))))
+level class at count = markup (codes "<path class=\"") ++ (markup class ++ (markup (codes "\" d=\"M0 ") ++ (written at ++ (markup (codes "H")
+    ++ (decimal (count + 1) ++ markup (codes "\"/>\n"))))))
 
 abbrev pub limit_levels : Option Range → ℕ → List ℕ
 limit_levels None count = []
@@ -56,8 +56,8 @@ limit_levels (Some range) count = level (codes "limit") range.lower count ++ lev
 
 -- the stroke of a part, from its least deviation to its greatest, with its name
 unfoldable pub stroke : ℕ → List ℕ → Span → List ℕ
-stroke number name s = markup (codes "<path d=\"M") ++ (decimal number ++ (codes " " ++ (written s.least ++ (codes "V" ++ (written s.greatest
-    ++ between (codes "\"><title>") name (codes "</title></path>\n"))))))
+stroke number name s = markup (codes "<path d=\"M") ++ (decimal number ++ (markup (codes " ") ++ (written s.least ++ (markup (codes "V")
+    ++ (written s.greatest ++ between (codes "\"><title>") name (codes "</title></path>\n"))))))
 
 -- a part in which the feature was not measured has none
 abbrev pub stroke_of : ℕ → List ℕ → Option Span → List ℕ

@@ -4,7 +4,7 @@ use Rattle.std.specs.Prelude.{Option, Some, None, unwrap_or, if◌then◌else◌
 use Rattle.std.specs.List.{flat_map}
 use Rattle.deviations.specs.declared.entries.Limit.{Limit}
 use Rattle.deviations.specs.declared.ranges.Range.{Range}
-use Rattle.dme_orders.specs.Reporting.{shown_name}
+use Rattle.dme_orders.specs.Named.{shown_name}
 use Rattle.dmis_program.specs.declared.features.Wanted.{Wanted}
 use Rattle.drawings.specs.Markup.{between, cell, cells}
 use Rattle.drawings.specs.Pages.{style, within_line}

@@ -1,9 +1,9 @@
 // The run chart of a feature.
 
-ghost use Rattle.std.specs.Prelude.{◌≡◌, ◌≤◌, ◌^◌, ◌+◌, ◌++◌, OnOk, decimal, length, unsigned_abs};
+ghost use Rattle.std.specs.Prelude.{◌≡◌, ◌≤◌, ◌^◌, ◌+◌, ◌*◌, ◌++◌, ◌+ℤ◌, OnOk, decimal, length, neg_ℤ, pos, unsigned_abs};
 ghost use Rattle.drawings.specs.Texts.{markup};
 ghost use Rattle.fixed_um.specs.Written.{written};
-ghost use Rattle.part_summary.specs.Charts.{chart_start, chart_text, level, limit_levels, reach_after, reach_of, reach_with, span_at, stroke, stroke_of, strokes};
+ghost use Rattle.part_summary.specs.Charts.{chart_start, chart_text, height, level, limit_levels, margin, reach_after, reach_of, reach_with, span_at, stroke, stroke_of, strokes};
 
 use crate::plots::Plot;
 use crate::spans::Span;
@@ -71,21 +71,47 @@ pub(crate) fn put_length(out: &mut Vec<u8>, length: i128) -> Result<(), AllocErr
     out.extend_from_slice(text.as_bytes())
 }
 
+fn height(reach: Span) -> u128
+    ensures is { result ≡ height reach }
+    ensures bound { result ≤ 2 ^ 65 }
+{
+    (reach.greatest - reach.least).unsigned_abs()
+}
+
+fn margin(reach: Span) -> u128
+    ensures is { result ≡ margin reach }
+    ensures bound { result ≤ 2 ^ 65 }
+{
+    height(reach) / 20 + 1
+}
+
+/// Where the box that is seen begins, with y down.
+fn top(reach: Span) -> i128
+    ensures { result ≡ neg_ℤ (reach.greatest +ℤ pos (margin reach)) }
+{
+    -(reach.greatest + margin(reach) as i128)
+}
+
+/// How high it is.
+fn room(reach: Span) -> i128
+    ensures { result ≡ pos (height reach + 2 * margin reach) }
+{
+    (height(reach) + 2 * margin(reach)) as i128
+}
+
 #[tactic(auto, unfolding(crate::specs::Charts::chart_start))]
 fn put_start(out: &mut Vec<u8>, reach: Span, count: usize) -> Result<(), AllocError>
     ensures { OnOk result (out.new.items ≡ out.old.items ++ chart_start reach count) }
 {
-    let height = (reach.greatest - reach.least).unsigned_abs();
-    let margin = height / 20 + 1;
     put_markup(
         out,
         b"<svg class=\"run\" preserveAspectRatio=\"none\" viewBox=\"0 ",
     )?;
-    put_length(out, -(reach.greatest + margin as i128))?;
-    out.extend_from_slice(b" ")?;
+    put_length(out, top(reach))?;
+    put_markup(out, b" ")?;
     put_width(out, count)?;
-    out.extend_from_slice(b" ")?;
-    put_length(out, (height + 2 * margin) as i128)?;
+    put_markup(out, b" ")?;
+    put_length(out, room(reach))?;
     put_markup(out, b"\"><g transform=\"scale(1 -1)\">\n")
 }
 
@@ -104,10 +130,10 @@ fn put_level(out: &mut Vec<u8>, class: &[u8], at: i128, count: usize) -> Result<
     ensures { OnOk result (out.new.items ≡ out.old.items ++ level class.now at count) }
 {
     put_markup(out, b"<path class=\"")?;
-    out.extend_from_slice(class)?;
-    out.extend_from_slice(b"\" d=\"M0 ")?;
+    put_markup(out, class)?;
+    put_markup(out, b"\" d=\"M0 ")?;
     put_length(out, at)?;
-    out.extend_from_slice(b"H")?;
+    put_markup(out, b"H")?;
     put_width(out, count)?;
     put_markup(out, b"\"/>\n")
 }
@@ -128,9 +154,9 @@ fn put_stroke(out: &mut Vec<u8>, number: usize, name: &[u8], span: Span) -> Resu
 {
     put_markup(out, b"<path d=\"M")?;
     put_count(out, number)?;
-    out.extend_from_slice(b" ")?;
+    put_markup(out, b" ")?;
     put_length(out, span.least)?;
-    out.extend_from_slice(b"V")?;
+    put_markup(out, b"V")?;
     put_length(out, span.greatest)?;
     put_between(out, b"\"><title>", name, b"</title></path>\n")
 }

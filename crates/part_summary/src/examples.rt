@@ -159,7 +159,7 @@ pub fn charts_have_strokes()
     ensures nothing { reach_after 0 (reach_of None) [] ≡ span (pos 0) (pos 0) }
     ensures limits { limit_levels small 3
         ≡ codes "<path class=\"limit\" d=\"M0 0.000H4\"/>\n<path class=\"limit\" d=\"M0 0.003H4\"/>\n" }
-    ensures start { chart_start (span (negsuc 1) (pos 38)) 3
+    ensures start { chart_start (span (negsuc 0) (pos 38)) 3
         ≡ codes "<svg class=\"run\" preserveAspectRatio=\"none\" viewBox=\"0 -0.040 4 0.043\"><g transform=\"scale(1 -1)\">\n" }
 {}
 

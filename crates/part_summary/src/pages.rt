@@ -2,7 +2,7 @@
 
 ghost use Rattle.std.specs.Prelude.{◌≡◌, ◌++◌, ◌*◌, ◌-◌, ◌≤◌, IfOk, OnOk, [], drop, length, option_map, take, unwrap_or};
 ghost use Rattle.std.specs.List.{flat_map};
-ghost use Rattle.dme_orders.specs.Reporting.{shown_name};
+ghost use Rattle.dme_orders.specs.Named.{shown_name};
 ghost use Rattle.drawings.specs.Markup.{between, cells};
 ghost use Rattle.drawings.specs.Pages.{style, within_line};
 ghost use Rattle.drawings.specs.Texts.{markup};

@@ -1,0 +1,15 @@
+use Rattle.std.proofs.Common.{◌∙◌, append_assoc}
+use Rattle.std.proofs.lemmas.Result.{on_ok_weaker}
+use Rattle.part_summary.specs.Pages.{lacking_line}
+use Rattle.part_summary.proofs.pages.put_lacking_part.Goals as goal
+
+pub returns : goal.returns
+unfolding lacking_line
+returns c = on_ok_weaker c.put_markup.result
+    (λ e. e ∙ simp (
+      c.in_ok-extend_from_slice.ensures.items,
+      c.in_ok-few_text.ensures,
+      c.in_ok-put_between.ensures,
+      append_assoc,
+    ))
+    c.put_markup.ensures

@@ -1,0 +1,8 @@
+use Rattle.std.proofs.Common.{◌∙◌, append_assoc}
+use Rattle.std.proofs.lemmas.Result.{on_ok_weaker}
+use Rattle.part_summary.specs.Pages.{scope_line}
+use Rattle.part_summary.proofs.pages.put_scope.Goals as goal
+
+pub returns : goal.returns
+unfolding scope_line
+returns c = on_ok_weaker c.put_markup-2.result (λ e. e ∙ simp (c.in_ok-put_markup.ensures, append_assoc)) c.put_markup-2.ensures
