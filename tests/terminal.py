@@ -1,8 +1,8 @@
 """How far a run is, on a terminal and elsewhere: `dme run --progress` against `dme serve`, its standard error a pseudo-terminal or a pipe.
 
 On the terminal it is one line that is written anew: each after the first begins with going up a line and erasing it. Its features, its touches
-and its bar are computed here from the program; its times may be any, but the last has nothing left. Nothing else may be shown. In a pipe there
-is a line for each feature. `run` calls this; by itself: tests/terminal.py
+and its bar are computed here from the program; its times may be any, but the last has nothing left. Nothing else may be shown but
+texts for the operator. In a pipe there is a line for each feature. `run` calls this; by itself: tests/terminal.py
 """
 
 import os
@@ -20,7 +20,7 @@ PROGRAM = ROOT / "crates" / "dme_program" / "out" / "dme_program"
 SECONDS = 20
 ANEW = "\x1b[1A\x1b[2K"
 LINE = re.compile(r"\[([#-]{20})\] (\d+) of (\d+) features, (\d+) of (\d+) touches, \d+:[0-5]\d gone(?:, (\d+:[0-5]\d) left)?")
-PROGRAMS = ("two_frames.dmis", "circle.dmis", "flange_cleaned_up.dmis")
+PROGRAMS = ("two_frames.dmis", "circle.dmis", "bracket.dmis")
 
 
 def blocks_of(program):
@@ -42,7 +42,7 @@ def shown(program, is_terminal):
             server.terminate()
             os.close(read)
             os.close(write)
-    return text
+    return "".join(it for it in text.splitlines(True) if not it.startswith("dme: line "))
 
 
 def is_paced(program):
