@@ -27,7 +27,7 @@ chart_style = codes "<!DOCTYPE html>\n<html lang=\"en\"><head><meta charset=\"ut
 abbrev pub page_head : List ℕ → List ℕ
 page_head name = between chart_style (shown_name name) style
 
-abbrev pub name_lines : List ℕ → List ℕ
+unfoldable pub name_lines : List ℕ → List ℕ
 name_lines name = between (codes "<h1>Summary of ") (shown_name name) (codes "</h1>\n")
 
 -- how many records count of how many
@@ -45,7 +45,7 @@ unfoldable pub lacking_line : ℕ → UnfinishedPart → List ℕ
 lacking_line asked part = between (codes "<p class=\"no\"><b>Unfinished:</b> ") part.name []
     ++ (few_words part.measured asked ++ markup (codes "</p>\n"))
 
-abbrev pub lacking_lines : ℕ → ℕ → List UnfinishedPart → List ℕ
+unfoldable pub lacking_lines : ℕ → ℕ → List UnfinishedPart → List ℕ
 lacking_lines counted asked [] =
     if counted == 0 then [] else markup (codes "<p class=\"yes\"><b>Complete:</b> no part that counts lacks a feature.</p>\n")
 lacking_lines counted asked (part ∷ parts) = flat_map (lacking_line asked) (part ∷ parts)
@@ -74,13 +74,13 @@ is_complete counted named [] = counted == named
 is_complete counted named (part ∷ parts) = false
 
 -- how many points are out of limits; each touch of the program is a point of each part
-abbrev pub limits_line : ℕ → Summed → Option (List Limit) → List ℕ
+unfoldable pub limits_line : ℕ → Summed → Option (List Limit) → List ℕ
 limits_line named s None = markup (codes "<p class=\"open\"><b>Not compared with limits:</b> none were named.</p>\n")
 limits_line named s (Some limits) = within_line (all_out s.tallies) (all_compared s.tallies) (is_complete s.counted named s.unfinished)
     (s.counted * length s.tallies - all_compared s.tallies)
 
 -- whether seals were checked
-abbrev pub seals_line : Option (List ℕ) → List ℕ
+unfoldable pub seals_line : Option (List ℕ) → List ℕ
 seals_line None = markup (codes "<p class=\"open\"><b>Seals not checked:</b> no key was named.</p>\n")
 seals_line (Some key) = markup (codes "<p class=\"yes\"><b>Seals checked:</b> seals of the key stand for each record that counts.</p>\n")
 

@@ -11,6 +11,7 @@ use crate::sums::{greater, lesser};
 use crate::tables::length_text;
 use deviations::Range;
 use drawings::{put_between, put_count, put_markup};
+use fixed_um::Um;
 use std::alloc::AllocError;
 
 /// The span of a part's feature, by the number of features before it.
@@ -85,21 +86,22 @@ fn margin(reach: Span) -> u128
     height(reach) / 20 + 1
 }
 
-/// Where the box that is seen begins, with y down.
-fn top(reach: Span) -> i128
-    ensures { result ≡ neg_ℤ (reach.greatest +ℤ pos (margin reach)) }
+/// Appends where the box that is seen begins, with y down.
+fn put_top(out: &mut Vec<u8>, reach: Span) -> Result<(), AllocError>
+    ensures { OnOk result (out.new.items
+        ≡ out.old.items ++ written (neg_ℤ (reach.greatest +ℤ pos (margin reach)))) }
 {
-    -(reach.greatest + margin(reach) as i128)
+    put_length(out, -(reach.greatest + margin(reach) as i128))
 }
 
-/// How high it is.
-fn room(reach: Span) -> i128
-    ensures { result ≡ pos (height reach + 2 * margin reach) }
+/// Appends how high it is.
+fn put_room(out: &mut Vec<u8>, reach: Span) -> Result<(), AllocError>
+    ensures { OnOk result (out.new.items
+        ≡ out.old.items ++ written (pos (height reach + 2 * margin reach))) }
 {
-    (height(reach) + 2 * margin(reach)) as i128
+    put_length(out, (height(reach) + 2 * margin(reach)) as i128)
 }
 
-#[tactic(auto, unfolding(crate::specs::Charts::chart_start))]
 fn put_start(out: &mut Vec<u8>, reach: Span, count: usize) -> Result<(), AllocError>
     ensures { OnOk result (out.new.items ≡ out.old.items ++ chart_start reach count) }
 {
@@ -107,11 +109,11 @@ fn put_start(out: &mut Vec<u8>, reach: Span, count: usize) -> Result<(), AllocEr
         out,
         b"<svg class=\"run\" preserveAspectRatio=\"none\" viewBox=\"0 ",
     )?;
-    put_length(out, top(reach))?;
+    put_top(out, reach)?;
     put_markup(out, b" ")?;
     put_width(out, count)?;
     put_markup(out, b" ")?;
-    put_length(out, room(reach))?;
+    put_room(out, reach)?;
     put_markup(out, b"\"><g transform=\"scale(1 -1)\">\n")
 }
 
@@ -125,7 +127,6 @@ fn put_width(out: &mut Vec<u8>, count: usize) -> Result<(), AllocError>
     }
 }
 
-#[tactic(auto, unfolding(crate::specs::Charts::level))]
 fn put_level(out: &mut Vec<u8>, class: &[u8], at: i128, count: usize) -> Result<(), AllocError>
     ensures { OnOk result (out.new.items ≡ out.old.items ++ level class.now at count) }
 {
@@ -138,6 +139,13 @@ fn put_level(out: &mut Vec<u8>, class: &[u8], at: i128, count: usize) -> Result<
     put_markup(out, b"\"/>\n")
 }
 
+/// Appends a limit in millimetres.
+pub(crate) fn put_limit(out: &mut Vec<u8>, limit: Um) -> Result<(), AllocError>
+    ensures { OnOk result (out.new.items ≡ out.old.items ++ written limit) }
+{
+    put_length(out, i128::from(limit.get()))
+}
+
 fn put_limits(out: &mut Vec<u8>, range: &Option<Range>, count: usize) -> Result<(), AllocError>
     ensures { OnOk result (out.new.items ≡ out.old.items ++ limit_levels range.now count) }
 {
@@ -148,16 +156,27 @@ fn put_limits(out: &mut Vec<u8>, range: &Option<Range>, count: usize) -> Result<
     put_level(out, b"limit", i128::from(range.upper.get()), count)
 }
 
-#[tactic(auto, unfolding(crate::specs::Charts::stroke))]
+fn put_least(out: &mut Vec<u8>, span: Span) -> Result<(), AllocError>
+    ensures { OnOk result (out.new.items ≡ out.old.items ++ written span.least) }
+{
+    put_length(out, span.least)
+}
+
+fn put_greatest(out: &mut Vec<u8>, span: Span) -> Result<(), AllocError>
+    ensures { OnOk result (out.new.items ≡ out.old.items ++ written span.greatest) }
+{
+    put_length(out, span.greatest)
+}
+
 fn put_stroke(out: &mut Vec<u8>, number: usize, name: &[u8], span: Span) -> Result<(), AllocError>
     ensures { OnOk result (out.new.items ≡ out.old.items ++ stroke number name.now span) }
 {
     put_markup(out, b"<path d=\"M")?;
     put_count(out, number)?;
     put_markup(out, b" ")?;
-    put_length(out, span.least)?;
+    put_least(out, span)?;
     put_markup(out, b"V")?;
-    put_length(out, span.greatest)?;
+    put_greatest(out, span)?;
     put_between(out, b"\"><title>", name, b"</title></path>\n")
 }
 
@@ -189,7 +208,6 @@ fn put_strokes(out: &mut Vec<u8>, feature: usize, parts: &[Plot]) -> Result<(), 
 }
 
 /// Appends the run chart of a feature, by the number of features before it. Fails only if out of memory.
-#[tactic(auto, unfolding(crate::specs::Charts::chart_text))]
 pub(crate) fn put_chart(
     out: &mut Vec<u8>,
     feature: usize,

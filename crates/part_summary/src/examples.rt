@@ -164,7 +164,7 @@ pub fn charts_have_strokes()
 {}
 
 /// Each part of a chart, and what it has besides, is within its reach.
-#[tactic(auto, using(crate::proofs::Reaches::held, crate::proofs::Reaches::grown))]
+#[tactic(auto, using(crate::proofs::Reaches::held))]
 pub fn charts_hold_their_parts()
     ensures parts { (feature : ℕ) (reach : Span) (parts : List Plot) → AllByRecursion
         (λ p. IsWithin (reach_after feature reach parts) (span_at feature p)) parts }
@@ -173,6 +173,7 @@ pub fn charts_hold_their_parts()
 {}
 
 /// What is not good news is not called so, and a deviation on a limit is not out.
+#[tactic(auto, unfolding(crate::specs::Pages::lacking_lines, crate::specs::Pages::limits_line))]
 pub fn pages_say_what_counts()
     ensures all { counts_start 3 3 ≡ codes "<p class=\"yes\"><b>All records count:</b> " }
     ensures some { counts_start 2 3 ≡ codes "<p class=\"no\"><b>Not all records count:</b> " }

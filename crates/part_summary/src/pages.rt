@@ -1,6 +1,6 @@
 // A summary as a page.
 
-ghost use Rattle.std.specs.Prelude.{◌≡◌, ◌++◌, ◌*◌, ◌-◌, ◌≤◌, IfOk, OnOk, [], drop, length, option_map, take, unwrap_or};
+ghost use Rattle.std.specs.Prelude.{◌≡◌, ◌++◌, ◌*◌, ◌-◌, ◌≤◌, IfOk, OnOk, [], codes, drop, length, option_map, take, unwrap_or};
 ghost use Rattle.std.specs.List.{flat_map};
 ghost use Rattle.dme_orders.specs.Named.{shown_name};
 ghost use Rattle.drawings.specs.Markup.{between, cells};
@@ -8,11 +8,12 @@ ghost use Rattle.drawings.specs.Pages.{style, within_line};
 ghost use Rattle.drawings.specs.Texts.{markup};
 ghost use Rattle.part_summary.specs.Pages.{all_compared, all_out, chart_style, compared, counts_line, counts_start, figure_row, figure_rows, figure_titles, head_lines, is_complete, lacking_line, lacking_lines, limits_line, name_lines, out_class, out_of, page_end, page_head, page_text, part_row, part_rows, parts_table, range_line, range_lines, scope_line, seals_line, section, sections};
 ghost use Rattle.part_summary.specs.Tables.{figures};
+ghost use Rattle.part_summary.specs.Texts.{few_words};
 
-use crate::charts::{put_chart, put_length};
+use crate::charts::{put_chart, put_limit};
 use crate::plots::Plot;
 use crate::summary::{Summary, Unfinished, range_named};
-use crate::sums::{Sums, Tally};
+use crate::sums::Tally;
 use crate::tables::figures_of;
 use crate::texts::few_text;
 use deviations::{Limits, Range};
@@ -42,6 +43,14 @@ fn put_head(out: &mut Vec<u8>, name: &str) -> Result<(), AllocError>
     put_between(out, chart_style(), shown_name(name).as_bytes(), style())
 }
 
+#[tactic(auto, unfolding(crate::specs::Pages::name_lines))]
+fn put_name(out: &mut Vec<u8>, name: &str) -> Result<(), AllocError>
+    ensures { OnOk result (out.new.items ≡ out.old.items ++ name_lines name.now) }
+{
+    let shown = shown_name(name).as_bytes();
+    put_between(out, b"<h1>Summary of ", shown, b"</h1>\n")
+}
+
 fn counts_start(counted: u64, named: usize) -> &'static [u8]
     ensures { result.now ≡ counts_start counted named }
 {
@@ -65,21 +74,31 @@ fn put_counts(out: &mut Vec<u8>, counted: u64, named: usize) -> Result<(), Alloc
     put_markup(out, b" records count.</p>\n")
 }
 
-#[tactic(auto, unfolding(crate::specs::Pages::lacking_line))]
+fn put_unfinished(out: &mut Vec<u8>, part: &Unfinished) -> Result<(), AllocError>
+    ensures { OnOk result (out.new.items ≡ out.old.items
+        ++ between (codes "<p class=\"no\"><b>Unfinished:</b> ") part.now.name []) }
+{
+    let name = part.name.as_slice();
+    put_between(out, b"<p class=\"no\"><b>Unfinished:</b> ", name, b"")
+}
+
+fn put_few(out: &mut Vec<u8>, asked: usize, part: &Unfinished) -> Result<(), AllocError>
+    ensures { OnOk result (out.new.items
+        ≡ out.old.items ++ few_words part.now.measured asked) }
+{
+    let few = few_text(*out.allocator(), part.measured, asked)?;
+    out.extend_from_slice(few.as_bytes())
+}
+
 fn put_lacking_part(out: &mut Vec<u8>, asked: usize, part: &Unfinished) -> Result<(), AllocError>
     ensures { OnOk result (out.new.items ≡ out.old.items ++ lacking_line asked part.now) }
 {
-    let few = few_text(*out.allocator(), part.measured, asked)?;
-    put_between(
-        out,
-        b"<p class=\"no\"><b>Unfinished:</b> ",
-        part.name.as_slice(),
-        b"",
-    )?;
-    out.extend_from_slice(few.as_bytes())?;
+    put_unfinished(out, part)?;
+    put_few(out, asked, part)?;
     put_markup(out, b"</p>\n")
 }
 
+#[tactic(auto, unfolding(crate::specs::Pages::lacking_lines))]
 fn put_lacking(
     out: &mut Vec<u8>,
     counted: u64,
@@ -170,6 +189,7 @@ fn is_complete(counted: u64, named: usize, parts: &[Unfinished]) -> bool
     }
 }
 
+#[tactic(auto, unfolding(crate::specs::Pages::seals_line))]
 fn put_seals(out: &mut Vec<u8>, key: &Option<Vec<u8>>) -> Result<(), AllocError>
     ensures { OnOk result (out.new.items
         ≡ out.old.items ++ seals_line (option_map (λ key. key.items) key.now)) }
@@ -186,7 +206,6 @@ fn put_seals(out: &mut Vec<u8>, key: &Option<Vec<u8>>) -> Result<(), AllocError>
     }
 }
 
-#[tactic(auto, unfolding(crate::specs::Pages::scope_line))]
 fn put_scope(out: &mut Vec<u8>) -> Result<(), AllocError>
     ensures { OnOk result (out.new.items ≡ out.old.items ++ scope_line) }
 {
@@ -200,10 +219,10 @@ fn put_scope(out: &mut Vec<u8>) -> Result<(), AllocError>
     )
 }
 
-fn out_class(sums: &Option<Sums>) -> &'static [u8]
-    ensures { result.now ≡ out_class sums.now }
+fn out_class(tally: &Tally) -> &'static [u8]
+    ensures { result.now ≡ out_class tally.now.sums }
 {
-    match sums {
+    match &tally.sums {
         Some(sums) if sums.out != 0 => b"out",
         _ => b"",
     }
@@ -223,11 +242,10 @@ fn put_figures(out: &mut Vec<u8>, number: u64, tally: &Tally) -> Result<(), Allo
     put_cell(out, figures.out.as_bytes())
 }
 
-#[tactic(auto, unfolding(crate::specs::Pages::figure_row))]
 fn put_figure_row(out: &mut Vec<u8>, number: u64, tally: &Tally) -> Result<(), AllocError>
     ensures { OnOk result (out.new.items ≡ out.old.items ++ figure_row number tally.now) }
 {
-    put_between(out, b"<tr class=\"", out_class(&tally.sums), b"\">")?;
+    put_between(out, b"<tr class=\"", out_class(tally), b"\">")?;
     put_figures(out, number, tally)?;
     put_markup(out, b"</tr>\n")
 }
@@ -256,14 +274,13 @@ fn put_titles(out: &mut Vec<u8>) -> Result<(), AllocError>
     put_markup(out, b"<th>range</th><th>out</th></tr></thead><tbody>\n")
 }
 
-#[tactic(auto, unfolding(crate::specs::Pages::range_line))]
 fn put_range_line(out: &mut Vec<u8>, range: &Range) -> Result<(), AllocError>
     ensures { OnOk result (out.new.items ≡ out.old.items ++ range_line range.now) }
 {
     put_markup(out, b"<p>Limits ")?;
-    put_length(out, i128::from(range.lower.get()))?;
+    put_limit(out, range.lower)?;
     put_markup(out, b" to ")?;
-    put_length(out, i128::from(range.upper.get()))?;
+    put_limit(out, range.upper)?;
     put_markup(out, b"</p>\n")
 }
 
@@ -392,7 +409,6 @@ fn put_parts(out: &mut Vec<u8>, parts: &[Plot]) -> Result<(), AllocError>
     Ok(())
 }
 
-#[tactic(auto, unfolding(crate::specs::Pages::parts_table))]
 fn put_table(out: &mut Vec<u8>, parts: &[Plot]) -> Result<(), AllocError>
     ensures { OnOk result (out.new.items ≡ out.old.items ++ parts_table parts.now) }
 {
@@ -416,6 +432,7 @@ fn put_end(out: &mut Vec<u8>) -> Result<(), AllocError>
 
 impl<'a> Summary<'a> {
     /// Appends how many points are out of limits. Fails only if out of memory, or if there are too many points.
+    #[tactic(auto, unfolding(crate::specs::Pages::limits_line))]
     fn put_within(&self, out: &mut Vec<u8>, named: usize) -> Result<(), AllocError>
         ensures { OnOk result (out.new.items
             ≡ out.old.items ++ limits_line named self.now self.now.limits) }
@@ -447,8 +464,7 @@ impl<'a> Summary<'a> {
         ensures { OnOk result (out.new.items ≡ out.old.items ++ head_lines name.now named self.now) }
     {
         let asked = self.program.features().len();
-        let shown = shown_name(name).as_bytes();
-        put_between(out, b"<h1>Summary of ", shown, b"</h1>\n")?;
+        put_name(out, name)?;
         put_counts(out, self.counted, named)?;
         put_lacking(out, self.counted, asked, self.unfinished.as_slice())?;
         self.put_within(out, named)?;

@@ -201,7 +201,6 @@ fn name_unfinished(
 }
 
 /// Puts a part in at its place, if there is room for it.
-#[tactic(auto, using(crate::proofs::Placing::put_in))]
 fn put_in(plots: &mut Vec<Plot>, part: Plot)
     requires { vec_len plots.old < vec_capacity plots.old }
     ensures { plots.new.items ≡ placed part plots.old.items }

@@ -7,13 +7,11 @@ pub returns : goal.returns
 unfolding chart_start
 returns c = on_ok_weaker c.put_markup-4.result
     (λ e. e ∙ simp (
-      c.in_ok-put_length-2.ensures,
-      c.room.ensures,
+      c.in_ok-put_room.ensures,
       c.in_ok-put_markup-3.ensures,
       c.in_ok-put_width.ensures,
       c.in_ok-put_markup-2.ensures,
-      c.in_ok-put_length.ensures,
-      c.top.ensures,
+      c.in_ok-put_top.ensures,
       c.in_ok-put_markup.ensures,
       append_assoc,
     ))

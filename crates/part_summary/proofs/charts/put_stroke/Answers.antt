@@ -7,9 +7,9 @@ pub returns : goal.returns
 unfolding stroke
 returns c = on_ok_weaker c.put_between.result
     (λ e. e ∙ simp (
-      c.in_ok-put_length-2.ensures,
+      c.in_ok-put_greatest.ensures,
       c.in_ok-put_markup-3.ensures,
-      c.in_ok-put_length.ensures,
+      c.in_ok-put_least.ensures,
       c.in_ok-put_markup-2.ensures,
       c.in_ok-put_count.ensures,
       c.in_ok-put_markup.ensures,

@@ -7,9 +7,8 @@ pub returns : goal.returns
 unfolding lacking_line
 returns c = on_ok_weaker c.put_markup.result
     (λ e. e ∙ simp (
-      c.in_ok-extend_from_slice.ensures.items,
-      c.in_ok-few_text.ensures,
-      c.in_ok-put_between.ensures,
+      c.in_ok-put_few.ensures,
+      c.in_ok-put_unfinished.ensures,
       append_assoc,
     ))
     c.put_markup.ensures

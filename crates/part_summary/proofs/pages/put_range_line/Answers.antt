@@ -7,9 +7,9 @@ pub returns : goal.returns
 unfolding range_line
 returns c = on_ok_weaker c.put_markup-3.result
     (λ e. e ∙ simp (
-      c.in_ok-put_length-2.ensures,
+      c.in_ok-put_limit-2.ensures,
       c.in_ok-put_markup-2.ensures,
-      c.in_ok-put_length.ensures,
+      c.in_ok-put_limit.ensures,
       c.in_ok-put_markup.ensures,
       append_assoc,
     ))
