@@ -384,11 +384,9 @@ impl Session {
         let count = self.complete();
         let lines = self.feature_lines(count)?;
         self.shown.push_str(lines.as_str())?;
+        let is_paced = count > self.told;
         self.told = count;
-        let before = self.shown.len();
-        self.show_texts()?;
-        self.pacing
-            .show(!lines.is_empty(), self.shown.len() > before);
+        self.show_texts(is_paced)?;
         if self.shown.is_empty() {
             return self.go_on();
         }
