@@ -15,6 +15,7 @@ use refusal_guide::InputFiles;
 use run_opening::Opening;
 use services::{Relay, RelaySession, Service as Values, Session};
 use std::alloc::AllocError;
+use std::io::IsTerminal;
 use tool_rack::Setup;
 use watched_ends::{Job, Session as Reading};
 
@@ -121,7 +122,8 @@ pub fn watch(rt: HostRuntime, order: Watch) -> Result<u8, AllocError> {
 pub fn run_program(rt: HostRuntime, order: Run) -> u8
     requires { is_window order.window ≡ true }
 {
-    let mut opening = Opening::new(rt.alloc(), order);
+    let on_terminal = rt.stderr().is_terminal();
+    let mut opening = Opening::new(rt.alloc(), order, on_terminal);
     let mut hands = RealHands::new(rt);
     let status = run_opening::run(&mut opening, &mut hands).unwrap_or(ENDLESS);
     drop(opening);

@@ -8,7 +8,7 @@ ghost use Rattle.record_text.specs.Growths.{begun};
 ghost use Rattle.run_opening.specs.Openings as spec;
 
 use crate::openings::Opening;
-use crate::sayings::{kept_lines, next_lines, text_lines, touches_of};
+use crate::sayings::{kept_lines, next_lines, text_lines};
 use crate::stages::Stage;
 use client_core::Client;
 use contact_ledger::{CONNECTION_MAX, FeatureLedger, ServerLedger};
@@ -16,7 +16,7 @@ use effects::Answer;
 use order_parts::{OrderFault, TextPlace, kept_client};
 use program_review::{Waits, command_lines, text_places};
 use record_text::Beginning;
-use run_session::{Begun, Errors, Output, Run};
+use run_session::{Begun, Errors, Output, Run, touches_of};
 use std::alloc::{AllocError, Global};
 
 const ASKED: &str = "dme: an empty line begins the run, anything else ends it\n";
@@ -241,6 +241,7 @@ impl Opening {
             trace: self.order.trace,
             log: self.order.log.take(),
             progress: self.order.progress,
+            on_terminal: self.on_terminal,
             features,
             contacts,
             record,

@@ -28,6 +28,8 @@ const OUT_OF_MEMORY: &str = "dme: out of memory\n";
 pub struct Opening {
     pub(crate) alloc: Global,
     pub(crate) order: Run,
+    /// Whether standard error is a terminal.
+    pub(crate) on_terminal: bool,
     pub(crate) stage: Stage,
     /// The files that were compared.
     pub(crate) called: Vec<Called>,
@@ -89,15 +91,16 @@ impl Model for Opening {
 }
 
 impl Opening {
-    /// A run of these values.
+    /// A run of these values, which shows how far it is on a terminal or not.
     #[tactic(auto, using(crate::proofs::Comparing::begins_comparing))]
-    pub fn new(alloc: Global, order: Run) -> Opening
+    pub fn new(alloc: Global, order: Run, on_terminal: bool) -> Opening
         requires { is_window order.window ≡ true }
         ensures { spec.Holds order result spec.untouched }
     {
         let mut opening = Opening {
             alloc,
             order,
+            on_terminal,
             stage: Stage::Placing(0),
             called: Vec::new(alloc),
             input_is_taken: false,

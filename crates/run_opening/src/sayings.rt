@@ -6,6 +6,7 @@ use dmis_program::{Touch, Wanted};
 use fixed_um::Frame;
 use order_parts::{TextPlace, first_lines, kept_text};
 use program_review::{Lack, Reading, Task, TaskLine, What, lacking_for};
+use run_session::touches_of;
 use std::alloc::{AllocError, Global};
 use tool_rack::Setup;
 
@@ -57,15 +58,6 @@ pub(crate) fn kept_lines(
         text.push_str(line.as_str())?;
     }
     Ok(text)
-}
-
-/// How many touches these features have.
-pub(crate) fn touches_of(wanted: &[Wanted]) -> usize {
-    let mut count: usize = 0;
-    for feature in wanted {
-        count = count.saturating_add(feature.touches.as_slice().len());
-    }
-    count
 }
 
 /// The line of the touch of a program with this number, from 0.

@@ -3,3 +3,4 @@ pub mod Errors
 pub mod Killed
 pub mod Evidence
 pub mod Records
+pub mod Progress

@@ -1,6 +1,6 @@
 // Examples: what is asked and what comes of it. Each function has laws for its contract and does nothing.
 
-ghost use Rattle.std.specs.Prelude.{◌≡◌, ℕ, [], ◌∷◌, List, ◌++◌, true, false, length, None, Some, codes};
+ghost use Rattle.std.specs.Prelude.{◌≡◌, ℕ, [], ◌∷◌, List, ◌++◌, true, false, length, map, None, Some, codes, decimal};
 ghost use Rattle.record_text.specs.declared.notes.Note.TheVariants.{Operator, Opened, Dated, Left};
 ghost use Rattle.run_session.specs.Evidence.{due, has_due, noted_open};
 ghost use Rattle.client_core.specs.Calls.{Abort};
@@ -21,6 +21,8 @@ ghost use Rattle.dmis_program.specs.declared.features.Touch.{Touch};
 ghost use Rattle.dmis_program.specs.declared.features.Wanted.{Wanted};
 ghost use Rattle.run_session.specs.ErrorRows.{row, two};
 ghost use Rattle.run_session.specs.Errors.{Hears, Records, Talk, error_kept, error_line, new_talk, touch_text, with_about, with_written};
+ghost use Rattle.run_session.specs.Progress.{cell, clock, full_cells, left, pace_line, paced};
+ghost use Rattle.run_session.specs.declared.progress.Pace.{Pace};
 ghost use Rattle.session_telling.specs.Dialogues.{Reported};
 ghost use Rattle.run_session.specs.declared.stages.Stage.TheVariants.{Checking, Peeking, Recording, Settling, Reporting, ReplacingContacts, Listing, Showing, Sending, Receiving, Awaiting, Returning, Closing, Leaving, Ending, Telling, Exiting};
 
@@ -207,4 +209,26 @@ pub fn error_rows()
         → Hears fs (codes "00005 ! 1 x") t u before after → after ≡ before }
     ensures recorded { (t u : Talk) (error : List ℕ) → t.errors ≡ []
         → Records (error ∷ []) t u → ⊥ }
+{}
+
+/// The line of a run on a terminal: its bar is rounded down, and what is left goes by the touches of this run alone.
+pub fn pace_rows()
+    ensures eight { full_cells paced ≡ 8 }
+    ensures complete { full_cells (record paced { touches = 40 }) ≡ 20 }
+    ensures left { left paced ≡ Some 74 }
+    ensures resumed { left (record paced { before = 17 }) ≡ None }
+    ensures cells { map (cell 2) (1 ∷ 2 ∷ []) ≡ codes "#-" }
+{}
+
+/// Seconds have two digits; and the line is that of its pace.
+pub fn clock_rows()
+    ensures minute { clock 74 ≡ decimal 1 ++ (codes ":" ++ (decimal 1 ++ decimal 4)) }
+    ensures second { clock 9 ≡ decimal 0 ++ (codes ":" ++ (decimal 0 ++ decimal 9)) }
+{}
+
+/// A line that is written anew is the same one, at the place of the last.
+#[tactic(auto, unfolding(crate::specs::Progress::pace_line))]
+pub fn anew_rows()
+    ensures { (p : Pace) → pace_line true p
+        ≡ 27 ∷ 91 ∷ 49 ∷ 65 ∷ 27 ∷ 91 ∷ 50 ∷ 75 ∷ pace_line false p }
 {}

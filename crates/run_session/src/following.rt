@@ -4,11 +4,21 @@ ghost use Rattle.std.specs.Prelude.{◌≡◌, ◌∷◌, [], ◌<◌, ◌≤◌
 ghost use Rattle.effects.specs.Effects.{the_reply};
 ghost use Rattle.run_session.specs.Records as spec;
 
+use crate::progress::{Pace, pace_line, touches_of};
 use crate::runs::Kept;
 use crate::{Session, Stage};
+use dmis_program::Wanted;
 use effects::{Answer, Cause};
 use session_telling::{cause_of, stamped, why_unwritten};
 use std::alloc::AllocError;
+
+/// The first of these, up to this many.
+fn first(wanted: &[Wanted], count: usize) -> &[Wanted] {
+    match wanted.split_at_checked(count) {
+        Some((first, _)) => first,
+        None => wanted,
+    }
+}
 
 impl Session {
     /// The record gets the lines of what the client has counted since. Fails only if out of memory.
@@ -97,6 +107,7 @@ impl Session {
         match (self.stage, answer) {
             (Stage::Tracing, _) => {
                 self.shown.clear();
+                self.pacing.is_last = false;
                 self.log()
             }
             (Stage::Noting, _) => self.noted(answer),
@@ -310,6 +321,28 @@ impl Session {
         }
     }
 
+    /// How far the run is once this many features are complete.
+    fn pace(&self, count: usize) -> Pace {
+        let wanted = self.client.program().features();
+        Pace {
+            measured: count,
+            asked: wanted.len(),
+            before: touches_of(first(wanted, self.kept)),
+            touches: touches_of(first(wanted, count)),
+            all: touches_of(wanted),
+            gone: self.pacing.gone(),
+        }
+    }
+
+    /// The line that says so, if a feature was not shown; it takes the place of the last one if nothing was shown since.
+    fn pace_text(&self, count: usize) -> Result<String, AllocError> {
+        if count == self.told {
+            return Ok(String::new(self.alloc));
+        }
+        let is_anew = self.pacing.is_last && self.shown.is_empty();
+        pace_line(self.alloc, is_anew, self.pace(count))
+    }
+
     /// The lines of the features up to this one that were not shown, if asked.
     fn feature_lines(&self, count: usize) -> Result<String, AllocError>
         requires { count ≤ spec.complete self.now }
@@ -317,6 +350,9 @@ impl Session {
         let mut lines = String::new(self.alloc);
         if !self.run.progress {
             return Ok(lines);
+        }
+        if self.run.on_terminal {
+            return self.pace_text(count);
         }
         for at in self.told..count {
             let line = self.feature_line(at)?;
@@ -338,6 +374,22 @@ impl Session {
         }
     }
 
+    /// The lines of the features that are complete since are to be shown, if asked, and the texts whose place is reached.
+    fn add_features(&mut self) -> Result<(), AllocError>
+        ensures ran { spec.Keeps self.old self.new }
+        ensures book { self.new.book ≡ self.old.book }
+        ensures told { spec.StaysTold self.old self.new }
+        ensures filed { spec.HasFiled self.old → spec.HasFiled self.new }
+        ensures complete { OnOk result (self.new.shown ≡ spec.complete self.new) }
+    {
+        let count = self.complete();
+        let lines = self.feature_lines(count)?;
+        self.shown.push_str(lines.as_str())?;
+        let is_paced = count > self.told;
+        self.told = count;
+        self.show_texts(is_paced)
+    }
+
     /// The features that are complete since are shown, if asked.
     pub(crate) fn show_features(&mut self) -> Result<(), AllocError>
         ensures ran { spec.Keeps self.old self.new }
@@ -345,11 +397,7 @@ impl Session {
         ensures due { OnOk result (spec.IsDue self.new) }
         ensures followed { OnOk result (spec.Follows self.old self.new) }
     {
-        let count = self.complete();
-        let lines = self.feature_lines(count)?;
-        self.shown.push_str(lines.as_str())?;
-        self.told = count;
-        self.show_texts()?;
+        self.add_features()?;
         if self.shown.is_empty() {
             return self.go_on();
         }

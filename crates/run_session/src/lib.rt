@@ -5,7 +5,7 @@
 //! - `calling`: its server is called; `beginning`: its files begin to grow, and its client comes to the connection
 //! - `turns`: commands are sent, and lines are heard; `errors`: what is shown of the server's errors
 //! - `following`: what the client has counted goes to the files; `reported`, `listed`: those of contacts and of features
-//! - `evidence`: what the record notes of the run
+//! - `evidence`: what the record notes of the run; `progress`: how far it is
 //! - `pausing`: texts for the operator, at which the run waits if it is asked to
 //! - `ending`: the files get their whole texts, and the report is printed; `leaving`: the server is left; `verdicts`: what is said last
 //! - `running`: the session with hands that carry its effects out
@@ -23,6 +23,7 @@ mod laws;
 mod leaving;
 mod listed;
 mod pausing;
+mod progress;
 mod reported;
 mod running;
 mod runs;
@@ -34,6 +35,7 @@ mod verdicts;
 pub use errors::Errors;
 pub use evidence::Noted;
 pub use laws::runs_keep_their_records;
+pub use progress::touches_of;
 pub use running::run;
 pub use runs::{Output, Run};
 pub use sessions::{Begun, Session};

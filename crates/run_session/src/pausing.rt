@@ -75,12 +75,14 @@ impl Session {
         Ok((lines, self.places.len()))
     }
 
-    /// The texts whose place is reached are to be shown, if asked, or if the run waits there.
-    pub(crate) fn show_texts(&mut self) -> Result<(), AllocError>
+    /// The texts whose place is reached are to be shown, if asked, or if the run waits there; after the line of the run's pace, if that is
+    /// shown.
+    pub(crate) fn show_texts(&mut self, is_paced: bool) -> Result<(), AllocError>
         ensures { self.new ≡ self.old }
     {
         let (lines, passed) = self.text_lines()?;
         self.passed = passed;
+        self.pacing.show(is_paced, !lines.is_empty());
         self.shown.push_str(lines.as_str())
     }
 

@@ -31,6 +31,8 @@ pub struct Run {
     pub log: Option<String>,
     /// Whether each completed feature is shown.
     pub progress: bool,
+    /// Whether it is shown on a terminal, as one line that is written anew.
+    pub on_terminal: bool,
     /// The features file.
     pub features: Option<Output>,
     /// The file of reported contacts.

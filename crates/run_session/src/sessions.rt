@@ -13,6 +13,7 @@ use crate::calling::NOT_DONE;
 use crate::errors::Errors;
 use crate::evidence::Noting;
 use crate::listed::Listed;
+use crate::progress::Pacing;
 use crate::reported::Reported;
 use crate::runs::Kept;
 use crate::{Run, Stage};
@@ -171,6 +172,8 @@ pub struct Session {
     pub(crate) is_stopped: bool,
     pub(crate) is_declined: bool,
     pub(crate) seen: Option<State>,
+    /// What it knows of time for the line of its progress.
+    pub(crate) pacing: Pacing,
     /// The texts for the operator, how many of them were shown, the pauses that are to come, and whether the first of these is asked for.
     pub(crate) places: Vec<TextPlace>,
     pub(crate) passed: usize,
@@ -312,6 +315,7 @@ impl Session {
             is_stopped: false,
             is_declined: false,
             seen: None,
+            pacing: Pacing::new(),
             places,
             passed: 0,
             pauses,

@@ -217,7 +217,7 @@ impl Session {
     {
         self.stage = if self.is_asked && self.is_paused() {
             Stage::Awaiting
-        } else if self.wait.limit.is_some() {
+        } else if self.wait.limit.is_some() || self.run.on_terminal {
             Stage::Timing
         } else {
             Stage::Receiving
@@ -296,10 +296,13 @@ impl Session {
         ensures followed { OnOk result (spec.Follows self.old self.new) }
     {
         match (self.stage, answer) {
-            (Stage::Timing, Answer::At(now)) => match self.wait.lapse(now) {
-                Some(lapse) => return self.lapsed(lapse, PumpFault::ReadFailed),
-                None => self.stage = Stage::Receiving,
-            },
+            (Stage::Timing, Answer::At(now)) => {
+                self.pacing.look(now);
+                match self.wait.lapse(now) {
+                    Some(lapse) => return self.lapsed(lapse, PumpFault::ReadFailed),
+                    None => self.stage = Stage::Receiving,
+                }
+            }
             (Stage::Timing, _) => self.stage = Stage::Receiving,
             (_, Answer::Bytes(piece)) => return self.came(piece),
             (_, Answer::Nothing) => return self.go_on(),

@@ -100,7 +100,7 @@ fn order(alloc: Global) -> Result<Run, AllocError>
 /// A run.
 pub(crate) fn new_run(alloc: Global) -> Result<Plays, Stop> {
     Ok(Plays::Run(Running {
-        opening: Opening::new(alloc, order(alloc)?),
+        opening: Opening::new(alloc, order(alloc)?, false),
         session: None,
     }))
 }

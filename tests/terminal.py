@@ -1,0 +1,81 @@
+"""How far a run is, on a terminal and elsewhere: `dme run --progress` against `dme serve`, its standard error a pseudo-terminal or a pipe.
+
+On the terminal it is one line that is written anew: each after the first begins with going up a line and erasing it. Its features, its touches
+and its bar are computed here from the program; its times may be any, but the last has nothing left. Nothing else may be shown but
+texts for the operator. In a pipe there is a line for each feature. `run` calls this; by itself: tests/terminal.py
+"""
+
+import os
+import pathlib
+import pty
+import re
+import subprocess
+import sys
+
+from listening import free_port
+
+ROOT = pathlib.Path(__file__).resolve().parent.parent
+EXAMPLES = ROOT / "examples"
+PROGRAM = ROOT / "crates" / "dme_program" / "out" / "dme_program"
+SECONDS = 20
+ANEW = "\x1b[1A\x1b[2K"
+LINE = re.compile(r"\[([#-]{20})\] (\d+) of (\d+) features, (\d+) of (\d+) touches, \d+:[0-5]\d gone(?:, (\d+:[0-5]\d) left)?")
+PROGRAMS = ("two_frames.dmis", "circle.dmis", "bracket.dmis")
+
+
+def blocks_of(program):
+    """The labels of a program's features, and how many touches each has."""
+    return [(label, int(count)) for label, count in re.findall(r"^MEAS/\w+,F\((\w+)\),(\d+)", (EXAMPLES / program).read_text(), re.M)]
+
+
+def shown(program, is_terminal):
+    """What a run shows on standard error."""
+    port = str(free_port())
+    words = ["--setup", "machine.setup", "--port", port]
+    read, write = pty.openpty() if is_terminal else os.pipe()
+    with subprocess.Popen([PROGRAM, "serve", *words], cwd=EXAMPLES, stdout=subprocess.DEVNULL, stderr=subprocess.DEVNULL) as server:
+        run = [PROGRAM, "run", *words, "--host", "127.0.0.1", "--wait", "10", "--progress", program]
+        try:
+            subprocess.run(run, cwd=EXAMPLES, stdin=subprocess.DEVNULL, stdout=subprocess.DEVNULL, stderr=write, timeout=SECONDS, check=True)
+            text = os.read(read, 1_000_000).decode().replace("\r\n", "\n")
+        finally:
+            server.terminate()
+            os.close(read)
+            os.close(write)
+    return "".join(it for it in text.splitlines(True) if not it.startswith("dme: line "))
+
+
+def is_paced(program):
+    """Whether a run shows its features on a terminal as one line."""
+    blocks, lines = blocks_of(program), shown(program, True).split("\n")
+    touches = sum(count for _, count in blocks)
+    if lines.pop() or len(lines) != len(blocks):
+        return False
+    for number, line in enumerate(lines, 1):
+        if number > 1 and not line.startswith(ANEW):
+            return False
+        found = LINE.fullmatch(line.removeprefix(ANEW) if number > 1 else line)
+        done = sum(count for _, count in blocks[:number])
+        bar = "#" * (20 * done // touches) + "-" * (20 - 20 * done // touches)
+        if not found or found.groups()[:5] != (bar, str(number), str(len(blocks)), str(done), str(touches)):
+            return False
+    return found.group(6) == "0:00"
+
+
+def is_listed(program):
+    """Whether it shows a line for each feature elsewhere."""
+    blocks = blocks_of(program)
+    return shown(program, False) == "".join(f"feature {n} of {len(blocks)}: {label}\n" for n, (label, _) in enumerate(blocks, 1))
+
+
+def check_terminal():
+    """How many runs are shown as they have to be, and how many are not."""
+    wrong = [it for it in PROGRAMS if not (PROGRAM.exists() and is_paced(it) and is_listed(it))]
+    for name in wrong:
+        print(f"progress of {name}: not as expected")
+    print(f"runs on a terminal: {len(PROGRAMS) - len(wrong)} of {len(PROGRAMS)}", flush=True)
+    return len(PROGRAMS) - len(wrong), len(wrong)
+
+
+if __name__ == "__main__":
+    sys.exit(1 if check_terminal()[1] else 0)
