@@ -302,6 +302,7 @@ pub new_kept : (before : List (ℕ × Act)) (s : State) → s.book ≡ record {
   keeps = s.book.keeps;
   short = s.book.short;
   spent = s.book.spent;
+  key = s.book.key;
 }
     → HasReported before s.pair s.reports → IsKept s.pair before s (record { file = s.pair.recording.text; safe = s.pair.recording.text; marks = s.reports.marks })
 new_kept before s book reported = record {

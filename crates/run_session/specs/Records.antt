@@ -76,6 +76,7 @@ pub record Book : Type 0 where
   pub keeps : Bool  -- whether there is a record
   pub short : Bool  -- whether memory has run out before the client was on its connection
   pub spent : Bool  -- whether it has run out
+  pub key : Option (List ℕ)  -- that of the record's seals, if it is sealed
 
 -- what is known of the files besides the record, and of the report
 pub record Marks : Type 0 where
@@ -158,6 +159,7 @@ pub record Start : Type 0 where
   pub keeps : Bool
   pub reports : Reports
   pub talk : Talk
+  pub key : Option (List ℕ)
 
 -- what the record's file has: with what may not be on the device, and what no crash takes away; and what was answered of the others
 pub record Outside : Type 0 where
@@ -305,9 +307,13 @@ is_stop st reply = false
 abbrev pub Notes : Says → State → State → Type 0
 Notes said s t = (t.pair.recording ≡ s.pair.recording) ⊎ (t.pair.recording ≡ with_notes (said ∷ []) s.pair.recording)
 
--- the note is the seal of a key for all that was there
+-- the note is the seal of its key for all that was there; without a key nothing is noted
+abbrev pub SealsBy : Option (List ℕ) → State → State → Type 0
+SealsBy None s t = t.pair.recording ≡ s.pair.recording
+SealsBy (Some key) s t = Notes (Sealed, seal_of key s.pair.recording.text) s t
+
 abbrev pub Seals : State → State → Type 0
-Seals s t = (t.pair.recording ≡ s.pair.recording) ⊎ ((key : List ℕ) × Notes (Sealed, seal_of key s.pair.recording.text) s t)
+Seals s t = SealsBy s.book.key s t
 
 -- a client that is stopped aborts, if it is Running or Failing: in another state that call is not possible, and changes nothing
 abbrev pub stopped : Bool → State → State

@@ -25,8 +25,25 @@ impl Session {
             self.stage = Stage::Noting;
             return Ok(());
         }
+        self.end_run()
+    }
+
+    /// How it has ended is known, and its features are to be in their file.
+    fn end_run(&mut self) -> Result<(), AllocError>
+        ensures quiet { spec.IsQuiet self.old self.new }
+        ensures due { OnOk result (spec.IsDue self.new) }
+        ensures followed { OnOk result (spec.Follows self.old self.new) }
+    {
         self.is_on = false;
         self.judge()?;
+        self.end_files()
+    }
+
+    fn end_files(&mut self) -> Result<(), AllocError>
+        ensures quiet { spec.IsQuiet self.old self.new }
+        ensures due { OnOk result (spec.IsDue self.new) }
+        ensures followed { OnOk result (spec.Follows self.old self.new) }
+    {
         if self.run.features.is_none() {
             return self.print();
         }

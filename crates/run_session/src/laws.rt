@@ -35,6 +35,7 @@ pub fn runs_keep_their_records()
       keeps = s.book.keeps;
       short = s.book.short;
       spent = s.book.spent;
+      key = s.book.key;
     }
         → HasReported before s.pair s.reports → IsKept s.pair before s (record {
           file = s.pair.recording.text;

@@ -1,6 +1,6 @@
 // A session: what it asks, and what it does with an answer.
 
-ghost use Rattle.std.specs.Prelude.{◌≡◌, true, false, length, drop, map, is_some, None, OnOk, IfOk};
+ghost use Rattle.std.specs.Prelude.{◌≡◌, true, false, length, drop, map, is_some, option_map, None, OnOk, IfOk};
 ghost use Rattle.std.specs.Option.{option_map_or};
 ghost use Rattle.effects.specs.Effects.{the_ask, the_reply};
 ghost use Rattle.protocol_model.specs.Ends.{end_connected};
@@ -53,7 +53,7 @@ impl Model for Begun {
 
     ghost Value = { Start };
 
-    ghost use Rattle.std.specs.Prelude.{is_some, false};
+    ghost use Rattle.std.specs.Prelude.{is_some, false, option_map};
 
     ghost view = { λ b. record {
       growth = b.growth;
@@ -74,6 +74,7 @@ impl Model for Begun {
         };
       };
       talk = b.errors;
+      key = option_map (λ key. key.items) b.run.key;
     } };
 }
 
@@ -101,6 +102,7 @@ impl Begun {
             ≡ spec.first_reports (is_some run.contacts)
             (option_map_or (λ file. file.grows) run.features false) number told.now) }
         ensures talk { IfOk result (λ b. b.talk ≡ errors) }
+        ensures key { IfOk result (λ b. b.key ≡ option_map (λ key. key.items) run.key) }
     {
         let pauses = pauses(alloc, places.as_slice())?;
         let reported = Reported::new(alloc, told)?;
@@ -203,7 +205,7 @@ pub struct Session {
 
 impl Model for Session {
     ghost use Rattle.run_session.specs.Records.{State as OneState};
-    ghost use Rattle.std.specs.Prelude.{is_some};
+    ghost use Rattle.std.specs.Prelude.{is_some, option_map};
 
     ghost Value = { OneState };
 
@@ -218,6 +220,7 @@ impl Model for Session {
         keeps = is_some s.run.record;
         short = s.is_short;
         spent = s.is_spent;
+        key = option_map (λ key. key.items) s.run.key;
       };
       reports = record {
         named = is_some s.run.contacts;
@@ -254,6 +257,7 @@ impl Session {
           keeps = begun.keeps;
           short = false;
           spent = false;
+          key = begun.key;
         } }
         ensures reports { result.reports ≡ begun.reports }
         ensures talk { result.talk ≡ begun.talk }

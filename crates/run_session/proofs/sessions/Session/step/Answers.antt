@@ -228,3 +228,8 @@ returns-in-Awaiting-clause-stops c = may_stop c.typed.result _ _ c.args.self.now
 pub returns-in-Returning-clause-stops : goal.returns-in-Returning-clause-stops
 returns-in-Returning-clause-stops c = may_stop c.typed-in-Returning.result _ _ c.args.self.now c.typed-in-Returning.new.self (the_reply c.args.answer) c.self.view_is
     (ap (λ (s : State). is_stop s.stage (the_reply c.args.answer)) c.self.view_is) c.typed-in-Returning.ensures.ran c.typed-in-Returning.ensures.spent
+
+pub returns-in-DiscardingFeatures-clause-followed : goal.returns-in-DiscardingFeatures-clause-followed
+returns-in-DiscardingFeatures-clause-followed c = on_filed c.leave_on-in-DiscardingFeatures.result _ c.args.self.now c.leave_on-in-DiscardingFeatures.new.self c.self.view_is
+    (or_paced Filed c.self.inside.stage Stage.DiscardingFeatures refl (is_paced Filed c.self.inside.stage Stage.DiscardingContacts refl) c.in-DiscardingFeatures.is)
+    (ap (λ (s : State). s.book.short) c.leave_on-in-DiscardingFeatures.ensures.quiet) c.leave_on-in-DiscardingFeatures.ensures.followed
