@@ -358,21 +358,27 @@ not_label word known = go (is_label word) refl
     go true e = let h = label_unknown word e in absurd cc
 
 flow_words : AllByRecursion (λ (w : List ℕ). is_unknown (keyword_of w) ≡ true)
-    (codes "IF" ∷ codes "DO" ∷ codes "JUMPTO" ∷ codes "ELSE" ∷ codes "ENDIF" ∷ codes "ENDDO" ∷ [])
+    (codes "IF" ∷ codes "DO" ∷ codes "SELECT" ∷ codes "CASE" ∷ codes "JUMPTO" ∷ codes "ELSE" ∷ codes "ENDIF" ∷ codes "ENDDO" ∷ codes "DFTCAS"
+    ∷ codes "ENDCAS" ∷ codes "ENDSEL" ∷ [])
 unfolding keyword_of
-flow_words = (refl, (refl, (refl, (refl, (refl, (refl, tt))))))
+flow_words = (refl, (refl, (refl, (refl, (refl, (refl, (refl, (refl, (refl, (refl, (refl, tt)))))))))))
 
 other_named : (word : List ℕ) (params : List (List ℕ)) → is_unknown (keyword_of word) ≡ false → part_named word params ≡ Other
 other_named word [] known = rw (
-  other_word word (codes "ELSE") flow_words.1.1.1.0 known,
-  other_word word (codes "ENDIF") flow_words.1.1.1.1.0 known,
-  other_word word (codes "ENDDO") flow_words.1.1.1.1.1.0 known,
+  other_word word (codes "ELSE") flow_words.1.1.1.1.1.0 known,
+  other_word word (codes "ENDIF") flow_words.1.1.1.1.1.1.0 known,
+  other_word word (codes "ENDDO") flow_words.1.1.1.1.1.1.1.0 known,
+  other_word word (codes "DFTCAS") flow_words.1.1.1.1.1.1.1.1.0 known,
+  other_word word (codes "ENDCAS") flow_words.1.1.1.1.1.1.1.1.1.0 known,
+  other_word word (codes "ENDSEL") flow_words.1.1.1.1.1.1.1.1.1.1.0 known,
   not_label word known,
 ) refl
 other_named word (param ∷ params) known = rw (
   other_word word (codes "IF") flow_words.0 known,
   other_word word (codes "DO") flow_words.1.0 known,
-  other_word word (codes "JUMPTO") flow_words.1.1.0 known,
+  other_word word (codes "SELECT") flow_words.1.1.0 known,
+  other_word word (codes "CASE") flow_words.1.1.1.0 known,
+  other_word word (codes "JUMPTO") flow_words.1.1.1.1.0 known,
 ) refl
 
 other_part : (s : Statement) → is_unknown (keyword_of s.word) ≡ false → part_of s ≡ Other
