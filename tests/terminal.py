@@ -2,7 +2,8 @@
 
 On the terminal it is one line that is written anew: each after the first begins with going up a line and erasing it. Its features, its touches
 and its bar are computed here from the program; its times may be any, but the last has nothing left. Nothing else may be shown but
-texts for the operator. In a pipe there is a line for each feature. `run` calls this; by itself: tests/terminal.py
+texts for the operator. What a screen shows in the end is read by a small terminal here, a wide one and one that is narrower than the line.
+In a pipe there is a line for each feature. `run` calls this; by itself: tests/terminal.py
 """
 
 import os
@@ -18,7 +19,8 @@ ROOT = pathlib.Path(__file__).resolve().parent.parent
 EXAMPLES = ROOT / "examples"
 PROGRAM = ROOT / "crates" / "dme_program" / "out" / "dme_program"
 SECONDS = 20
-ANEW = "\x1b[1A\x1b[2K"
+ANEW, CUT, END = "\x1b[1A\x1b[2K", "\x1b[?7l", "\x1b[?7h"
+CONTROL = re.compile(r"\x1b\[1A|\x1b\[2K|\x1b\[\?7[lh]|\n|[ -~]")
 LINE = re.compile(r"\[([#-]{20})\] (\d+) of (\d+) features, (\d+) of (\d+) touches, \d+:[0-5]\d gone(?:, (\d+:[0-5]\d) left)?")
 PROGRAMS = ("two_frames.dmis", "circle.dmis", "bracket.dmis")
 
@@ -45,21 +47,48 @@ def shown(program, is_terminal):
     return "".join(it for it in text.splitlines(True) if not it.startswith("dme: line "))
 
 
+def screen(text, columns):
+    """The rows that a terminal of this width has in the end, which knows no more than is written to it here."""
+    rows, row, column, wraps = [""], 0, 0, True
+    for it in CONTROL.findall(text):
+        if it == "\n":
+            row, column = row + 1, 0
+            rows += [""] * (row == len(rows))
+        elif it == "\x1b[1A":
+            row -= 1
+        elif it == "\x1b[2K":
+            rows[row] = ""
+        elif it in (CUT, END):
+            wraps = it == END
+        else:
+            if column == columns and wraps:
+                row, column = row + 1, 0
+                rows += [""] * (row == len(rows))
+            column = min(column, columns - 1)
+            rows[row] = rows[row][:column].ljust(column) + it + rows[row][column + 1 :]
+            column += 1
+    return rows
+
+
 def is_paced(program):
     """Whether a run shows its features on a terminal as one line."""
-    blocks, lines = blocks_of(program), shown(program, True).split("\n")
+    text = shown(program, True)
+    blocks, lines = blocks_of(program), text.split("\n")
     touches = sum(count for _, count in blocks)
     if lines.pop() or len(lines) != len(blocks):
         return False
     for number, line in enumerate(lines, 1):
-        if number > 1 and not line.startswith(ANEW):
+        begin = ANEW + CUT if number > 1 else CUT
+        if not line.startswith(begin) or not line.endswith(END):
             return False
-        found = LINE.fullmatch(line.removeprefix(ANEW) if number > 1 else line)
+        plain = line.removeprefix(begin).removesuffix(END)
+        found = LINE.fullmatch(plain)
         done = sum(count for _, count in blocks[:number])
         bar = "#" * (20 * done // touches) + "-" * (20 - 20 * done // touches)
         if not found or found.groups()[:5] != (bar, str(number), str(len(blocks)), str(done), str(touches)):
             return False
-    return found.group(6) == "0:00"
+    is_one_row = screen(text, 200) == [plain, ""] and screen(text, 40) == [plain[:39] + plain[-1], ""]
+    return is_one_row and found.group(6) == "0:00"
 
 
 def is_listed(program):

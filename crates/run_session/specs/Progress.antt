@@ -27,16 +27,20 @@ abbrev pub left_words : Option ℕ → List ℕ
 left_words None = []
 left_words (Some seconds) = codes ", " ++ (clock seconds ++ codes " left")
 
--- the line takes the place of the one above it if that is asked: the cursor goes up, and the line there is erased (ECMA-48)
+-- the line takes the place of the one above it if that is asked: the cursor goes up, and the line there is erased (ECMA-48). It is cut at the
+-- right margin: one that went on in the next row could not be erased (autowrap, DEC private mode 7)
 abbrev pub anew : Bool → List ℕ
-anew is_anew = if is_anew then 27 ∷ 91 ∷ 49 ∷ 65 ∷ 27 ∷ 91 ∷ 50 ∷ 75 ∷ [] else []
+anew is_anew = if is_anew then 27 ∷ 91 ∷ 49 ∷ 65 ∷ 27 ∷ 91 ∷ 50 ∷ 75 ∷ 27 ∷ 91 ∷ 63 ∷ 55 ∷ 108 ∷ [] else 27 ∷ 91 ∷ 63 ∷ 55 ∷ 108 ∷ []
+
+abbrev pub line_end : List ℕ
+line_end = 27 ∷ 91 ∷ 63 ∷ 55 ∷ 104 ∷ 10 ∷ []
 
 unfoldable pub counts : List ℕ → Pace → List ℕ
 counts bar p = codes "[" ++ (bar ++ (codes "] " ++ (decimal p.measured ++ (codes " of " ++ (decimal p.asked ++ (codes " features, "
     ++ (decimal p.touches ++ (codes " of " ++ (decimal p.all ++ codes " touches, ")))))))))
 
 unfoldable pub times : Pace → List ℕ
-times p = clock (p.gone / 1000) ++ (codes " gone" ++ (left_words (left p) ++ codes "\n"))
+times p = clock (p.gone / 1000) ++ (codes " gone" ++ (left_words (left p) ++ line_end))
 
 unfoldable pub pace_line : Bool → Pace → List ℕ
 pace_line is_anew p = anew is_anew ++ (counts (bar p) p ++ times p)

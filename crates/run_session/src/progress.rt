@@ -158,13 +158,17 @@ fn push_times(text: &mut String, pace: Pace) -> Result<(), AllocError>
     push_clock(text, u128::from(pace.gone) / 1000)?;
     text.push_str(" gone")?;
     push_left(text, pace)?;
-    text.push_str("\n")
+    text.push_str("\x1b[?7h\n")
 }
 
 fn anew(is_anew: bool) -> &'static str
     ensures { result.now ≡ spec.anew is_anew }
 {
-    if is_anew { "\x1b[1A\x1b[2K" } else { "" }
+    if is_anew {
+        "\x1b[1A\x1b[2K\x1b[?7l"
+    } else {
+        "\x1b[?7l"
+    }
 }
 
 /// The line of a pace; it takes the place of the line above it, if that is asked. Fails only if out of memory.
