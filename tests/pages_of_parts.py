@@ -233,7 +233,7 @@ def is_as_expected(page, part, head, sections, record, labels):
         page.texts["title"] == page.texts["h1"] == f"Part {part}",
         page.lines[:len(head)] == head,
         page.features[:-1] == sections and page.features[-1]["heading"] == "How to check this page",
-        page.checks[0] == f"SHA-256 of the record: {hashlib.sha256(record.encode()).hexdigest()}",
+        page.checks[-1] == f"SHA-256 of the record: {hashlib.sha256(record.encode()).hexdigest()}",
         not page.foreign and page.texts["drawings"] == 1 and page.texts.get("pre") == notes_in(record, labels),
     ))
 
