@@ -1,4 +1,4 @@
-"""Programs with variables, branches, loops and jumps, made at random and lowered.
+"""Programs with variables, branches, selections, loops and jumps, made at random and lowered.
 
 Each is carried out here, too, by a second reading: of the tree that its text is written from, with exact fractions. The moves, their lines
 and their order have to be those of `dme lower`; or the line of the first statement that cannot be carried out that of its refusal. Some of
@@ -133,6 +133,49 @@ class Made:
         self.add("ENDIF")
         return lambda flow: flow.block(first if condition[2](flow.values) else second)
 
+    def selection(self, depth, targets):
+        """Branches by the value of an expression: each has a list of texts, or none if it is for all other values. Some programs have a
+        move between two branches, which refuses the selection if it comes before the branch that is wanted."""
+        wanted = self.expression(WHOLE, 1)
+        line = self.add(f"SELECT/{wanted[0]}")
+        kinds = self.random.choices(("case", "other", "move"), (14, 1, 1), k=self.random.randint(0, 3))
+        kinds += ["other"] * (self.random.random() < 0.5)
+        branches = [getattr(self, f"branch_of_{it}")(depth, targets, wanted) for it in kinds]
+        self.add("ENDSEL")
+
+        def carry_out(flow):
+            value = wanted[2](flow.values)
+            for index, (texts, inner) in enumerate(branches):
+                if inner is None or texts is None and index + 1 < len(branches):
+                    raise Refused(line)
+                if texts is None or any(it[2](flow.values) == value for it in texts):
+                    flow.block(inner)
+                    break
+
+        return carry_out
+
+    def branch_of_case(self, depth, targets, wanted):
+        """Some texts of it are the wanted one, written in another way."""
+        texts = [self.expression(WHOLE, 1) for _ in range(self.random.randint(1, 3))]
+        if self.random.random() < 0.3:
+            number = self.random.randint(2, 7)
+            same = f"({wanted[0]})*{number}/{number}", 1, wanted[2]
+            texts.insert(self.random.randint(0, len(texts)), same)
+        self.add(f"CASE/{','.join(it[0] for it in texts)}")
+        inner = self.block(depth - 1, targets)
+        self.add("ENDCAS")
+        return texts, inner
+
+    def branch_of_other(self, depth, targets, _wanted):
+        self.add("DFTCAS")
+        inner = self.block(depth - 1, targets)
+        self.add("ENDCAS")
+        return None, inner
+
+    def branch_of_move(self, _depth, _targets, _wanted):
+        self.move()
+        return None, None
+
     def loop(self, depth, targets):
         free = [it for it in WHOLE if it not in self.loops]
         if not free:
@@ -175,9 +218,9 @@ class Made:
         return carry_out
 
     def part(self, depth, targets):
-        kinds = ["move", "move", "touch", "assignment"] + (["branch", "loop", "jump"] if depth else [])
+        kinds = ["move", "move", "touch", "assignment"] + (["branch", "selection", "loop", "jump"] if depth else [])
         kind = self.random.choice(kinds)
-        if kind in ("branch", "loop"):
+        if kind in ("branch", "selection", "loop"):
             return getattr(self, kind)(depth, targets)
         return self.jump(targets) if kind == "jump" else getattr(self, kind)()
 

@@ -1,20 +1,25 @@
 -- What holds of each statement of a text, and of assignments on their lines, holds of each that comes out.
 use Rattle.std.proofs.Common.{◌≡◌, ℕ, zero, suc, ◌+◌, Bool, true, false, List, [], ◌∷◌, cond, drop, refl, subst, sym}
 use Rattle.std.specs.List.{AllByRecursion}
-use Rattle.std.specs.Prelude.{◌==◌, bytes_eq, codes, None, Option, Some, ℤ, ◌+ℤ◌, ◌-◌, unsigned_abs, take}
+use Rattle.std.specs.Prelude.{◌==◌, ◌&&◌, not, bytes_eq, codes, None, Option, Some, ℤ, ◌+ℤ◌, ◌-◌, unsigned_abs, take}
 use Rattle.dmis_text.specs.Reading.{text_reading}
 use Rattle.dmis_text.specs.declared.elements.Statement.{Statement}
 use Rattle.dmis_text.specs.declared.reading.TextFault.{TextFault}
 use Rattle.program_values.specs.LookBack.{value_said}
 use Rattle.program_flow.specs.Blocks.{around, end_of, is_level, label_place, part_of, start_of}
-use Rattle.program_flow.specs.Flow.{Control, Header, Turn, Valuation, again, assignment, assigns, begun, carried, condition_of, do_by, do_with, enddo_by}
+use Rattle.program_flow.specs.Flow.{Control, Header, Turn, Valuation, again, assignment, assigns, begun, branch, carried, choose_by, condition_of, do_by}
+use Rattle.program_flow.specs.Flow.{do_with, enddo_by, enter_at, enter_by, is_default, is_last, select_by}
 use Rattle.program_flow.specs.Flow.{first_text, given_up, gives_or, header_at, header_of, if_by, is_kept, jump_by, jump_of, leave_by, next_text}
 use Rattle.program_flow.specs.Flow.{only_assignment, other_branch, past_branch, round_by, round_of, round_with, to, trace, traced, turn, turn_at, turn_of, whole_value}
 use Rattle.program_flow.specs.Flow.Turn.{Ends, Stops, Passes, Gives}
 use Rattle.program_flow.specs.declared.blocks.Block.{Block}
 use Rattle.program_flow.specs.declared.blocks.Rounds.{Rounds}
 use Rattle.program_flow.specs.declared.blocks.Part.{Part}
-use Rattle.program_flow.specs.declared.blocks.Part.TheVariants.{If, Else, EndIf, Do, EndDo, Jump, Label, Other}
+use Rattle.program_flow.specs.declared.blocks.Part.TheVariants.{If, Else, EndIf, Do, EndDo, Select, Case, DefaultCase, EndCase, EndSelect, Jump, Label, Other}
+use Rattle.program_flow.specs.declared.selections.Choice.{Choice}
+use Rattle.program_flow.specs.declared.selections.Choice.TheVariants.{Branch, NoBranch}
+use Rattle.program_flow.specs.Selections.{chosen, selected}
+use Rattle.program_values.specs.Numbers.{Fraction}
 use Rattle.program_flow.proofs.Steps.{trace-done, trace-step}
 
 module _ (Q : Statement → Type 0) (assigned : (s a : Statement) → Q s → bytes_eq a.word (codes "ASSIGN") ≡ true → a.line ≡ s.line → Q a) where
@@ -35,6 +40,11 @@ module _ (Q : Statement → Type 0) (assigned : (s a : Statement) → Q s → by
       go EndIf end = tt
       go Do end = tt
       go EndDo end = tt
+      go Select end = tt
+      go Case end = tt
+      go DefaultCase end = tt
+      go EndCase end = tt
+      go EndSelect end = tt
       go Jump end = tt
       go Label end = tt
       go Other end = tt
@@ -85,6 +95,26 @@ module _ (Q : Statement → Type 0) (assigned : (s a : Statement) → Q s → by
       go (Some first) None z = q
       go (Some first) (Some limit) None = q
 
+  enter_comes : (all : List Statement) (c : Control) (s : Statement) (place : ℕ) (below : List Statement) → Q s → Comes (enter_at all c s place below)
+  enter_comes all c s place [] h = h
+  enter_comes all c s place (t ∷ below) h = go (end_of (part_of t) 0 (place + 1) below)
+    where
+      go : (end : Option ℕ) → Comes (enter_by all c s (place + 1) (part_of t) end)
+      go None = h
+      go (Some end) = unless_comes (is_default (part_of t) && not (is_last (drop (end + 1) all)))
+          (Passes (to (place + 1) (branch (place + 1) end ∷ c.blocks))) s h tt
+
+  choose_comes : (all : List Statement) (c : Control) (s : Statement) (end : ℕ) (it : Option Choice) → Q s → Comes (choose_by all c s end it)
+  choose_comes all c s end None h = h
+  choose_comes all c s end (Some NoBranch) h = tt
+  choose_comes all c s end (Some (Branch place)) h = enter_comes all c s place (drop place all) h
+
+  select_comes : (all : List Statement) (values : Valuation) (c : Control) (s : Statement) (below : List Statement) (f : Option Fraction) (end : Option ℕ)
+      → Q s → Comes (select_by all values c s below f end)
+  select_comes all values c s below (Some f) (Some end) h = choose_comes all c s end (chosen values f 0 (c.place + 1) below) h
+  select_comes all values c s below None end h = h
+  select_comes all values c s below (Some f) None h = h
+
   if_same_comes : (b : Bool) (t : Turn) (s : Statement) → Q s → Comes t → Comes (cond b t (Stops s))
   if_same_comes true t s h g = g
   if_same_comes false t s h g = h
@@ -127,6 +157,11 @@ module _ (Q : Statement → Type 0) (assigned : (s a : Statement) → Q s → by
   part_comes all values c s below EndIf h = leave_comes c s c.blocks (Some c.place) h
   part_comes all values c s below Do h = do_comes values c s (header_of s.params) (end_of Do 0 (c.place + 1) below) h
   part_comes all values c s below EndDo h = enddo_comes all values c s c.blocks h
+  part_comes all values c s below Select h = select_comes all values c s below (selected values s.params) (end_of Select 0 (c.place + 1) below) h
+  part_comes all values c s below Case h = h
+  part_comes all values c s below DefaultCase h = h
+  part_comes all values c s below EndCase h = leave_comes c s c.blocks (end_of Select 0 (c.place + 1) below) h
+  part_comes all values c s below EndSelect h = h
   part_comes all values c s below Jump h = jump_comes all c s s.params h
   part_comes all values c s below Label h = tt
   part_comes all values c s below Other h = h

@@ -1,10 +1,10 @@
--- The blocks of a text and its labels (ISO 22093, IF, DO and JUMPTO; labels alone on their lines). A `(` is 40, a `)` is 41.
+-- The blocks of a text and its labels (ISO 22093, IF, SELECT, DO and JUMPTO; labels alone on their lines). A `(` is 40, a `)` is 41.
 use Rattle.std.specs.Prelude.{ℕ, ◌+◌, ◌-◌, Bool, true, false, ◌&&◌, ◌==◌, nat_le, nat_lt, List, [], ◌∷◌, length, codes, slice_index, bytes_eq}
 use Rattle.std.specs.Prelude.{is_none, Option, Some, None, if◌then◌else◌}
 use Rattle.dmis_text.specs.declared.elements.Statement.{Statement}
 use Rattle.program_flow.specs.declared.blocks.Block.{Block}
 use Rattle.program_flow.specs.declared.blocks.Part.{Part}
-use Rattle.program_flow.specs.declared.blocks.Part.TheVariants.{If, Else, EndIf, Do, EndDo, Jump, Label, Other}
+use Rattle.program_flow.specs.declared.blocks.Part.TheVariants.{If, Else, EndIf, Do, EndDo, Select, Case, DefaultCase, EndCase, EndSelect, Jump, Label, Other}
 
 abbrev pub is_label : List ℕ → Bool
 is_label [] = false
@@ -15,13 +15,18 @@ abbrev pub part_alone : List ℕ → Part
 part_alone word = if bytes_eq word (codes "ELSE") then Else else
     (if bytes_eq word (codes "ENDIF") then EndIf else
     (if bytes_eq word (codes "ENDDO") then EndDo else
-    (if is_label word then Label else Other)))
+    (if bytes_eq word (codes "DFTCAS") then DefaultCase else
+    (if bytes_eq word (codes "ENDCAS") then EndCase else
+    (if bytes_eq word (codes "ENDSEL") then EndSelect else
+    (if is_label word then Label else Other))))))
 
 abbrev pub part_named : List ℕ → List (List ℕ) → Part
 part_named word [] = part_alone word
 part_named word (param ∷ params) = if bytes_eq word (codes "IF") then If else
     (if bytes_eq word (codes "DO") then Do else
-    (if bytes_eq word (codes "JUMPTO") then Jump else Other))
+    (if bytes_eq word (codes "SELECT") then Select else
+    (if bytes_eq word (codes "CASE") then Case else
+    (if bytes_eq word (codes "JUMPTO") then Jump else Other))))
 
 unfoldable pub part_of : Statement → Part
 part_of s = if is_none s.label then part_named s.word s.params else Other
@@ -30,11 +35,16 @@ part_of s = if is_none s.label then part_named s.word s.params else Other
 abbrev pub opens : Part → Bool
 opens If = true
 opens Do = true
+opens Select = true
+opens Case = true
+opens DefaultCase = true
 opens _ = false
 
 abbrev pub closes : Part → Bool
 closes EndIf = true
 closes EndDo = true
+closes EndCase = true
+closes EndSelect = true
 closes _ = false
 
 -- the block that began with the first of these ends with the second
@@ -43,6 +53,9 @@ matches If Else = true
 matches If EndIf = true
 matches Else EndIf = true
 matches Do EndDo = true
+matches Select EndSelect = true
+matches Case EndCase = true
+matches DefaultCase EndCase = true
 matches _ _ = false
 
 -- how many blocks are open after a part
@@ -53,6 +66,8 @@ abbrev pub is_end : ℕ → Part → Bool
 is_end depth Else = depth == 0
 is_end depth EndIf = depth == 0
 is_end depth EndDo = depth == 0
+is_end depth EndCase = depth == 0
+is_end depth EndSelect = depth == 0
 is_end depth _ = false
 
 abbrev pub end_here : Part → ℕ → Part → ℕ → Option ℕ → Option ℕ

@@ -1,5 +1,5 @@
 -- What the examples of this crate speak of.
-use Rattle.std.specs.Prelude.{ℕ, List, [], ◌∷◌, map, codes, Some, None}
+use Rattle.std.specs.Prelude.{ℕ, ◌+◌, List, [], ◌∷◌, ◌++◌, map, codes, Some, None}
 use Rattle.dmis_text.specs.declared.elements.Statement.{Statement}
 use Rattle.program_flow.specs.Flow.{flow_of}
 
@@ -48,3 +48,36 @@ abbrev pub jumping : List ℕ → List Statement
 jumping label = declared ∷ (on 2 (codes "DO") (codes "I" ∷ (codes "1" ∷ (codes "9" ∷ []))) ∷ (with_one 3 (codes "JUMPTO") label
     ∷ (alone 4 (codes "ENDDO") ∷ (on 5 (codes "DO") (codes "J" ∷ (codes "1" ∷ (codes "9" ∷ []))) ∷ (alone 6 (codes "(IN)") ∷ (alone 7 (codes "ENDDO")
     ∷ (alone 8 (codes "(OUT)") ∷ (alone 9 (codes "A") ∷ []))))))))
+
+-- a SELECT by a text: a CASE of one value, one of 3 and of I, which is 5, and a DFTCAS
+abbrev pub selecting : List ℕ → List Statement
+selecting text = declared ∷ (assigned 2 (codes "I") (codes "5") ∷ (with_one 3 (codes "SELECT") text ∷ (with_one 4 (codes "CASE") (codes "1")
+    ∷ (alone 5 (codes "A") ∷ (alone 6 (codes "ENDCAS") ∷ (on 7 (codes "CASE") (codes "3" ∷ (codes "I" ∷ [])) ∷ (alone 8 (codes "B")
+    ∷ (alone 9 (codes "ENDCAS") ∷ (alone 10 (codes "DFTCAS") ∷ (alone 11 (codes "C") ∷ (alone 12 (codes "ENDCAS") ∷ (alone 13 (codes "ENDSEL")
+    ∷ (alone 14 (codes "D") ∷ [])))))))))))))
+
+-- the branches around one statement, each in three lines from this one on
+abbrev pub case_on : ℕ → List (List ℕ) → List Statement
+case_on line values = on line (codes "CASE") values ∷ (alone (line + 1) (codes "A") ∷ (alone (line + 2) (codes "ENDCAS") ∷ []))
+
+abbrev pub case_of : ℕ → List ℕ → List Statement
+case_of line value = case_on line (value ∷ [])
+
+abbrev pub default_on : ℕ → List Statement
+default_on line = alone line (codes "DFTCAS") ∷ (alone (line + 1) (codes "B") ∷ (alone (line + 2) (codes "ENDCAS") ∷ []))
+
+-- a SELECT of 2 on line 1 around some statements, and one statement below it
+abbrev pub select_around : List Statement → List Statement
+select_around inner = with_one 1 (codes "SELECT") (codes "2") ∷ (inner ++ (alone 20 (codes "ENDSEL") ∷ (alone 21 (codes "D") ∷ [])))
+
+-- a CASE of this value around a SELECT of 2 that has a CASE of 2 and a DFTCAS, on lines 2 to 12
+abbrev pub select_in_case : List ℕ → List Statement
+select_in_case value = with_one 2 (codes "CASE") value ∷ (with_one 3 (codes "SELECT") (codes "2") ∷ (case_on 4 (codes "2" ∷ []) ++ (default_on 7
+    ++ (alone 10 (codes "ENDSEL") ∷ (alone 11 (codes "E") ∷ (alone 12 (codes "ENDCAS") ∷ []))))))
+
+-- a jump to a label in this text: within a branch, between two, into another, and out of the SELECT
+abbrev pub jumping_in_select : List ℕ → List Statement
+jumping_in_select label = with_one 1 (codes "SELECT") (codes "1") ∷ (with_one 2 (codes "CASE") (codes "1") ∷ (with_one 3 (codes "JUMPTO") label
+    ∷ (alone 4 (codes "A") ∷ (alone 5 (codes "(IN)") ∷ (alone 6 (codes "B") ∷ (alone 7 (codes "ENDCAS") ∷ (alone 8 (codes "(BETWEEN)")
+    ∷ (with_one 9 (codes "CASE") (codes "2") ∷ (alone 10 (codes "(OTHER)") ∷ (alone 11 (codes "ENDCAS") ∷ (alone 12 (codes "ENDSEL")
+    ∷ (alone 13 (codes "C") ∷ (alone 14 (codes "(OUT)") ∷ (alone 15 (codes "D") ∷ []))))))))))))))

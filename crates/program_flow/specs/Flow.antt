@@ -1,6 +1,6 @@
--- Which statements are carried out, in their order (ISO 22093, IF, DO and JUMPTO): what follows from where the flow is and from the values
+-- Which statements are carried out, in their order (ISO 22093, IF, SELECT, DO and JUMPTO): what follows from where the flow is and from the values
 -- that what was carried out says, newest statement first. A DO and an ENDDO stand for the assignment to the index.
-use Rattle.std.specs.Prelude.{ℕ, zero, suc, ◌+◌, ◌-◌, Bool, true, false, ◌&&◌, ◌==◌, List, [], ◌∷◌, ◌++◌, take, drop, codes, bytes_eq, is_none}
+use Rattle.std.specs.Prelude.{ℕ, zero, suc, ◌+◌, ◌-◌, Bool, true, false, not, ◌&&◌, ◌==◌, List, [], ◌∷◌, ◌++◌, take, drop, codes, bytes_eq, is_none}
 use Rattle.std.specs.Prelude.{Option, Some, None, Result, ℤ, pos, ◌+ℤ◌, int_lt, int_le, unsigned_abs, if◌then◌else◌}
 use Rattle.std.specs.Ordering.{int_eq}
 use Rattle.std.specs.Result.{result_ok}
@@ -14,10 +14,13 @@ use Rattle.program_values.specs.Values.{value_of}
 use Rattle.program_values.specs.declared.faults.ValueFault.{ValueFault}
 use Rattle.program_flow.specs.Blocks.{around, end_of, is_level, label_place, part_of, start_of}
 use Rattle.program_flow.specs.Conditions.{holds}
+use Rattle.program_flow.specs.Selections.{chosen, selected}
 use Rattle.program_flow.specs.declared.blocks.Block.{Block}
 use Rattle.program_flow.specs.declared.blocks.Rounds.{Rounds}
 use Rattle.program_flow.specs.declared.blocks.Part.{Part}
-use Rattle.program_flow.specs.declared.blocks.Part.TheVariants.{If, Else, EndIf, Do, EndDo, Jump, Label, Other}
+use Rattle.program_flow.specs.declared.blocks.Part.TheVariants.{If, Else, EndIf, Do, EndDo, Select, Case, DefaultCase, EndCase, EndSelect, Jump, Label, Other}
+use Rattle.program_flow.specs.declared.selections.Choice.{Choice}
+use Rattle.program_flow.specs.declared.selections.Choice.TheVariants.{Branch, NoBranch}
 
 abbrev pub Valuation : Type 0
 Valuation = List ℕ → Result Fraction ValueFault
@@ -62,10 +65,45 @@ if_by statements c s (Some true) (Some middle) = Passes (to (c.place + 1) (branc
 if_by statements c s (Some false) (Some middle) = past_branch c s middle (drop middle statements)
 if_by statements c s _ _ = Stops s
 
--- at an ELSE the first branch ends, at an ENDIF the only one or the second: past the end of the IF
+-- at an ELSE the first branch ends, at an ENDIF the only one or the second: past the end of the IF; at an ENDCAS past that of the SELECT
 abbrev pub leave_by : Control → Statement → List Block → Option ℕ → Turn
 leave_by c s (b ∷ outer) (Some end) = if b.end == c.place then Passes (to (end + 1) outer) else Stops s
 leave_by c s _ _ = Stops s
+
+-- ---- SELECT
+
+-- a branch is the last if the statement below its end ends its SELECT
+abbrev pub is_select_end : Part → Bool
+is_select_end EndSelect = true
+is_select_end _ = false
+
+abbrev pub is_last : List Statement → Bool
+is_last [] = false
+is_last (t ∷ below) = is_select_end (part_of t)
+
+abbrev pub is_default : Part → Bool
+is_default DefaultCase = true
+is_default _ = false
+
+-- into the branch that began with this part; that of a DFTCAS has to be the last
+abbrev pub enter_by : List Statement → Control → Statement → ℕ → Part → Option ℕ → Turn
+enter_by statements c s start part None = Stops s
+enter_by statements c s start part (Some end) = if is_default part && not (is_last (drop (end + 1) statements)) then Stops s
+    else Passes (to start (branch start end ∷ c.blocks))
+
+abbrev pub enter_at : List Statement → Control → Statement → ℕ → List Statement → Turn
+enter_at statements c s place [] = Stops s
+enter_at statements c s place (t ∷ below) = enter_by statements c s (place + 1) (part_of t) (end_of (part_of t) 0 (place + 1) below)
+
+-- into the branch that is chosen, or past the SELECT
+abbrev pub choose_by : List Statement → Control → Statement → ℕ → Option Choice → Turn
+choose_by statements c s end None = Stops s
+choose_by statements c s end (Some NoBranch) = Passes (to (end + 1) c.blocks)
+choose_by statements c s end (Some (Branch place)) = enter_at statements c s place (drop place statements)
+
+abbrev pub select_by : List Statement → Valuation → Control → Statement → List Statement → Option Fraction → Option ℕ → Turn
+select_by statements values c s below (Some f) (Some end) = choose_by statements c s end (chosen values f 0 (c.place + 1) below)
+select_by statements values c s below _ _ = Stops s
 
 -- ---- DO
 
@@ -174,6 +212,11 @@ turn_of statements values c s below Else = leave_by c s c.blocks (end_of Else 0 
 turn_of statements values c s below EndIf = leave_by c s c.blocks (Some c.place)
 turn_of statements values c s below Do = do_by values c s (header_of s.params) (end_of Do 0 (c.place + 1) below)
 turn_of statements values c s below EndDo = enddo_by statements values c s c.blocks
+turn_of statements values c s below Select = select_by statements values c s below (selected values s.params) (end_of Select 0 (c.place + 1) below)
+turn_of statements values c s below Case = Stops s
+turn_of statements values c s below DefaultCase = Stops s
+turn_of statements values c s below EndCase = leave_by c s c.blocks (end_of Select 0 (c.place + 1) below)
+turn_of statements values c s below EndSelect = Stops s
 turn_of statements values c s below Jump = jump_of statements c s s.params
 turn_of statements values c s below Label = Passes (to (c.place + 1) c.blocks)
 turn_of statements values c s below Other = Gives s (to (c.place + 1) c.blocks)

@@ -1,6 +1,7 @@
 pub mod Conditions
 pub mod Cuts
 pub mod Blocks
+pub mod Selections
 pub mod Flow
 pub mod Turns
 pub mod Left

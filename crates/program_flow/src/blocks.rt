@@ -14,6 +14,11 @@ pub enum Part {
     EndIf,
     Do,
     EndDo,
+    Select,
+    Case,
+    DefaultCase,
+    EndCase,
+    EndSelect,
     Jump,
     Label,
     Other,
@@ -65,6 +70,12 @@ fn part_alone(word: &[u8]) -> Part
         Part::EndIf
     } else if is_text(word, "ENDDO") {
         Part::EndDo
+    } else if is_text(word, "DFTCAS") {
+        Part::DefaultCase
+    } else if is_text(word, "ENDCAS") {
+        Part::EndCase
+    } else if is_text(word, "ENDSEL") {
+        Part::EndSelect
     } else if is_label(word) {
         Part::Label
     } else {
@@ -81,6 +92,10 @@ fn part_named(word: &[u8], params: &[Text]) -> Part
         Part::If
     } else if is_text(word, "DO") {
         Part::Do
+    } else if is_text(word, "SELECT") {
+        Part::Select
+    } else if is_text(word, "CASE") {
+        Part::Case
     } else if is_text(word, "JUMPTO") {
         Part::Jump
     } else {
@@ -102,27 +117,35 @@ pub(crate) fn part_of(statement: &Statement) -> Part
 fn opens(part: Part) -> bool
     ensures { result ≡ spec.opens part }
 {
-    matches!(part, Part::If | Part::Do)
+    matches!(
+        part,
+        Part::If | Part::Do | Part::Select | Part::Case | Part::DefaultCase
+    )
 }
 
 fn closes(part: Part) -> bool
     ensures { result ≡ spec.closes part }
 {
-    matches!(part, Part::EndIf | Part::EndDo)
+    matches!(
+        part,
+        Part::EndIf | Part::EndDo | Part::EndCase | Part::EndSelect
+    )
 }
 
-fn matches_end(begun: Part, part: Part) -> bool
+pub(crate) fn matches_end(begun: Part, part: Part) -> bool
     ensures { result ≡ spec.matches begun part }
 {
     match (begun, part) {
         (Part::If, Part::Else | Part::EndIf) => true,
         (Part::Else, Part::EndIf) => true,
         (Part::Do, Part::EndDo) => true,
+        (Part::Select, Part::EndSelect) => true,
+        (Part::Case | Part::DefaultCase, Part::EndCase) => true,
         _ => false,
     }
 }
 
-fn depth_after(depth: usize, part: Part) -> usize
+pub(crate) fn depth_after(depth: usize, part: Part) -> usize
     requires { depth + 1 < 2 ^ 64 }
     ensures value { result ≡ spec.depth_after depth part }
     ensures within { result ≤ depth + 1 }
@@ -136,11 +159,11 @@ fn depth_after(depth: usize, part: Part) -> usize
     }
 }
 
-fn is_end(depth: usize, part: Part) -> bool
+pub(crate) fn is_end(depth: usize, part: Part) -> bool
     ensures { result ≡ spec.is_end depth part }
 {
     match part {
-        Part::Else | Part::EndIf | Part::EndDo => depth == 0,
+        Part::Else | Part::EndIf | Part::EndDo | Part::EndCase | Part::EndSelect => depth == 0,
         _ => false,
     }
 }

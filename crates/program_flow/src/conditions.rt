@@ -180,7 +180,7 @@ fn is_zero(number: Number) -> bool
     number.opposite() == number
 }
 
-fn compared(how: Comparison, left: Number, right: Number) -> Result<bool, ValueFault>
+pub(crate) fn compared(how: Comparison, left: Number, right: Number) -> Result<bool, ValueFault>
     ensures { result ≡ spec.compared how left right }
 {
     let difference = left.sum(right.opposite())?;

@@ -1,11 +1,11 @@
 // Examples: which statements of a text come out.
 
-ghost use Rattle.std.specs.Prelude.{◌≡◌, ◌<◌, ◌∷◌, [], Err, List, Ok, Some, codes, false, length, true};
+ghost use Rattle.std.specs.Prelude.{◌≡◌, ◌<◌, ◌∷◌, ◌++◌, [], Err, List, Ok, Some, codes, false, length, true};
 ghost use Rattle.std.specs.List.{AllByRecursion};
 ghost use Rattle.dmis_text.specs.declared.elements.Statement.{Statement};
 ghost use Rattle.program_flow.specs.Conditions.{holds};
 ghost use Rattle.program_flow.specs.Blocks.{part_of};
-ghost use Rattle.program_flow.specs.Examples.{alone, assigned, branching, changing, jumping, lines_of, looping, nested, with_one};
+ghost use Rattle.program_flow.specs.Examples.{alone, assigned, branching, case_of, case_on, changing, default_on, jumping, jumping_in_select, lines_of, looping, nested, on, select_around, select_in_case, selecting, with_one};
 ghost use Rattle.program_flow.specs.Flow.{assignment, flow_of, to, trace};
 ghost use Rattle.program_flow.specs.declared.blocks.Part.TheVariants.{Other};
 ghost use Rattle.program_values.specs.Examples.{a_is_seven};
@@ -84,4 +84,79 @@ pub fn jumps_enter_no_block()
     ensures no_if { lines_of (alone 1 (codes "ELSE") ∷ (alone 2 (codes "ENDIF") ∷ [])) ≡ 1 ∷ [] }
     ensures no_do { lines_of (alone 1 (codes "ENDDO") ∷ []) ≡ 1 ∷ [] }
     ensures given_up { trace 0 (alone 7 (codes "A") ∷ []) (to 0 []) [] ≡ alone 7 (codes "ENDDO") ∷ [] }
+{}
+
+/// A SELECT has the first CASE of its value, or else its DFTCAS, and its own words do not come out.
+#[tactic(auto, unfolding(crate::specs::Flow::trace, crate::specs::Flow::turn, crate::specs::Flow::assignment, crate::specs::Selections::chosen, crate::specs::Selections::one_equals, crate::specs::Blocks::part_of, crate::specs::Blocks::end_of, program_values::specs::Values::value_within, program_values::specs::Values::numeral_value, program_values::specs::Parts::parts_of, program_values::specs::Numbers::reduced, program_values::specs::Numbers::gcd_within))]
+pub fn one_branch_of_a_select_is_carried_out()
+    ensures first { lines_of (selecting (codes "1")) ≡ 1 ∷ (2 ∷ (5 ∷ (14 ∷ []))) }
+    ensures one_of_two { lines_of (selecting (codes "3")) ≡ 1 ∷ (2 ∷ (8 ∷ (14 ∷ []))) }
+    ensures other_of_two { lines_of (selecting (codes "10/2")) ≡ 1 ∷ (2 ∷ (8 ∷ (14 ∷ []))) }
+    ensures default { lines_of (selecting (codes "2")) ≡ 1 ∷ (2 ∷ (11 ∷ (14 ∷ []))) }
+    ensures unassigned { lines_of (selecting (codes "J")) ≡ 1 ∷ (2 ∷ (3 ∷ [])) }
+    ensures two_values { lines_of (on 1 (codes "SELECT") (codes "2"
+        ∷ (codes "2" ∷ [])) ∷ (case_of 2 (codes "2") ++ (alone 5 (codes "ENDSEL") ∷ []))) ≡ 1 ∷ [] }
+    ensures none { lines_of (select_around (case_of 2 (codes "1"))) ≡ 21 ∷ [] }
+    ensures first_of_two { lines_of (select_around (case_of 2 (codes "2") ++ case_of 5 (codes "2")))
+        ≡ 3 ∷ (21 ∷ []) }
+{}
+
+/// What stands below the branch that is chosen, or to the right of its value, is not judged; what stands above, is.
+#[tactic(auto, unfolding(crate::specs::Flow::trace, crate::specs::Flow::turn, crate::specs::Flow::assignment, crate::specs::Selections::chosen, crate::specs::Selections::one_equals, crate::specs::Blocks::part_of, crate::specs::Blocks::end_of, program_values::specs::Values::value_within, program_values::specs::Values::numeral_value, program_values::specs::Parts::parts_of, program_values::specs::Numbers::reduced, program_values::specs::Numbers::gcd_within))]
+pub fn branches_are_looked_at_in_their_order()
+    ensures value_after { lines_of (select_around (case_on 2 (codes "2" ∷ (codes "X" ∷ []))))
+        ≡ 3 ∷ (21 ∷ []) }
+    ensures value_before { lines_of (select_around (case_on 2 (codes "X" ∷ (codes "2" ∷ []))))
+        ≡ 1 ∷ [] }
+    ensures case_after { lines_of (select_around (case_of 2 (codes "2") ++ case_of 5 (codes "X")))
+        ≡ 3 ∷ (21 ∷ []) }
+    ensures case_before { lines_of (select_around (case_of 2 (codes "X") ++ case_of 5 (codes "2")))
+        ≡ 1 ∷ [] }
+    ensures case_without_values { lines_of (select_around (case_on 2 [] ++ case_of 5 (codes "2")))
+        ≡ 1 ∷ [] }
+    ensures default_first { lines_of (select_around (default_on 2 ++ case_of 5 (codes "2")))
+        ≡ 1 ∷ [] }
+    ensures default_after { lines_of (select_around (case_of 2 (codes "2")
+        ++ (default_on 5 ++ case_of 8 (codes "1")))) ≡ 3 ∷ (21 ∷ []) }
+    ensures statement_after { lines_of (select_around (case_of 2 (codes "2")
+        ++ (alone 5 (codes "B") ∷ []))) ≡ 3 ∷ (21 ∷ []) }
+    ensures statement_before { lines_of (select_around (case_of 2 (codes "1")
+        ++ ((alone 5 (codes "B") ∷ []) ++ case_of 6 (codes "2")))) ≡ 1 ∷ [] }
+{}
+
+/// A branch has its own blocks; what has no beginning or no end comes out as it is.
+#[tactic(auto, unfolding(crate::specs::Flow::trace, crate::specs::Flow::turn, crate::specs::Flow::assignment, crate::specs::Selections::chosen, crate::specs::Selections::one_equals, crate::specs::Blocks::part_of, crate::specs::Blocks::end_of, crate::specs::Conditions::holds_within, crate::specs::Conditions::parts_of, program_values::specs::Values::value_within, program_values::specs::Values::numeral_value, program_values::specs::Parts::parts_of, program_values::specs::Numbers::reduced, program_values::specs::Numbers::gcd_within))]
+pub fn branches_end_with_their_own_ends()
+    ensures select_in_it { lines_of (select_around (select_in_case (codes "2")))
+        ≡ 5 ∷ (11 ∷ (21 ∷ [])) }
+    ensures select_passed_over { lines_of (select_around (select_in_case (codes "1")
+        ++ case_of 13 (codes "2"))) ≡ 14 ∷ (21 ∷ []) }
+    ensures no_end_of_select { lines_of (with_one 1 (codes "SELECT") (codes "2")
+        ∷ case_of 2 (codes "2")) ≡ 1 ∷ [] }
+    ensures no_end_of_branch { lines_of (select_around (with_one 2 (codes "CASE") (codes "2")
+        ∷ (alone 3 (codes "ENDSEL") ∷ []))) ≡ 1 ∷ [] }
+    ensures no_end_of_default { lines_of (select_around (alone 2 (codes "DFTCAS")
+        ∷ (alone 3 (codes "ENDSEL") ∷ []))) ≡ 1 ∷ [] }
+    ensures no_end_of_branch_above { lines_of (select_around (with_one 2 (codes "CASE") (codes "1")
+        ∷ (alone 3 (codes "ENDSEL") ∷ []))) ≡ 1 ∷ [] }
+    ensures else_in_a_branch_above { lines_of (select_around (with_one 2 (codes "CASE") (codes "1")
+        ∷ (alone 3 (codes "ELSE") ∷ (alone 4 (codes "ENDCAS") ∷ [])))) ≡ 1 ∷ [] }
+    ensures if_around_it { lines_of (with_one 31 (codes "IF") (codes "(1 .LT. 2)")
+        ∷ (select_around (case_of 2 (codes "2")) ++ (alone 32 (codes "ENDIF") ∷ [])))
+        ≡ 3 ∷ (21 ∷ []) }
+    ensures only_a_case { lines_of (case_of 1 (codes "1")) ≡ 1 ∷ [] }
+    ensures only_a_default { lines_of (default_on 1) ≡ 1 ∷ [] }
+    ensures only_an_end_of_branch { lines_of (alone 1 (codes "ENDCAS")
+        ∷ (alone 2 (codes "ENDSEL") ∷ [])) ≡ 1 ∷ [] }
+    ensures only_an_end_of_select { lines_of (alone 1 (codes "A")
+        ∷ (alone 2 (codes "ENDSEL") ∷ (alone 3 (codes "B") ∷ []))) ≡ 1 ∷ (2 ∷ []) }
+{}
+
+/// A jump leaves a branch, and enters none, nor the space between two.
+#[tactic(auto, unfolding(crate::specs::Flow::trace, crate::specs::Flow::turn, crate::specs::Flow::assignment, crate::specs::Selections::chosen, crate::specs::Selections::one_equals, crate::specs::Blocks::part_of, crate::specs::Blocks::end_of, crate::specs::Blocks::is_level, crate::specs::Blocks::label_place, program_values::specs::Values::value_within, program_values::specs::Values::numeral_value, program_values::specs::Parts::parts_of, program_values::specs::Numbers::reduced, program_values::specs::Numbers::gcd_within))]
+pub fn jumps_enter_no_select()
+    ensures within { lines_of (jumping_in_select (codes "(IN)")) ≡ 6 ∷ (13 ∷ (15 ∷ [])) }
+    ensures out { lines_of (jumping_in_select (codes "(OUT)")) ≡ 15 ∷ [] }
+    ensures between { lines_of (jumping_in_select (codes "(BETWEEN)")) ≡ 3 ∷ [] }
+    ensures into { lines_of (jumping_in_select (codes "(OTHER)")) ≡ 3 ∷ [] }
 {}

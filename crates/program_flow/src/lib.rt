@@ -1,6 +1,7 @@
 //! Which statements of a DMIS program (ISO 22093) are carried out, and in what order.
 //!
-//! - `conditions`: whether a condition holds; `blocks`: where blocks end and labels are; `turns`: what follows at a statement
+//! - `conditions`: whether a condition holds; `blocks`: where blocks end and labels are; `selections`: which branch of a SELECT is
+//!   carried out; `turns`: what follows at a statement
 //! - `flow`: `Flow`, the statements in the order in which they are carried out
 #![tactic(auto)]
 
@@ -8,6 +9,7 @@ mod blocks;
 mod conditions;
 pub mod examples;
 mod flow;
+mod selections;
 mod turns;
 
 pub use flow::{Flow, Given};

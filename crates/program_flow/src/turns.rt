@@ -1,10 +1,11 @@
 // What follows at a statement.
 
-ghost use Rattle.std.specs.Prelude.{◌≡◌, ◌<◌, ◌+◌, ◌^◌, ◌∷◌, ◌+ℤ◌, ℕ, List, IfOk, Some, drop, length};
+ghost use Rattle.std.specs.Prelude.{◌≡◌, ◌<◌, ◌≤◌, ◌+◌, ◌^◌, ◌∷◌, ◌+ℤ◌, ℕ, List, IfOk, Some, drop, length};
 ghost use Rattle.std.specs.Option.{option_map};
 ghost use Rattle.dmis_text.specs.declared.elements.Statement.{Statement};
 ghost use Rattle.program_values.specs.Variables.{entry_value};
 ghost use Rattle.program_flow.specs.Flow as spec;
+ghost use Rattle.program_flow.specs.Selections as selections;
 ghost use Rattle.program_flow.specs.Flow.{Control, to};
 ghost use Rattle.program_flow.specs.declared.blocks.Block.{Block};
 ghost use Rattle.program_flow.specs.Turns.{assigned_text, moved, passed, seen_header, turned};
@@ -14,8 +15,9 @@ use crate::blocks::{
     start_of,
 };
 use crate::conditions::holds;
+use crate::selections::{Choice, chosen, selected};
 use dmis_text::{Statement, Text};
-use program_values::{Variables, value_of};
+use program_values::{Number, Variables, value_of};
 use std::alloc::{AllocError, Global};
 
 /// What follows at a statement that can be followed: nothing comes out, it comes out, or an assignment to the index of a loop does, the
@@ -95,6 +97,66 @@ fn leave(place: usize, blocks: &[Block], end: usize) -> Option<Move>
     match blocks {
         [inner, ..] if inner.end == place => Some(Move::Leave(end + 1)),
         _ => None,
+    }
+}
+
+fn is_select_end(part: Part) -> bool
+    ensures { result ≡ spec.is_select_end part }
+{
+    matches!(part, Part::EndSelect)
+}
+
+fn is_last(below: &[Statement]) -> bool
+    ensures { result ≡ spec.is_last below.now }
+{
+    match below {
+        [first, ..] => is_select_end(part_of(first)),
+        [] => false,
+    }
+}
+
+fn is_default(part: Part) -> bool
+    ensures { result ≡ spec.is_default part }
+{
+    matches!(part, Part::DefaultCase)
+}
+
+/// Into the branch of a SELECT that begins in a place.
+fn enter(statements: &[Statement], place: usize) -> Option<Move>
+    requires { place < length statements.now }
+    ensures { (c : Control) (s : Statement) → passed c.blocks s result
+        ≡ spec.enter_at statements.now c s place (drop place statements.now) }
+{
+    let [first, below @ ..] = from(place, statements) else {
+        return None;
+    };
+    let part = part_of(first);
+    let start = place + 1;
+    let end = end_of(part, 0, start, below)?;
+    if is_default(part) && !is_last(from(end + 1, statements)) {
+        return None;
+    }
+    Some(branch(start, end))
+}
+
+/// Into the branch of a SELECT of this value that is chosen, or past the end.
+fn select_turn(
+    statements: &[Statement],
+    next: usize,
+    below: &[Statement],
+    value: Number,
+    end: usize,
+    variables: &Variables,
+) -> Option<Move>
+    requires below { next + length below.now ≤ length statements.now }
+    requires end { end + 1 < 2 ^ 64 }
+    ensures { (c : Control) (s : Statement) → passed c.blocks s result
+        ≡ spec.choose_by statements.now c s end
+        (selections.chosen (entry_value variables.now) value 0 next below.now) }
+{
+    match chosen(value, next, below, variables)? {
+        Choice::Branch(at) => enter(statements, at),
+        Choice::NoBranch => Some(Move::Stay(end + 1)),
     }
 }
 
@@ -302,6 +364,16 @@ pub(crate) fn turn<'a>(
             do_turn(place, header, end, variables)?
         }
         Part::EndDo => enddo_turn(statements, place, blocks, variables)?,
+        Part::Select => {
+            let value = selected(&statement.params, variables)?;
+            let end = end_of(Part::Select, 0, next, below)?;
+            let target = select_turn(statements, next, below, value, end, variables)?;
+            Turned::Passes(target)
+        }
+        Part::EndCase => {
+            Turned::Passes(leave(place, blocks, end_of(Part::Select, 0, next, below)?)?)
+        }
+        Part::Case | Part::DefaultCase | Part::EndSelect => return None,
         Part::Jump => Turned::Passes(jump_turn(statements, &statement.params, blocks)?),
         Part::Label => Turned::Passes(Move::Stay(next)),
         Part::Other => Turned::Gives(Move::Stay(next)),

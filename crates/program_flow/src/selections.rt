@@ -1,0 +1,148 @@
+// Which branch of a SELECT is carried out.
+
+ghost use Rattle.std.specs.Prelude.{◌≡◌, ◌<◌, ◌≤◌, ◌+◌, ◌^◌, IfSome, length};
+ghost use Rattle.dmis_text.specs.declared.elements.Statement.{Statement};
+ghost use Rattle.program_values.specs.Variables.{entry_value};
+ghost use Rattle.program_flow.specs.Selections as spec;
+ghost use Rattle.program_flow.specs.Blocks.{part_of};
+ghost use Rattle.program_flow.specs.Cuts.{IsWithin};
+
+use crate::blocks::{Part, depth_after, is_end, matches_end, part_of};
+use crate::conditions::{Comparison, compared};
+use dmis_text::{Statement, Text};
+use program_values::{Number, Variables, value_of};
+
+/// What a SELECT chooses: the branch whose CASE or DFTCAS is in a place, or none of its branches.
+#[derive(Clone, Copy)]
+pub enum Choice {
+    Branch(usize),
+    NoBranch,
+}
+
+/// What a statement means to the search for a branch.
+#[derive(Clone, Copy)]
+pub enum Search {
+    Found(Choice),
+    Fails,
+    Continues,
+}
+
+/// The value of a SELECT.
+pub(crate) fn selected(params: &[Text], variables: &Variables) -> Option<Number>
+    ensures { result ≡ spec.selected (entry_value variables.now) params.now }
+{
+    match params {
+        [only] => value_of(only, variables).ok(),
+        _ => None,
+    }
+}
+
+/// Whether a text has this value.
+fn equals(value: Number, text: &[u8], variables: &Variables) -> Option<bool>
+    ensures { result ≡ spec.equals (entry_value variables.now) value text.now }
+{
+    let Ok(other) = value_of(text, variables) else {
+        return None;
+    };
+    compared(Comparison::Equal, value, other).ok()
+}
+
+/// Whether one of these texts has this value; none, if one before it has no value.
+#[tactic(auto, unfolding(crate::specs::Selections::one_equals))]
+fn one_equals(value: Number, texts: &[Text], variables: &Variables) -> Option<bool>
+    ensures { result ≡ spec.one_equals (entry_value variables.now) value texts.now }
+{
+    let mut left = texts;
+    while let [first, others @ ..] = left {
+        if equals(value, first, variables)? {
+            return Some(true);
+        }
+        left = others;
+    }
+    Some(false)
+}
+
+fn case_seen(place: usize, equal: Option<bool>) -> Search
+    ensures { result ≡ spec.case_seen place equal }
+{
+    match equal {
+        None => Search::Fails,
+        Some(true) => Search::Found(Choice::Branch(place)),
+        Some(false) => Search::Continues,
+    }
+}
+
+fn between_seen(
+    place: usize,
+    part: Part,
+    value: Number,
+    params: &[Text],
+    variables: &Variables,
+) -> Search
+    ensures { result ≡ spec.between_seen place part
+        (spec.one_equals (entry_value variables.now) value params.now) }
+{
+    match part {
+        Part::Case => case_seen(place, one_equals(value, params, variables)),
+        Part::DefaultCase => Search::Found(Choice::Branch(place)),
+        Part::EndSelect => Search::Found(Choice::NoBranch),
+        _ => Search::Fails,
+    }
+}
+
+fn passed_seen(depth: usize, part: Part) -> Search
+    ensures { result ≡ spec.passed_seen depth part }
+{
+    if is_end(depth, part) && !matches_end(Part::Case, part) {
+        Search::Fails
+    } else {
+        Search::Continues
+    }
+}
+
+/// What a statement means to the search, where that many blocks are open below the SELECT.
+fn seen_at(
+    depth: usize,
+    place: usize,
+    statement: &Statement,
+    value: Number,
+    variables: &Variables,
+) -> Search
+    ensures { result ≡ spec.seen_at depth place (part_of statement.now)
+        (spec.one_equals (entry_value variables.now) value statement.now.params) }
+{
+    let part = part_of(statement);
+    if depth == 0 {
+        between_seen(place, part, value, &statement.params, variables)
+    } else {
+        passed_seen(depth - 1, part)
+    }
+}
+
+/// The branch of a SELECT of this value, in statements of which the first is in this place; none, if it cannot be found.
+#[tactic(auto, unfolding(crate::specs::Selections::chosen))]
+pub(crate) fn chosen(
+    value: Number,
+    place: usize,
+    statements: &[Statement],
+    variables: &Variables,
+) -> Option<Choice>
+    requires { place + length statements.now < 2 ^ 64 }
+    ensures value { result ≡ spec.chosen (entry_value variables.now) value 0 place statements.now }
+    ensures within { IfSome result (IsWithin (place + length statements.now)) }
+{
+    let mut left = statements;
+    let mut at = place;
+    let mut open = 0;
+    while let [first, below @ ..] = left {
+        match seen_at(open, at, first, value, variables) {
+            Search::Found(choice) => return Some(choice),
+            Search::Fails => return None,
+            Search::Continues => {}
+        }
+        open = depth_after(open, part_of(first));
+        at += 1;
+        left = below;
+    }
+    None
+}
