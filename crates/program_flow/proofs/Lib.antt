@@ -1,3 +1,5 @@
 pub mod Steps
 pub mod Straight
 pub mod Comes
+pub mod Plain
+pub mod Bodies
