@@ -3,3 +3,4 @@ pub mod Straight
 pub mod Comes
 pub mod Plain
 pub mod Bodies
+pub mod SaidLines

@@ -6,6 +6,7 @@ pub mod Flow
 pub mod Macros
 pub mod Calls
 pub mod Named
+pub mod SaidLines
 pub mod Turns
 pub mod Left
 pub mod Stepped

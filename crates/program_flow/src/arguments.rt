@@ -1,13 +1,22 @@
 // The statements of a macro with arguments in the places of its parameters.
 
 ghost use Rattle.std.specs.Prelude.{◌≡◌, ◌++◌, IfOk, OnOk, is_some, map};
+ghost use Rattle.std.specs.Option.{option_map};
 ghost use Rattle.program_flow.specs.Macros as spec;
 ghost use Rattle.program_flow.specs.Named.{seen_pair};
+ghost use Rattle.program_flow.specs.SaidLines.{said_or_none};
 
 use crate::blocks::is_label;
 use crate::macros::{Pair, replaced};
 use dmis_text::{Statement, Statements, Text, TextFault};
 use std::alloc::{AllocError, Global};
+
+/// A text that says a statement, as if it were on this line.
+#[derive(Drop)]
+pub struct Line {
+    pub line: u64,
+    pub text: Vec<u8>,
+}
 
 /// Each parameter with its argument.
 pub(crate) fn pairs_of<'b>(
@@ -136,4 +145,27 @@ pub(crate) fn says_one(alloc: Global, text: &[u8]) -> Result<bool, AllocError>
         Err(TextFault::Memory) => Err(AllocError),
         Ok(Some(_)) | Err(TextFault::LineTooLong(_) | TextFault::BadByte(_)) => Ok(false),
     }
+}
+
+/// The statements of a macro with arguments in the places of its parameters; none, if one is no statement then.
+pub(crate) fn lines_with_arguments(
+    alloc: Global,
+    pairs: &[Pair],
+    body: &[Statement],
+) -> Result<Option<Vec<Line>>, AllocError>
+    ensures { IfOk result (λ lines. said_or_none (option_map (λ ls. ls.items) lines)
+        ≡ spec.all_with_arguments (map seen_pair pairs.now) body.now) }
+{
+    let mut lines = Vec::new(alloc);
+    let mut left = body;
+    while let [first, others @ ..] = left {
+        let line = first.line;
+        let text = text_with_arguments(alloc, pairs, first)?;
+        if !says_one(alloc, &text)? {
+            return Ok(None);
+        }
+        lines.push(Line { line, text })?;
+        left = others;
+    }
+    Ok(Some(lines))
 }
