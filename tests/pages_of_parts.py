@@ -35,7 +35,7 @@ class Page(html.parser.HTMLParser):
 
     def __init__(self, text):
         super().__init__(convert_charrefs=True)
-        self.lines, self.features, self.texts, self.foreign = [], [], {}, []
+        self.lines, self.features, self.texts, self.foreign, self.checks = [], [], {}, [], []
         self.open, self.text, self.in_drawing = [], "", False
         self.feed(text)
         self.close()
@@ -69,7 +69,9 @@ class Page(html.parser.HTMLParser):
             self.texts[tag] = self.text
         if tag == "h2":
             self.features.append({"heading": self.text, "line": None, "rows": []})
-        if tag == "p" and self.features:
+        if tag == "p" and self.features and self.features[-1]["heading"] == "How to check this page":
+            self.checks.append(self.text)
+        elif tag == "p" and self.features:
             self.features[-1]["line"] = self.text
         elif tag == "p":
             self.lines.append((self.kind, self.text))
@@ -203,19 +205,36 @@ def feature_line(label, limits, worst):
     return f"Limits {numbers[0]} to {numbers[1]}. {worst.get(label, '')}"
 
 
-def notes_in(record):
-    """The lines of the page on what the last connection's record notes after one feature; None if there are none."""
+def attempts_in(record, labels):
+    """The lines on attempts that were given up: the contacts before those of a feature's last attempt, and those after the last feature."""
+    counts = {line.split()[1]: int(line.split()[2]) for line in record.splitlines() if line.startswith("FEATURE ")}
+    found, contacts, left = [], 0, list(labels)
+    for words in (line.split() for line in record.splitlines()):
+        if words[1:2] == ["CONTACT"]:
+            contacts += 1
+        if words[1:2] == ["COMPLETED"]:
+            found.append((left.pop(0), contacts - counts[words[2]]))
+            contacts = 0
+    found.append((left[0] if left else "after the last feature", contacts))
+    return "".join(f"{place}: contacts of attempts that were given up: {count}\n" for place, count in found if count)
+
+
+def notes_in(record, labels):
+    """The lines of the page on what the last connection's record notes after one feature, and on attempts that were given up; None if there
+    are none."""
     words = {"SEAL": "sealed", "LEFT": "left at"}
     notes = [line.split(" ", 2) for line in record.splitlines()]
-    return "".join(f"connection {it[0]}, 1 features: {words[it[1]]} {it[2]}\n" for it in notes if it[1:2] and it[1] in words) or None
+    told = "".join(f"connection {it[0]}, 1 features: {words[it[1]]} {it[2]}\n" for it in notes if it[1:2] and it[1] in words)
+    return told + attempts_in(record, labels) or None
 
 
-def is_as_expected(page, part, head, sections, record):
+def is_as_expected(page, part, head, sections, record, labels):
     return all((
         page.texts["title"] == page.texts["h1"] == f"Part {part}",
         page.lines[:len(head)] == head,
         page.features[:-1] == sections and page.features[-1]["heading"] == "How to check this page",
-        not page.foreign and page.texts["drawings"] == 1 and page.texts.get("pre") == notes_in(record),
+        page.checks[-1] == f"SHA-256 of the record: {hashlib.sha256(record.encode()).hexdigest()}",
+        not page.foreign and page.texts["drawings"] == 1 and page.texts.get("pre") == notes_in(record, labels),
     ))
 
 
@@ -260,7 +279,7 @@ def is_page(program, record, limits, part, labels, measured, is_keyed, seals):
     head.append((verdict[0], f"{verdict[1]} {audited}"))
     return all((
         is_printed,
-        all(is_as_expected(page, part, head, sections, record) for page in pages),
+        all(is_as_expected(page, part, head, sections, record, labels) for page in pages),
         status == export_status == (0 if is_complete else 3) and [it for it in lines.splitlines() if "missing" in it] == notes.splitlines(),
     ))
 

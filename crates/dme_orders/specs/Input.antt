@@ -5,7 +5,7 @@ use Rattle.contact_ledger.specs.declared.features.Feature.{Feature}
 use Rattle.dmis_program.specs.Meaning.{Meaning}
 use Rattle.link_world.specs.declared.texts.schedules.Instruction.{Instruction}
 use Rattle.deviations.specs.declared.entries.Limit.{Limit}
-use Rattle.record_seal.specs.Seals.{seal_verdict}
+use Rattle.record_seal.specs.Seals.{digest_of, seal_verdict}
 use Rattle.record_seal.specs.declared.seals.SealVerdict.{SealVerdict}
 use Rattle.record_text.specs.Records.{Recorded}
 use Rattle.tool_rack.specs.Setups.{SetupValue}
@@ -179,9 +179,10 @@ module _ {S J R : Type 0} (s : Named S) (j : Came J) (r : Came R) where
   WhyNoneSealed key = InTurn (ReadsNamed s) (WhyNoNamed s) (IsUntouched j × IsUntouched r) (λ setup.
       InTurn (ReadsRecord j) (WhyNoSealed j key) (IsUntouched r) (λ held. WhyNoProgram r (frames_under setup)))
 
--- likewise, and what the seals of the record say
+-- likewise, and what the seals of the record say, and its SHA-256 as digits
 pub record JudgedInput : Type 0 where
   pub seals : SealVerdict
+  pub digest : List ℕ
   pub files : RecordInput
 
 module _ {S J R : Type 0} (s : Named S) (j : Came J) (r : Came R) where
@@ -189,3 +190,4 @@ module _ {S J R : Type 0} (s : Named S) (j : Came J) (r : Came R) where
   pub record ReadsJudged (key : Option (List ℕ)) (input : JudgedInput) : Type 0 where
     pub read : ReadsHeld s j r input.files
     pub judged : Reads j (λ text. input.seals ≡ seal_verdict key text)
+    pub digested : Reads j (λ text. input.digest ≡ digest_of text)

@@ -16,5 +16,6 @@ pub mod Recorded
 pub mod OfRecords
 pub mod RunErrors
 pub mod RunNotes
+pub mod Attempts
 pub mod Reporting
 pub mod Digests

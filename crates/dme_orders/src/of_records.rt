@@ -142,7 +142,7 @@ fn judged_record<S: Source, J: Source, R: Source>(
     alloc: Global,
     key: &Option<Vec<u8>>,
     files: &mut RecordFiles<S, J, R>,
-) -> Result<(SealVerdict, Option<Record>, Program), FilesFault>
+) -> Result<(SealVerdict, String, Option<Record>, Program), FilesFault>
     ensures ok { IfOk result (λ read. (said : Option SetupValue)
         × ReadsJudged (named S.left S.has_failed files.old.setup files.new.setup)
         (came J.left J.has_failed files.old.record files.new.record)
@@ -150,16 +150,17 @@ fn judged_record<S: Source, J: Source, R: Source>(
         (option_map (λ key. key.items) key.now)
         (record {
           seals = read.0;
-          files = record { setup = said; held = read.1; program = read.2 };
+          digest = string_bytes read.1;
+          files = record { setup = said; held = read.2; program = read.3 };
         })) }
     ensures err { IfErr result (WhyNoneHeld (named S.left S.has_failed files.old.setup files.new.setup)
         (came J.left J.has_failed files.old.record files.new.record)
         (came R.left R.has_failed files.old.program files.new.program)) }
 {
     let setup = named_setup(alloc, &mut files.setup)?;
-    let (seals, held) = judged_from(alloc, key, &mut files.record)?;
+    let (seals, digest, held) = judged_from(alloc, key, &mut files.record)?;
     let program = program_under(alloc, &setup, &mut files.program)?;
-    Ok((seals, held, program))
+    Ok((seals, digest, held, program))
 }
 
 /// Likewise, and before them limits if they are named.
@@ -168,7 +169,7 @@ pub(crate) fn judged_input<L: Source, S: Source, J: Source, R: Source>(
     limits: &mut Option<L>,
     key: &Option<Vec<u8>>,
     files: &mut RecordFiles<S, J, R>,
-) -> Result<(Option<Limits>, SealVerdict, Option<Record>, Program), FilesFault>
+) -> Result<(Option<Limits>, SealVerdict, String, Option<Record>, Program), FilesFault>
     ensures ok { IfOk result (λ read. (said : Option SetupValue)
         × ReadsLimited (named L.left L.has_failed limits.old limits.new)
         (ReadsJudged (named S.left S.has_failed files.old.setup files.new.setup)
@@ -179,7 +180,8 @@ pub(crate) fn judged_input<L: Source, S: Source, J: Source, R: Source>(
           limits = read.0;
           input = record {
             seals = read.1;
-            files = record { setup = said; held = read.2; program = read.3 };
+            digest = string_bytes read.2;
+            files = record { setup = said; held = read.3; program = read.4 };
           };
         })) }
     ensures err { IfErr result (WhyNoLimited (named L.left L.has_failed limits.old limits.new)
@@ -191,8 +193,8 @@ pub(crate) fn judged_input<L: Source, S: Source, J: Source, R: Source>(
         (came R.left R.has_failed files.old.program files.new.program))) }
 {
     let limits = named_limits(alloc, limits)?;
-    let (seals, held, program) = judged_record(alloc, key, files)?;
-    Ok((limits, seals, held, program))
+    let (seals, digest, held, program) = judged_record(alloc, key, files)?;
+    Ok((limits, seals, digest, held, program))
 }
 
 /// Refuses a record that is not of this program. One that is not begun is of any.

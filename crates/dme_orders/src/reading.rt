@@ -1,12 +1,12 @@
 // The files of an order are read, each to its end, and understood.
 
-ghost use Rattle.std.specs.Prelude.{◌≡◌, Ok, OnOk, IfOk, IfErr, option_map};
+ghost use Rattle.std.specs.Prelude.{◌≡◌, Ok, OnOk, IfOk, IfErr, option_map, string_bytes};
 ghost use Rattle.dme_orders.specs.Reading.{came, Reads, WhyNoText, ReadsSetup, WhyNoSetup, ReadsSchedule, WhyNoSchedule, ReadsProgram, WhyNoProgram};
 ghost use Rattle.dme_orders.specs.Reading.{ReadsFeatures, WhyNoFeatures, ReadsContacts, WhyNoContacts, ReadsRecord, WhyNoRecord};
 ghost use Rattle.dme_orders.specs.Reading.{ReadsLimits, WhyNoLimits, ReadsMachine, WhyNoMachine};
 ghost use Rattle.dme_orders.specs.Reading.{IsSealed, IsUnsealed, ReadsKey, WhyNoKey, WhyNoSealed};
 ghost use Rattle.program_review.specs.Reviews.{frames_under};
-ghost use Rattle.record_seal.specs.Seals.{seal_verdict};
+ghost use Rattle.record_seal.specs.Seals.{digest_of, seal_verdict};
 ghost use Rattle.dme_orders.specs.Input.{named, ReadsNamed, WhyNoNamed, ReadsNamedLimits, WhyNoNamedLimits};
 
 use byte_ports::{PullFault, Source, pull_all};
@@ -16,7 +16,7 @@ use dmis_program::{Frames, Program, ProgramFault};
 use link_world::{Schedule, ScheduleFault};
 use machine_file::{Machine, MachineFault};
 use order_parts::{FilesFault, Role};
-use record_seal::{SealVerdict, open_line, seal_verdict};
+use record_seal::{SealVerdict, digest_of, open_line, seal_verdict};
 use record_text::{Record, RecordFault, read_record};
 use std::alloc::Global;
 use tool_rack::{Setup, SetupFault};
@@ -174,24 +174,27 @@ pub fn sealed_from<S: Source>(
     }
 }
 
-/// The record that a source gives, if it is begun, and what its seals say under a key, if one is given.
+/// The record that a source gives, if it is begun, what its seals say under a key, if one is given, and its SHA-256 as digits.
 pub(crate) fn judged_from<S: Source>(
     alloc: Global,
     key: &Option<Vec<u8>>,
     source: &mut S,
-) -> Result<(SealVerdict, Option<Record>), FilesFault>
+) -> Result<(SealVerdict, String, Option<Record>), FilesFault>
     ensures ok { IfOk result (λ read. ReadsRecord (came S.left S.has_failed source.old source.new)
-        read.1) }
+        read.2) }
     ensures judged { IfOk result (λ read. Reads (came S.left S.has_failed source.old source.new)
         (λ text. read.0 ≡ seal_verdict (option_map (λ key. key.items) key.now) text)) }
+    ensures digested { IfOk result (λ read. Reads (came S.left S.has_failed source.old source.new)
+        (λ text. string_bytes read.1 ≡ digest_of text)) }
     ensures err { IfErr result (WhyNoRecord (came S.left S.has_failed source.old source.new)) }
 {
     let text = read_text(alloc, source, Role::Record)?;
     let read = read_record(alloc, text.as_slice());
     let seals = seal_verdict(alloc, key, text.as_slice());
+    let digest = digest_of(alloc, text.as_slice());
     drop(text);
     match read {
-        Ok(held) => Ok((seals?, held)),
+        Ok(held) => Ok((seals?, digest?, held)),
         Err(RecordFault::Memory) => Err(FilesFault::Memory),
         Err(refused) => Err(FilesFault::Record(refused)),
     }

@@ -9,21 +9,23 @@ ghost use Rattle.dme_orders.specs.Missing.{IsMissing};
 ghost use Rattle.dme_orders.specs.Named.{shown_name, time_in};
 ghost use Rattle.dme_orders.specs.Orders.{went};
 ghost use Rattle.dme_orders.specs.Reading.{came};
-ghost use Rattle.dme_orders.specs.Reporting.{facts_of, part_in, IsPageOf, ReportsRecord};
+ghost use Rattle.dme_orders.specs.Reporting.{facts_of, part_in, IsPageOf, Judges, ReportsRecord};
 ghost use Rattle.dme_orders.specs.RunErrors.{errors_in, error_line};
 ghost use Rattle.dme_orders.specs.RunNotes.{notes_in, note_line};
 
-use crate::auditing::verdict_line;
+use crate::attempts::attempts_of;
 use crate::missing::{Missing, missing_of};
 use crate::of_records::{RecordFiles, judged_input, of_program, parts_of, time_of};
 use crate::run_errors::errors_of;
 use crate::run_notes::notes_of;
 use crate::simulating::write_text;
+use crate::verdicts::write_verdict;
 use byte_ports::{Sink, Source};
 use contact_ledger::{Feature, ServerLedger};
 use deviations::{Limits, Row, rows_of};
 use dmis_program::Program;
 use drawings::{Facts, report_text};
+use ledger_audit::audit;
 use order_parts::FilesFault;
 use record_seal::SealVerdict;
 use record_text::Record;
@@ -77,11 +79,31 @@ fn texts_of(alloc: Global, held: &Option<Record>) -> Result<Texts, AllocError>
     })
 }
 
+/// The exit status of an audit, its line, and the lines of attempts that were given up. Fails only if out of memory.
+fn judgement(
+    alloc: Global,
+    program: &Program,
+    features: &[Feature],
+    ledger: &ServerLedger,
+) -> Result<(u8, Vec<u8>, String), AllocError>
+    ensures { IfOk result (λ end. Judges program.now features.now ledger.now end.0 end.1.items
+        (string_bytes end.2)) }
+{
+    let verdict = audit(alloc, program, features, ledger)?;
+    let mut line = Vec::new(alloc);
+    let status = write_verdict(&mut line, features, &verdict)?;
+    let total = ledger.contacts();
+    let attempts = attempts_of(alloc, total, program.features(), features, &verdict)?;
+    Ok((status, line, attempts))
+}
+
 /// The page of rows, with the status and the line of their audit.
 fn page_text(
     alloc: Global,
     name: &str,
     texts: &Texts,
+    notes: &str,
+    digest: &str,
     seals: SealVerdict,
     limits: &Option<Limits>,
     program: &Program,
@@ -91,7 +113,7 @@ fn page_text(
     verdict: &[u8],
 ) -> Result<Vec<u8>, AllocError>
     ensures page { IfOk result (λ text. IsPage (facts_of texts.now.part.items name.now texts.now.time.items
-        (string_bytes texts.now.errors) (string_bytes texts.now.notes) seals status verdict.now)
+        (string_bytes texts.now.errors) notes.now digest.now seals status verdict.now)
         program.now features.now limits.now
         rows.now text.items) }
     ensures some { IfOk result (λ text. 0 < length text.items) }
@@ -104,7 +126,8 @@ fn page_text(
         sound: status == 0,
         verdict,
         errors: texts.errors.as_bytes(),
-        notes: texts.notes.as_bytes(),
+        notes: notes.as_bytes(),
+        digest: digest.as_bytes(),
     };
     report_text(alloc, &facts, program, features, limits, rows)
 }
@@ -114,6 +137,7 @@ fn page_of(
     alloc: Global,
     name: &str,
     texts: &Texts,
+    digest: &str,
     seals: SealVerdict,
     limits: &Option<Limits>,
     program: &Program,
@@ -121,7 +145,7 @@ fn page_of(
     ledger: &ServerLedger,
 ) -> Result<(Missing, Vec<u8>), FilesFault>
     ensures page { IfOk result (λ end. IsPageOf texts.now.part.items name.now texts.now.time.items
-        (string_bytes texts.now.errors) (string_bytes texts.now.notes) seals limits.now program.now
+        (string_bytes texts.now.errors) (string_bytes texts.now.notes) digest.now seals limits.now program.now
         features.now ledger.now end.1.items) }
     ensures lacks { IfOk result (λ end. IsMissing program.now.features features.now end.0) }
     ensures some { IfOk result (λ end. 0 < length end.1.items) }
@@ -129,11 +153,15 @@ fn page_of(
 {
     let rows = rows_of(alloc, program, features)?;
     let missing = missing_of(alloc, program, features)?;
-    let (status, verdict) = verdict_line(alloc, program, features, ledger)?;
+    let (status, verdict, attempts) = judgement(alloc, program, features, ledger)?;
+    let said = texts.notes.as_str();
+    let notes = format!(in alloc; "{said}{attempts}")?;
     let text = page_text(
         alloc,
         name,
         texts,
+        notes.as_str(),
+        digest,
         seals,
         limits,
         program,
@@ -165,7 +193,7 @@ pub fn report_record<L: Source, S: Source, J: Source, R: Source, W: Sink>(
         (named L.left L.has_failed limits.old limits.new) name.now
         (option_map (λ key. key.items) key.now) result }
 {
-    let (ranges, seals, held, program) = judged_input(alloc, limits, key, files)?;
+    let (ranges, seals, digest, held, program) = judged_input(alloc, limits, key, files)?;
     of_program(alloc, &held, &program)?;
     let texts = texts_of(alloc, &held)?;
     let (features, ledger) = parts_of(alloc, held);
@@ -173,6 +201,7 @@ pub fn report_record<L: Source, S: Source, J: Source, R: Source, W: Sink>(
         alloc,
         shown_name(name),
         &texts,
+        digest.as_str(),
         seals,
         &ranges,
         &program,

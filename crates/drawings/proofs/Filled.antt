@@ -37,11 +37,11 @@ module _ (facts : PageFacts) (program : Meaning) (features : List Feature) (limi
   pub paged : (old headed summed listed drawn new : List ℕ) → headed ≡ old ++ page_head facts.part
       → summed ≡ headed ++ summary_text facts (length features) program.features limits rows
       → listed ≡ summed ++ sections_text (greatest rows) limits (length features) program.features rows → Adds (IsDrawing (title_of facts) program features) listed drawn
-      → new ≡ drawn ++ page_end → Adds (IsPage facts program features limits rows) old new
+      → new ≡ drawn ++ page_end facts → Adds (IsPage facts program features limits rows) old new
   paged old headed summed listed drawn new h s l d e = record {
     text = page_head facts.part ++ (summary_text facts (length features) program.features limits rows
-        ++ (sections_text (greatest rows) limits (length features) program.features rows ++ (d.text ++ page_end)));
+        ++ (sections_text (greatest rows) limits (length features) program.features rows ++ (d.text ++ page_end facts)));
     is = record { drawing = d.text; drawn = d.is; is = refl };
     added = joined old (page_head facts.part) (summary_text facts (length features) program.features limits rows) (sections_text (greatest rows) limits (length features) program.features rows)
-        d.text page_end headed summed listed drawn new h s l d.added e;
+        d.text (page_end facts) headed summed listed drawn new h s l d.added e;
   }

@@ -20,8 +20,8 @@ unfoldable pub use Rattle.drawings.specs.Marks.{done_dot, dots_text, gap_text, l
 pub use Rattle.drawings.specs.Marks.{colour_of, is_sideways, spot_of, thickness_for, thinned}
 unfoldable pub use Rattle.drawings.specs.Markup.{between}
 pub use Rattle.drawings.specs.Markup.{cell, cells}
-unfoldable pub use Rattle.drawings.specs.Pages.{audit_text, broken_end, broken_start, complete_text, page_end, style, summary_text, within_line}
-pub use Rattle.drawings.specs.Pages.{IsPage, audit_start, complete_start, errors_text, limits_text, missing_label, names_text, notes_text, broken_text, page_head, program_line, program_text, seals_text, title_of, verdict_text, within_start, within_text}
+unfoldable pub use Rattle.drawings.specs.Pages.{audit_text, broken_end, broken_start, check_calls, complete_text, style, summary_text, within_line}
+pub use Rattle.drawings.specs.Pages.{IsPage, audit_start, complete_start, digest_line, errors_text, page_end, limits_text, missing_label, names_text, notes_text, broken_text, page_head, program_line, program_text, seals_text, title_of, verdict_text, within_start, within_text}
 unfoldable pub use Rattle.drawings.specs.Pictures.{arrow_text, arrows_text, axes_text, letters_text, picture_text, span_text, title_text}
 unfoldable pub use Rattle.drawings.specs.Places.{height_in}
 pub use Rattle.drawings.specs.Places.{IsBetween, IsWider, place_of}

@@ -28,6 +28,7 @@ pub record PageFacts : Type 0 where
   pub verdict : List ℕ
   pub errors : List ℕ
   pub notes : List ℕ
+  pub digest : List ℕ
 
 -- how a browser shows a page, from its title to its body: light or dark as its reader has it, and also on A4
 unfoldable pub style : List ℕ
@@ -139,9 +140,15 @@ summary_text facts measured wanted limits rows = names_text facts ++ (complete_t
     ++ markup (codes "<p>Lengths are in millimetres. A bar is the deviation along the normal, to the right if there is too much material.</p>\n")))))
 
 -- how to check the page
-unfoldable pub page_end : List ℕ
-page_end = markup (codes "<h2>How to check this page</h2>\n<p><code>dme audit --record FILE [--setup FILE] [--seal-key FILE] PROGRAM</code> audits the record again, ")
-    ++ markup (codes "<code>dme export --as csv --record FILE [--setup FILE] [--limits FILE] PROGRAM</code> prints the same numbers.</p>\n</body></html>\n")
+unfoldable pub check_calls : List ℕ
+check_calls = markup (codes "<h2>How to check this page</h2>\n<p><code>dme audit --record FILE [--setup FILE] [--seal-key FILE] PROGRAM</code> audits the record again, ")
+    ++ markup (codes "<code>dme export --as csv --record FILE [--setup FILE] [--limits FILE] PROGRAM</code> prints the same numbers.</p>\n")
+
+abbrev pub digest_line : List ℕ → List ℕ
+digest_line digest = between (codes "<p>SHA-256 of the record: <code>") digest (codes "</code></p>\n</body></html>\n")
+
+abbrev pub page_end : PageFacts → List ℕ
+page_end facts = check_calls ++ digest_line facts.digest
 
 -- the title of its drawing
 abbrev pub title_of : PageFacts → TitleTexts
@@ -153,4 +160,4 @@ pub record IsPage (facts : PageFacts) (program : Meaning) (features : List Featu
   pub drawing : List ℕ
   pub drawn : IsDrawing (title_of facts) program features drawing
   pub is : text ≡ page_head facts.part ++ (summary_text facts (length features) program.features limits rows
-      ++ (sections_text (greatest rows) limits (length features) program.features rows ++ (drawing ++ page_end)))
+      ++ (sections_text (greatest rows) limits (length features) program.features rows ++ (drawing ++ page_end facts)))

@@ -1,7 +1,7 @@
 // The whole page.
 
 ghost use Rattle.std.specs.Prelude.{◌≡◌, ◌<◌, ◌++◌, drop, length, IfOk, OnOk};
-ghost use Rattle.drawings.specs.Names.{flat_map, Adds, style, page_head, complete_start, missing_label, complete_text, within_start, within_line, within_text, limits_text, broken_start, broken_end, broken_text, seals_text, audit_start, verdict_text, errors_text, audit_text, names_text, notes_text, program_line, program_text, summary_text, title_of, page_end, IsPage};
+ghost use Rattle.drawings.specs.Names.{flat_map, Adds, style, page_head, complete_start, missing_label, complete_text, within_start, within_line, within_text, limits_text, broken_start, broken_end, broken_text, seals_text, audit_start, verdict_text, errors_text, audit_text, names_text, notes_text, program_line, program_text, summary_text, title_of, check_calls, digest_line, page_end, IsPage};
 
 use crate::bar_cells::greatest;
 use crate::drawing::write_drawing;
@@ -35,6 +35,8 @@ pub struct Facts<'a> {
     pub errors: &'a [u8],
     /// A line for each thing that the record notes of its runs.
     pub notes: &'a [u8],
+    /// The SHA-256 of the record, as digits.
+    pub digest: &'a [u8],
 }
 
 impl<'a> Model for Facts<'a> {
@@ -51,6 +53,7 @@ impl<'a> Model for Facts<'a> {
       verdict = f.verdict.now;
       errors = f.errors.now;
       notes = f.notes.now;
+      digest = f.digest.now;
     } };
 }
 
@@ -101,6 +104,12 @@ impl<'a> Facts<'a> {
         ensures { result.now ≡ self.now.notes }
     {
         self.notes
+    }
+
+    fn digest(&self) -> &[u8]
+        ensures { result.now ≡ self.now.digest }
+    {
+        self.digest
     }
 }
 
@@ -391,9 +400,20 @@ fn put_summary(
     )
 }
 
-#[tactic(auto, unfolding(crate::specs::Pages::page_end))]
-fn put_end(out: &mut Vec<u8>) -> Result<(), AllocError>
-    ensures { OnOk result (out.new.items ≡ out.old.items ++ page_end) }
+fn put_digest(out: &mut Vec<u8>, digest: &[u8]) -> Result<(), AllocError>
+    ensures { OnOk result (out.new.items ≡ out.old.items ++ digest_line digest.now) }
+{
+    put_between(
+        out,
+        b"<p>SHA-256 of the record: <code>",
+        digest,
+        b"</code></p>\n</body></html>\n",
+    )
+}
+
+#[tactic(auto, unfolding(crate::specs::Pages::check_calls))]
+fn put_calls(out: &mut Vec<u8>) -> Result<(), AllocError>
+    ensures { OnOk result (out.new.items ≡ out.old.items ++ check_calls) }
 {
     put_markup(
         out,
@@ -401,8 +421,15 @@ fn put_end(out: &mut Vec<u8>) -> Result<(), AllocError>
     )?;
     put_markup(
         out,
-        b"<code>dme export --as csv --record FILE [--setup FILE] [--limits FILE] PROGRAM</code> prints the same numbers.</p>\n</body></html>\n",
+        b"<code>dme export --as csv --record FILE [--setup FILE] [--limits FILE] PROGRAM</code> prints the same numbers.</p>\n",
     )
+}
+
+fn put_end(out: &mut Vec<u8>, facts: &Facts<'_>) -> Result<(), AllocError>
+    ensures { OnOk result (out.new.items ≡ out.old.items ++ page_end facts.now) }
+{
+    put_calls(out)?;
+    put_digest(out, facts.digest())
 }
 
 fn title_of<'a>(facts: &'a Facts<'_>) -> Title<'a>
@@ -433,7 +460,7 @@ fn put_page(
     put_summary(out, facts, measured, wanted, limits, rows)?;
     put_sections(alloc, out, greatest(rows), limits, measured, wanted, rows)?;
     write_drawing(alloc, out, &title_of(facts), program, features)?;
-    put_end(out)
+    put_end(out, facts)
 }
 
 /// The page of a part (HTML, complete in itself): whether it is complete, within its limits and audited; the rows of each feature of its

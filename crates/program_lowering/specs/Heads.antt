@@ -1,8 +1,7 @@
 -- The comments before a flat program: what it was written of, and how (this profile).
 use Rattle.std.specs.Prelude.{◌≡◌, ℕ, ◌≤◌, true, List, [], ◌∷◌, ◌++◌, length, map, take, codes, Bool, if◌then◌else◌}
 use Rattle.std.specs.List.{list_all}
-use Rattle.sha2.specs.Sha256.{sha256}
-use Rattle.hex.specs.Hex.{encode_lower}
+use Rattle.record_seal.specs.Seals.{digest_of}
 use Rattle.dmis_text.specs.Texts.{may_stand}
 use Rattle.program_lowering.specs.Lowering.{ended_lines, flat_program}
 use Rattle.program_lowering.specs.declared.words.Choices.{Choices}
@@ -53,7 +52,7 @@ abbrev pub head_lines : Names → Choices → List ℕ → List (List ℕ)
 head_lines names choices text =
     codes "$$ flat program, written by dme lower"
     ∷ (codes "$$ source: " ++ shown_name names.program)
-    ∷ (codes "$$ SHA-256 of the source: " ++ encode_lower (sha256 text))
+    ∷ (codes "$$ SHA-256 of the source: " ++ digest_of text)
     ∷ (codes "$$ setup: " ++ shown_name (setup_name names.setup))
     ∷ (codes "$$ options:" ++ options_text choices)
     ∷ []

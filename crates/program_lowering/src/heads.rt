@@ -1,14 +1,12 @@
 // The comments before a flat program.
 
 ghost use Rattle.std.specs.Prelude.{◌≡◌, ◌++◌, IfOk, OnOk, string_bytes};
-ghost use Rattle.hex.specs.Hex.{encode_lower};
-ghost use Rattle.sha2.specs.Sha256.{sha256};
 ghost use Rattle.program_lowering.specs.Heads.{given_options, head_lines, names_of, option_text, or_none, setup_name, shown_byte, shown_name};
 ghost use Rattle.program_lowering.specs.Lowering.{ended_lines};
 
 use crate::flats::{front, push_named};
 use crate::words::Choices;
-use sha2::{Digest, Sha256};
+use record_seal::digest_of;
 use std::alloc::{AllocError, Global};
 
 /// The names of the files that a flat program is written of, as its head names them.
@@ -49,14 +47,6 @@ fn setup_name(setup: &[u8]) -> &[u8]
         [] => b"none",
         _ => setup,
     }
-}
-
-/// The digest of a text.
-fn digest_of(alloc: Global, text: &[u8]) -> Result<String, AllocError>
-    ensures { IfOk result (λ digits. string_bytes digits ≡ encode_lower (sha256 text.now)) }
-{
-    let digest = Sha256::digest(text);
-    hex::encode(alloc, digest)
 }
 
 /// Appends the name of an option, if it was given.

@@ -5,10 +5,15 @@ use Rattle.std.specs.Option.{option_map_or, option_or}
 use Rattle.std.specs.Char.{is_ascii_digit}
 use Rattle.std.specs.Str.{bytes_eq}
 use Rattle.hex.specs.Hex.{encode_lower}
+use Rattle.sha2.specs.Sha256.{sha256}
 use Rattle.contact_ledger.specs.Lines.{whole_lines}
 use Rattle.record_seal.specs.Macs.{hmac}
 use Rattle.record_seal.specs.declared.seals.SealVerdict.{SealVerdict}
 use Rattle.record_seal.specs.declared.seals.SealVerdict.TheVariants as verdict
+
+-- the SHA-256 of a text (FIPS 180-4), as 64 digits
+abbrev pub digest_of : List ℕ → List ℕ
+digest_of text = encode_lower (sha256 text)
 
 -- the seal of a text under a key
 abbrev pub seal_of : (key text : List ℕ) → List ℕ

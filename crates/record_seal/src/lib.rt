@@ -9,4 +9,4 @@ pub mod examples;
 mod macs;
 pub mod seals;
 
-pub use seals::{SealVerdict, false_seal, open_line, seal_of, seal_verdict};
+pub use seals::{SealVerdict, digest_of, false_seal, open_line, seal_of, seal_verdict};

@@ -8,7 +8,16 @@ ghost use Rattle.record_seal.specs.Seals as spec;
 
 use crate::macs::hmac;
 use contact_ledger::lines::cut_line;
+use sha2::{Digest, Sha256};
 use std::alloc::{AllocError, Global};
+
+/// The SHA-256 of a text (FIPS 180-4), as 64 digits. Fails only if out of memory.
+pub fn digest_of(alloc: Global, text: &[u8]) -> Result<String, AllocError>
+    ensures { IfOk result (λ digits. string_bytes digits ≡ spec.digest_of text.now) }
+{
+    let digest: [u8; 32] = Sha256::digest(text);
+    hex::encode(alloc, digest)
+}
 
 /// The seal of a text under a key (this profile): its HMAC (RFC 2104) over SHA-256, as 64 digits. Fails only if out of memory.
 pub fn seal_of(alloc: Global, key: &[u8], text: &[u8]) -> Result<String, AllocError>

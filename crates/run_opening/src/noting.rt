@@ -1,27 +1,17 @@
 // What the record notes of a run whose operator is named, or that seals it.
 
 ghost use Rattle.std.specs.Prelude.{◌≡◌, IfOk, OnOk, string_bytes};
-ghost use Rattle.hex.specs.Hex.{encode_lower};
-ghost use Rattle.sha2.specs.Sha256.{sha256};
 ghost use Rattle.run_opening.specs.Openings as spec;
 ghost use Rattle.run_opening.specs.Noting.{identified};
 
 use crate::openings::Opening;
 use dme_words::{COMMIT, VERSION};
+use record_seal::digest_of;
 use record_text::Note;
 use refusal_guide::InputFile;
 use run_session::Noted;
 use session_telling::visible;
-use sha2::{Digest, Sha256};
 use std::alloc::{AllocError, Global};
-
-/// The digest of a text.
-fn digest_of(alloc: Global, text: &[u8]) -> Result<String, AllocError>
-    ensures { IfOk result (λ digits. string_bytes digits ≡ encode_lower (sha256 text.now)) }
-{
-    let digest = Sha256::digest(text);
-    hex::encode(alloc, digest)
-}
 
 /// The name of a file, as people read it, and the SHA-256 (FIPS 180-4) of its text.
 fn identified(alloc: Global, name: &[u8], text: &[u8]) -> Result<String, AllocError>

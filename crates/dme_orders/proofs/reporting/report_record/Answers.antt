@@ -1,4 +1,4 @@
-use Rattle.dme_orders.proofs.Names.{◌∙◌, ◌≡◌, false, inl, inr, List, refl, rules, subst}
+use Rattle.dme_orders.proofs.Names.{◌∙◌, ◌≡◌, false, inl, inr, List, refl, rules, string_bytes, subst}
 use Rattle.client_core.specs.Clients.{are_ours}
 use Rattle.contact_ledger.specs.declared.features.Feature.{Feature}
 use Rattle.dme_orders.proofs.OrderLemmas.{first_why, no_room, refuses, stops_at, torn_as}
@@ -12,6 +12,7 @@ returns-in_err-of_program g c = refuses _ _ _ _ c.in_err-of_program.field-0.0 c.
   limits = c.in_ok-ranges.ranges;
   input = record {
     seals = c.in_ok-ranges.seals;
+    digest = string_bytes c.in_ok-ranges.digest;
     files = record { setup = c.in_ok-ranges.ensures.ok.0; held = c.in_ok-ranges.held; program = c.in_ok-ranges.program };
   };
 })
@@ -28,6 +29,7 @@ returns-in_err-texts g c = no_room _ _ _ _ c.from_residual-in_err-texts.result (
   limits = c.in_ok-ranges.ranges;
   input = record {
     seals = c.in_ok-ranges.seals;
+    digest = string_bytes c.in_ok-ranges.digest;
     files = record { setup = c.in_ok-ranges.ensures.ok.0; held = c.in_ok-ranges.held; program = c.in_ok-ranges.program };
   };
 })
@@ -38,6 +40,7 @@ returns-in_err-missing g c = refuses _ _ _ _ c.in_err-missing.field-0.0 c.from_r
   limits = c.in_ok-ranges.ranges;
   input = record {
     seals = c.in_ok-ranges.seals;
+    digest = string_bytes c.in_ok-ranges.digest;
     files = record { setup = c.in_ok-ranges.ensures.ok.0; held = c.in_ok-ranges.held; program = c.in_ok-ranges.program };
   };
 })
@@ -55,6 +58,7 @@ returns-in_err-write_text g c = torn_as _ _ _ _ c.from_residual-in_err-write_tex
     limits = c.in_ok-ranges.ranges;
     input = record {
       seals = c.in_ok-ranges.seals;
+      digest = string_bytes c.in_ok-ranges.digest;
       files = record { setup = c.in_ok-ranges.ensures.ok.0; held = c.in_ok-ranges.held; program = c.in_ok-ranges.program };
     };
   };
@@ -72,6 +76,7 @@ returns g c = record {
     limits = c.in_ok-ranges.ranges;
     input = record {
       seals = c.in_ok-ranges.seals;
+      digest = string_bytes c.in_ok-ranges.digest;
       files = record { setup = c.in_ok-ranges.ensures.ok.0; held = c.in_ok-ranges.held; program = c.in_ok-ranges.program };
     };
   };
