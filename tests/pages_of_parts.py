@@ -206,7 +206,7 @@ def feature_line(label, limits, worst):
 
 
 def attempts_in(record, labels):
-    """The lines on attempts that were given up: the contacts before those of a feature's last attempt, and those after the last feature."""
+    """The lines on discarded attempts: the contacts before those of a feature's last attempt, and those after the last feature."""
     counts = {line.split()[1]: int(line.split()[2]) for line in record.splitlines() if line.startswith("FEATURE ")}
     found, contacts, left = [], 0, list(labels)
     for words in (line.split() for line in record.splitlines()):
@@ -216,11 +216,11 @@ def attempts_in(record, labels):
             found.append((left.pop(0), contacts - counts[words[2]]))
             contacts = 0
     found.append((left[0] if left else "after the last feature", contacts))
-    return "".join(f"{place}: contacts of attempts that were given up: {count}\n" for place, count in found if count)
+    return "".join(f"{place}: contacts of discarded attempts: {count}\n" for place, count in found if count)
 
 
 def notes_in(record, labels):
-    """The lines of the page on what the last connection's record notes after one feature, and on attempts that were given up; None if there
+    """The lines of the page on what the last connection's record notes after one feature, and on discarded attempts; None if there
     are none."""
     words = {"SEAL": "sealed", "LEFT": "left at"}
     notes = [line.split(" ", 2) for line in record.splitlines()]

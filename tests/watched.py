@@ -286,7 +286,7 @@ def no_file(folder):
     """A told file that cannot be written: the relay does not listen."""
     (folder / "told").mkdir()
     relay, _ = watch(folder, 1)
-    must(ended(relay) == (1, "", "dme: cannot write told\n"), "folder")
+    must(ended(relay) == (1, "", "dme: cannot write told: is a folder\n"), "folder")
     (folder / "told").rmdir()
 
 
@@ -300,7 +300,7 @@ def refused_beside(folder):
         must(far.recv(4096) == b"00001 StartSession()\r\n", "no relay")
         for other, told, refusal in (
             (port, "other", "dme: connection failed\nport in use\n"),
-            (free_port(), "told", "dme: cannot write told\n"),
+            (free_port(), "told", "dme: cannot write told: locked by another run\n"),
             (free_port(), "other", "dme: cannot write .\nit holds recordings already\n"),
         ):
             words = ("--listen", str(other), "--host", "127.0.0.1", "--port", "1", "--told", told, "--record-bytes", ".")

@@ -1,14 +1,14 @@
--- The contacts of attempts that were given up: those that a server reported and that are in no run of a feature (this profile).
+-- The contacts of discarded attempts: those that a server reported and that are in no run of a feature (this profile).
 use Rattle.std.specs.Prelude.{ℕ, zero, suc, ◌+◌, ◌-◌, List, [], ◌∷◌, ◌++◌, length, codes, decimal, drop}
 use Rattle.contact_ledger.specs.declared.features.Feature.{Feature}
 use Rattle.dmis_program.specs.declared.features.Wanted.{Wanted}
 use Rattle.ledger_audit.specs.declared.verdicts.Verdict.{Verdict}
 use Rattle.ledger_audit.specs.declared.verdicts.Verdict.TheVariants.{Starts, NoRun}
 
--- the line of so many of a feature; none has no line
+-- the line of n of a feature; none has no line
 abbrev pub attempt_line : ℕ → List ℕ → List ℕ
 attempt_line zero label = []
-attempt_line (suc n) label = label ++ (codes ": contacts of attempts that were given up: " ++ (decimal (suc n) ++ codes "\n"))
+attempt_line (suc n) label = label ++ (codes ": contacts of discarded attempts: " ++ (decimal (suc n) ++ codes "\n"))
 
 unfoldable pub after_last : List ℕ
 after_last = codes "after the last feature"

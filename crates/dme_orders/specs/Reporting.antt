@@ -46,7 +46,7 @@ facts_of part name time errors notes digest seals status verdict = record {
   digest = digest;
 }
 
--- a status and a line of an audit, and the lines of attempts that were given up by the same audit
+-- a status and a line of an audit, and the lines of discarded attempts by the same audit
 pub record Judges (program : Meaning) (features : List Feature) (told : List (ℕ × Act)) (status : ℕ) (line attempts : List ℕ) : Type 0 where
   pub verdict : Verdict
   pub holds : IsVerdict program.features features told verdict
@@ -54,7 +54,7 @@ pub record Judges (program : Meaning) (features : List Feature) (told : List (�
   pub line_is : line ≡ verdict_text features verdict
   pub given_up : attempts ≡ attempt_lines (contact_count told) program.features features verdict
 
--- the page of features, with the rows that are theirs and the audit of them by acts; what it notes ends with the attempts that were given up
+-- the page of features, with the rows that are theirs and the audit of them by acts; what it notes ends with the discarded attempts
 pub record IsPageOf (part name time errors notes digest : List ℕ) (seals : SealVerdict) (limits : Option (List Limit)) (program : Meaning) (features : List Feature)
     (told : List (ℕ × Act)) (text : List ℕ) : Type 0 where
   pub rows : List Row

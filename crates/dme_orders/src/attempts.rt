@@ -1,4 +1,4 @@
-// The contacts of attempts that were given up.
+// The contacts of discarded attempts.
 
 ghost use Rattle.std.specs.Prelude.{◌≡◌, ◌++◌, drop, length, IfOk, OnOk, string_bytes};
 ghost use Rattle.dme_orders.specs.Attempts as spec;
@@ -16,10 +16,7 @@ fn push_attempt(text: &mut String, count: u128, label: &Name) -> Result<(), Allo
     if count == 0 {
         return Ok(());
     }
-    writeln!(
-        text,
-        "{label}: contacts of attempts that were given up: {count}"
-    )
+    writeln!(text, "{label}: contacts of discarded attempts: {count}")
 }
 
 #[tactic(auto, unfolding(crate::specs::Attempts::after_last))]
@@ -36,10 +33,7 @@ fn push_others(text: &mut String, count: u128, place: &str) -> Result<(), AllocE
     if count == 0 {
         return Ok(());
     }
-    writeln!(
-        text,
-        "{place}: contacts of attempts that were given up: {count}"
-    )
+    writeln!(text, "{place}: contacts of discarded attempts: {count}")
 }
 
 fn push_last(text: &mut String, count: u128, missing: &[Wanted]) -> Result<(), AllocError>
@@ -91,7 +85,7 @@ fn missing(wanted: &[Wanted], measured: usize) -> &[Wanted]
     }
 }
 
-/// A line for each feature of which an attempt was given up: how many contacts were reported that are in no run that an audit found. Fails
+/// A line for each feature of which an attempt was discarded: how many contacts were reported that are in no run that an audit found. Fails
 /// only if out of memory.
 pub(crate) fn attempts_of(
     alloc: Global,

@@ -8,7 +8,7 @@
 //! - `exporting`: what was measured is put next to what a program asks for; `explaining`: what a refusal means
 //! - `of_records`: a record is audited and exported; `missing`: which features were not measured; `run_errors`: what the
 //!   server reported meanwhile
-//! - `reporting`: the page of a part; `attempts`: of which features an attempt was given up
+//! - `reporting`: the page of a part; `attempts`: of which features an attempt was discarded
 //! - `digests`: by what an auditor knows the files and the part that were judged
 //! - `notes`: what an audit found, and in what a record differs from a program, besides what an order prints
 //! - `preparing`: the files of an order over a connection are read before there is one

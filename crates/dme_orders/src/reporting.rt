@@ -79,7 +79,7 @@ fn texts_of(alloc: Global, held: &Option<Record>) -> Result<Texts, AllocError>
     })
 }
 
-/// The exit status of an audit, its line, and the lines of attempts that were given up. Fails only if out of memory.
+/// The exit status of an audit, its line, and the lines of discarded attempts. Fails only if out of memory.
 fn judgement(
     alloc: Global,
     program: &Program,

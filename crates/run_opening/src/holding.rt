@@ -7,7 +7,7 @@ ghost use Rattle.run_opening.specs.Openings as spec;
 use crate::openings::Opening;
 use crate::stages::{Stage, Text};
 use effects::{Answer, Cause};
-use session_telling::{cause_of, why_unwritten};
+use session_telling::unwritten_line;
 use std::alloc::AllocError;
 
 impl Opening {
@@ -50,8 +50,7 @@ impl Opening {
         ensures { OnOk result (spec.Ends self.new) }
     {
         let name = name.unwrap_or(String::new(self.alloc));
-        let why = why_unwritten(cause_of(answer));
-        let said = format!(in self.alloc; "dme: cannot write {name}{why}\n")?;
+        let said = unwritten_line(self.alloc, name.as_str(), answer)?;
         self.refuse(said, 1);
         Ok(())
     }

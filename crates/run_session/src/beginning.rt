@@ -7,7 +7,7 @@ ghost use Rattle.run_session.specs.Records as spec;
 use crate::runs::Kept;
 use crate::{Session, Stage};
 use effects::Answer;
-use session_telling::{cause_of, why_unwritten};
+use session_telling::unwritten_line;
 use std::alloc::AllocError;
 
 impl Session {
@@ -59,9 +59,7 @@ impl Session {
         ensures due { OnOk result (spec.IsDue self.new) }
         ensures followed { OnOk result (spec.Follows self.old self.new) }
     {
-        let why = why_unwritten(cause_of(answer));
-        let name = self.run.name(kept);
-        self.verdict = format!(in self.alloc; "dme: cannot write {name}{why}\n")?;
+        self.verdict = unwritten_line(self.alloc, self.run.name(kept), answer)?;
         self.status = 1;
         self.stage = Stage::Leaving;
         Ok(())

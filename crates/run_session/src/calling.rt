@@ -7,7 +7,7 @@ use crate::sessions::LOOK_MS;
 use crate::{Session, Stage};
 use effects::{Answer, Cause};
 use order_parts::{RunEnding, refused_call, unknown_host};
-use session_telling::{cause_of, why_unconnected};
+use session_telling::{cause_of, unwritten_line, why_unconnected};
 use std::alloc::AllocError;
 
 /// The exit status of a run that is not Done though nothing has failed, as one that its stop file has kept from beginning.
@@ -38,7 +38,7 @@ impl Session {
     }
 
     /// The log cannot be written, and is left alone: that is to be shown.
-    pub(crate) fn lose_log(&mut self) -> Result<(), AllocError>
+    pub(crate) fn lose_log(&mut self, answer: Answer<'_>) -> Result<(), AllocError>
         ensures { self.new ≡ self.old }
     {
         self.is_logged = false;
@@ -46,7 +46,7 @@ impl Session {
             self.lines.stop();
         }
         let name = self.run.log.as_deref().unwrap_or("");
-        let message = format!(in self.alloc; "dme: cannot write {name}\n")?;
+        let message = unwritten_line(self.alloc, name, answer)?;
         self.shown.push_str(message.as_str())
     }
 
@@ -140,7 +140,7 @@ impl Session {
         match (self.stage, answer) {
             (Stage::Logged, Answer::Done) => self.stage = self.after_log(),
             (Stage::Logged, _) => {
-                self.lose_log()?;
+                self.lose_log(answer)?;
                 self.stage = Stage::Warning;
             }
             (Stage::Warning, _) => {

@@ -9,7 +9,7 @@ use crate::{Session, Stage};
 use client_core::State;
 use effects::Answer;
 use order_parts::end_report;
-use session_telling::{cause_of, why_unwritten};
+use session_telling::unwritten_line;
 use std::alloc::AllocError;
 
 const UNPRINTED: &str = "dme: cannot write -\n";
@@ -81,9 +81,8 @@ impl Session {
             return Ok(());
         }
         self.is_unwritten = true;
-        let why = why_unwritten(cause_of(answer));
         let name = self.run.name(self.replaced_file());
-        let line = format!(in self.alloc; "dme: cannot write {name}{why}\n")?;
+        let line = unwritten_line(self.alloc, name, answer)?;
         if self.verdict.is_empty() {
             self.verdict = line;
             self.status = 1;

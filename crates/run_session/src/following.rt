@@ -9,7 +9,7 @@ use crate::runs::Kept;
 use crate::{Session, Stage};
 use dmis_program::Wanted;
 use effects::{Answer, Cause};
-use session_telling::{cause_of, stamped, why_unwritten};
+use session_telling::{cause_of, stamped, unwritten_line};
 use std::alloc::AllocError;
 
 /// The first of these, up to this many.
@@ -122,7 +122,7 @@ impl Session {
             }
             _ => {
                 self.logged.clear();
-                self.lose_log()?;
+                self.lose_log(answer)?;
                 self.record()
             }
         }
@@ -154,14 +154,13 @@ impl Session {
     }
 
     /// A file could not be kept: that is to be shown, unless it has lost its name, and is written anew at the end.
-    fn lose(&mut self, kept: Kept, cause: Cause, why: &str) -> Result<(), AllocError>
+    fn lose(&mut self, kept: Kept, answer: Answer<'_>) -> Result<(), AllocError>
         ensures { self.new ≡ self.old }
     {
-        if let Cause::Renamed = cause {
+        if let Cause::Renamed = cause_of(answer) {
             return Ok(());
         }
-        let name = self.run.name(kept);
-        let message = format!(in self.alloc; "dme: cannot write {name}{why}\n")?;
+        let message = unwritten_line(self.alloc, self.run.name(kept), answer)?;
         self.shown.push_str(message.as_str())
     }
 
@@ -213,7 +212,7 @@ impl Session {
             _ => {}
         }
         self.lose_record();
-        self.lose(Kept::Record, cause_of(answer), "")?;
+        self.lose(Kept::Record, answer)?;
         self.report()
     }
 
@@ -257,8 +256,7 @@ impl Session {
         if let Answer::Done = answer {
             return self.list();
         }
-        let cause = cause_of(answer);
-        self.lose(Kept::Contacts, cause, why_unwritten(cause))?;
+        self.lose(Kept::Contacts, answer)?;
         self.list()
     }
 
@@ -301,8 +299,7 @@ impl Session {
         if let Answer::Done = answer {
             return self.show_features();
         }
-        let cause = cause_of(answer);
-        self.lose(Kept::Features, cause, why_unwritten(cause))?;
+        self.lose(Kept::Features, answer)?;
         self.show_features()
     }
 

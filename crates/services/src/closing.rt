@@ -10,7 +10,7 @@ use crate::{Session, Stage};
 use effects::Answer;
 use link_world::{PumpFault, write_contact_rows};
 use server_core::ServerFault;
-use session_telling::lapse_line;
+use session_telling::{lapse_line, unwritten_line};
 use std::alloc::AllocError;
 
 const UNPRINTED: &str = "dme: cannot write -\n";
@@ -72,8 +72,7 @@ impl Session {
             (Stage::Replacing, Answer::Done) => self.print(),
             (Stage::Replacing, _) => {
                 self.contacts.has_failed = true;
-                let name = self.contacts.name();
-                self.unwritten = format!(in self.alloc; "dme: cannot write {name}\n")?;
+                self.unwritten = unwritten_line(self.alloc, self.contacts.name(), answer)?;
                 self.print()
             }
             (_, Answer::Done) => self.verdict(),

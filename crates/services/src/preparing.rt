@@ -7,7 +7,7 @@ ghost use Rattle.services.specs.Serving as serving;
 
 use crate::{Session, Stage};
 use effects::Answer;
-use session_telling::{cause_of, why_unconnected, why_unwritten};
+use session_telling::{cause_of, unwritten_line, why_unconnected};
 use std::alloc::AllocError;
 
 impl Session {
@@ -22,7 +22,7 @@ impl Session {
     }
 
     /// The log cannot be written, and is left alone.
-    pub(crate) fn lose_log(&mut self, next: Stage) -> Result<(), AllocError>
+    pub(crate) fn lose_log(&mut self, answer: Answer<'_>, next: Stage) -> Result<(), AllocError>
         ensures new { OnOk result (self.new
             ≡ record self.old { stage = Stage.Saying; next = next }) }
         ensures talk { self.new.talk ≡ self.old.talk }
@@ -32,19 +32,18 @@ impl Session {
             self.lines.stop();
         }
         let name = self.service.log.as_deref().unwrap_or("");
-        let message = format!(in self.alloc; "dme: cannot write {name}\n")?;
+        let message = unwritten_line(self.alloc, name, answer)?;
         self.say(message, next);
         Ok(())
     }
 
     /// The contacts file cannot be written, and the service ends before it has begun.
-    fn refuse_contacts(&mut self, why: &str) -> Result<(), AllocError>
+    fn refuse_contacts(&mut self, answer: Answer<'_>) -> Result<(), AllocError>
         ensures new { OnOk result (self.new
             ≡ record self.old { stage = Stage.Saying; next = Stage.Exiting }) }
         ensures talk { self.new.talk ≡ self.old.talk }
     {
-        let name = self.contacts.name();
-        let message = format!(in self.alloc; "dme: cannot write {name}{why}\n")?;
+        let message = unwritten_line(self.alloc, self.contacts.name(), answer)?;
         self.say(message, Stage::Exiting);
         Ok(())
     }
@@ -71,12 +70,10 @@ impl Session {
     {
         match (self.stage, answer) {
             (Stage::Logged, Answer::Done) => self.stage = self.after_log(),
-            (Stage::Logged, _) => return self.lose_log(self.after_log()),
+            (Stage::Logged, _) => return self.lose_log(answer, self.after_log()),
             (Stage::Looking, Answer::Done) => self.stage = Stage::Making,
             (Stage::Looking, Answer::Short) => return Err(AllocError),
-            (Stage::Looking, answer) => {
-                return self.refuse_contacts(why_unwritten(cause_of(answer)));
-            }
+            (Stage::Looking, _) => return self.refuse_contacts(answer),
             (Stage::Making, Answer::Done) => self.made(false),
             (Stage::Making, Answer::Found) => self.made(true),
             (Stage::Making, Answer::Short) => return Err(AllocError),
@@ -174,13 +171,12 @@ impl Session {
                 self.say(message, Stage::Beginning);
             }
             (Stage::SettingAside, _) => {
-                let old = self.contacts.old();
-                let message = format!(in self.alloc; "dme: cannot write {old}\n")?;
+                let message = unwritten_line(self.alloc, self.contacts.old(), answer)?;
                 self.say(message, Stage::Exiting);
                 self.stage = Stage::Discarding;
             }
             (_, Answer::Done) => self.begun(),
-            _ => return self.refuse_contacts(""),
+            _ => return self.refuse_contacts(answer),
         }
         Ok(())
     }
@@ -194,9 +190,7 @@ impl Session {
         ensures stands { OnOk result (spec.Stands self.new) }
     {
         self.contacts.has_failed = true;
-        let why = why_unwritten(cause_of(answer));
-        let name = self.contacts.name();
-        let message = format!(in self.alloc; "dme: cannot write {name}{why}\n")?;
+        let message = unwritten_line(self.alloc, self.contacts.name(), answer)?;
         self.say(message, self.after_keeping());
         Ok(())
     }

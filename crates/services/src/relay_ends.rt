@@ -61,7 +61,7 @@ impl RelaySession {
                 return self.lose_told(answer, next);
             }
             (Stage::Settling, Answer::Done) => self.settled(),
-            (Stage::Settling, _) => return self.lose_settling(),
+            (Stage::Settling, _) => return self.lose_settling(answer),
             _ => return self.left(),
         }
         Ok(())
@@ -84,12 +84,12 @@ impl RelaySession {
 
     /// A file of the recording could not be forced to the device.
     #[tactic(auto, using(crate::proofs::Relayed::ending_fails, crate::proofs::Relayed::quiet_stops))]
-    fn lose_settling(&mut self) -> Result<(), AllocError>
+    fn lose_settling(&mut self, answer: Answer<'_>) -> Result<(), AllocError>
         requires { self.old.stage ≡ Stage.Settling }
         ensures { (reply : Reply) → spec.Takes result self.old reply self.new }
     {
         self.status = 1;
-        let message = self.unmade()?;
+        let message = self.unmade(answer)?;
         self.recording = None;
         self.say(message, Stage::Leaving);
         Ok(())

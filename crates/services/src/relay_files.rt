@@ -7,8 +7,8 @@ ghost use Rattle.services.specs.Relays as spec;
 use crate::recordings::{hold_recording, recording_in, slot_after};
 use crate::relay_stages::RelayStage as Stage;
 use crate::relaying::RelaySession;
-use effects::{Answer, Cause, Peer, Slot};
-use session_telling::{cause_of, stamped, why_unconnected, why_unwritten};
+use effects::{Answer, Peer, Slot};
+use session_telling::{cause_of, stamped, unwritten_line, why_unconnected};
 use std::alloc::AllocError;
 use watched_ends::add_piece;
 use witness::Side;
@@ -32,12 +32,11 @@ impl RelaySession {
     }
 
     /// The told file cannot be written.
-    fn refuse_told(&mut self, why: &str) -> Result<(), AllocError>
+    fn refuse_told(&mut self, answer: Answer<'_>) -> Result<(), AllocError>
         ensures ok { OnOk result (self.new ≡ spec.refusing self.old) }
         ensures err { OnErr result (self.new ≡ self.old) }
     {
-        let name = self.names.name.as_str();
-        let message = format!(in self.alloc; "dme: cannot write {name}{why}\n")?;
+        let message = unwritten_line(self.alloc, self.names.name.as_str(), answer)?;
         self.refuse(message);
         Ok(())
     }
@@ -65,10 +64,7 @@ impl RelaySession {
                 self.stage = Stage::Listening;
             }
             (Stage::Making, Answer::Short) => return Err(AllocError),
-            (Stage::Making, Answer::Failed(Cause::Link)) => {
-                self.refuse_told(why_unwritten(Cause::Link))?;
-            }
-            (Stage::Making, _) => self.refuse_told("")?,
+            (Stage::Making, _) => self.refuse_told(answer)?,
             (Stage::Listening, Answer::Done) if self.recording.is_some() => {
                 self.stage = Stage::Listing;
             }
@@ -144,8 +140,7 @@ impl RelaySession {
                 self.say(message, Stage::Beginning);
             }
             (Stage::SettingAside, _) => {
-                let old = self.names.old.as_str();
-                let message = format!(in self.alloc; "dme: cannot write {old}\n")?;
+                let message = unwritten_line(self.alloc, self.names.old.as_str(), answer)?;
                 self.refuse(message);
             }
             (Stage::Beginning, Answer::Done) => {
@@ -155,10 +150,10 @@ impl RelaySession {
                     Stage::Accepting
                 };
             }
-            (Stage::Beginning, _) => self.refuse_told("")?,
+            (Stage::Beginning, _) => self.refuse_told(answer)?,
             (_, Answer::Done) => self.stage = Stage::Accepting,
             _ => {
-                let message = self.lose_log()?;
+                let message = self.lose_log(answer)?;
                 self.say(message, Stage::Accepting);
             }
         }
@@ -166,7 +161,7 @@ impl RelaySession {
     }
 
     /// The log cannot be written, and is left alone.
-    fn lose_log(&mut self) -> Result<String, AllocError>
+    fn lose_log(&mut self, answer: Answer<'_>) -> Result<String, AllocError>
         ensures { self.new ≡ self.old }
     {
         self.is_logged = false;
@@ -174,7 +169,7 @@ impl RelaySession {
             self.lines.stop();
         }
         let name = self.order.log.as_deref().unwrap_or("");
-        format!(in self.alloc; "dme: cannot write {name}\n")
+        unwritten_line(self.alloc, name, answer)
     }
 
     /// A file of the recording of the next connection is made, or those that were are removed.
@@ -184,7 +179,7 @@ impl RelaySession {
         ensures { spec.Takes result self.old (the_reply answer.entry) self.new }
     {
         let Answer::Done = answer else {
-            return self.lose_recording();
+            return self.lose_recording(answer);
         };
         if let Stage::Creating = self.stage {
             if let Some(recording) = &mut self.recording {
@@ -201,11 +196,11 @@ impl RelaySession {
 
     /// A file of a recording cannot be made: those that were are removed.
     #[tactic(auto, using(crate::proofs::Relayed::refused_steps, crate::proofs::Relayed::opening_fails, crate::proofs::Relayed::quiet_stops))]
-    fn lose_recording(&mut self) -> Result<(), AllocError>
+    fn lose_recording(&mut self, answer: Answer<'_>) -> Result<(), AllocError>
         requires { spec.is_creating self.old.stage ≡ true }
         ensures { (reply : Reply) → spec.Takes result self.old reply self.new }
     {
-        let message = self.unmade()?;
+        let message = self.unmade(answer)?;
         if self.number == 0 {
             self.refuse(message);
             return Ok(());
@@ -239,9 +234,9 @@ impl RelaySession {
     }
 
     /// That the next file of the recording cannot be written.
-    pub(crate) fn unmade(&self) -> Result<String, AllocError> {
+    pub(crate) fn unmade(&self, answer: Answer<'_>) -> Result<String, AllocError> {
         match &self.recording {
-            Some(recording) => self.unwritten(slot_after(recording.made)),
+            Some(recording) => self.unwritten(slot_after(recording.made), answer),
             None => Ok(String::new(self.alloc)),
         }
     }
@@ -284,7 +279,7 @@ impl RelaySession {
             }
             (Stage::Tracing, _) | (Stage::Logging, Answer::Done) => self.after_showing(),
             _ => {
-                let message = self.lose_log()?;
+                let message = self.lose_log(answer)?;
                 self.after_showing();
                 self.say(message, self.stage);
             }
@@ -309,25 +304,22 @@ impl RelaySession {
                 self.piece.clear();
                 self.after(self.from);
             }
-            _ => return self.lose_bytes(),
+            _ => return self.lose_bytes(answer),
         }
         Ok(())
     }
 
     /// That a file of the recording cannot be written.
-    pub(crate) fn unwritten(&self, slot: Slot) -> Result<String, AllocError> {
+    pub(crate) fn unwritten(&self, slot: Slot, answer: Answer<'_>) -> Result<String, AllocError> {
         match &self.recording {
-            Some(recording) => {
-                let name = recording.name(slot);
-                format!(in self.alloc; "dme: cannot write {name}\n")
-            }
+            Some(recording) => unwritten_line(self.alloc, recording.name(slot), answer),
             None => Ok(String::new(self.alloc)),
         }
     }
 
     /// The bytes cannot be kept: that is said, and no more of this connection are.
     #[tactic(auto, using(crate::proofs::Relayed::stage_fails, crate::proofs::Relayed::quiet_stops))]
-    fn lose_bytes(&mut self) -> Result<(), AllocError>
+    fn lose_bytes(&mut self, answer: Answer<'_>) -> Result<(), AllocError>
         requires { spec.is_saving self.old.stage ≡ true }
         ensures { (reply : Reply) → spec.Takes result self.old reply self.new }
     {
@@ -338,7 +330,7 @@ impl RelaySession {
             (_, Peer::Client) => Slot::Up,
             (_, Peer::Server) => Slot::Down,
         };
-        let message = self.unwritten(slot)?;
+        let message = self.unwritten(slot, answer)?;
         self.recording = None;
         self.after(self.from);
         self.say(message, self.stage);
@@ -352,9 +344,7 @@ impl RelaySession {
     {
         self.is_told = false;
         self.status = 1;
-        let why = why_unwritten(cause_of(answer));
-        let name = self.names.name.as_str();
-        let message = format!(in self.alloc; "dme: cannot write {name}{why}\n")?;
+        let message = unwritten_line(self.alloc, self.names.name.as_str(), answer)?;
         self.say(message, next);
         Ok(())
     }

@@ -277,7 +277,7 @@ impl Session {
                 self.stage = Stage::Logging;
             }
             (Stage::Tracing, _) | (Stage::Logging, Answer::Done) => self.stage = self.next,
-            _ => return self.lose_log(self.next),
+            _ => return self.lose_log(answer, self.next),
         }
         Ok(())
     }

@@ -1,6 +1,7 @@
 // Why an effect was not carried out, as it is shown.
 
 use effects::{Answer, Cause};
+use std::alloc::{AllocError, Global};
 
 /// Why an effect failed, as far as the answer says it.
 pub fn cause_of(answer: Answer<'_>) -> Cause {
@@ -11,7 +12,7 @@ pub fn cause_of(answer: Answer<'_>) -> Cause {
 }
 
 /// Why a file cannot be written, as it is shown after the file's name; nothing if the system says nothing that helps.
-pub fn why_unwritten(cause: Cause) -> &'static str {
+fn why_unwritten(cause: Cause) -> &'static str {
     match cause {
         Cause::Locked => ": locked by another run",
         Cause::Link => ": is a link",
@@ -23,6 +24,12 @@ pub fn why_unwritten(cause: Cause) -> &'static str {
         Cause::Memory => ": out of memory",
         _ => "",
     }
+}
+
+/// The line that a file cannot be written, and why, as far as the answer says it. Fails only if out of memory.
+pub fn unwritten_line(alloc: Global, name: &str, answer: Answer<'_>) -> Result<String, AllocError> {
+    let why = why_unwritten(cause_of(answer));
+    format!(in alloc; "dme: cannot write {name}{why}\n")
 }
 
 /// Why a connection is not made, as a line.

@@ -18,7 +18,7 @@ mod showing;
 mod waits;
 
 pub use arriving::line_came;
-pub use causes::{cause_of, why_unconnected, why_unwritten};
+pub use causes::{cause_of, unwritten_line, why_unconnected};
 pub use dialogues::{Dialogue, Report};
 pub use lines::{Lines, Side, stamped};
 pub use places::{line_of, place_of};
