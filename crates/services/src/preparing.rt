@@ -77,7 +77,7 @@ impl Session {
             (Stage::Making, Answer::Done) => self.made(false),
             (Stage::Making, Answer::Found) => self.made(true),
             (Stage::Making, Answer::Short) => return Err(AllocError),
-            (Stage::Making, _) => return self.refuse_contacts(""),
+            (Stage::Making, _) => return self.refuse_contacts(answer),
             _ => return self.listened(answer),
         }
         Ok(())
