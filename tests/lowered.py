@@ -148,10 +148,7 @@ class Made:
         line = self.add(f"GOTO/{','.join(it[0] for it in texts)}")
 
         def carry_out(flow):
-            values = flow.micrometres(line, texts)
-            if any(abs(it) > 1_000_000_000 for it in values):
-                raise Refused(line)
-            flow.move(line, values)
+            flow.move(line, flow.micrometres(line, texts))
 
         return carry_out
 
@@ -307,11 +304,14 @@ class Flow:
         self.out.append(f"GOTO/CART,{','.join(written(it) for it in values)} $$ line {line}")
 
     def micrometres(self, line, texts):
-        """Values of coordinates: a value that is not whole is written with six decimals, and read to a micrometre."""
+        """Values of coordinates up to a kilometre: one that is not whole is written with six decimals, and read to a micrometre."""
         try:
-            return [int(rounded(rounded(it[1](self.values), 6), 3) * 1000) for it in texts]
+            values = [int(rounded(rounded(it[1](self.values), 6), 3) * 1000) for it in texts]
         except NoValue:
             raise Refused(line) from None
+        if any(abs(it) > 1_000_000_000 for it in values):
+            raise Refused(line)
+        return values
 
     def assign(self, line, name, value):
         whole = abs(value.numerator) // value.denominator * (1 if value >= 0 else -1)
