@@ -216,7 +216,7 @@ def attempts_in(record, labels):
             found.append((left.pop(0), contacts - counts[words[2]]))
             contacts = 0
     found.append((left[0] if left else "after the last feature", contacts))
-    return "".join(f"{place}: contacts of discarded attempts: {count}\n" for place, count in found if count)
+    return "".join(f"{place}: contacts of attempts that were discarded: {count}\n" for place, count in found if count)
 
 
 def notes_in(record, labels):

@@ -8,7 +8,7 @@ use Rattle.ledger_audit.specs.declared.verdicts.Verdict.TheVariants.{Starts, NoR
 -- the line of n of a feature; none has no line
 abbrev pub attempt_line : ℕ → List ℕ → List ℕ
 attempt_line zero label = []
-attempt_line (suc n) label = label ++ (codes ": contacts of discarded attempts: " ++ (decimal (suc n) ++ codes "\n"))
+attempt_line (suc n) label = label ++ (codes ": contacts of attempts that were discarded: " ++ (decimal (suc n) ++ codes "\n"))
 
 unfoldable pub after_last : List ℕ
 after_last = codes "after the last feature"

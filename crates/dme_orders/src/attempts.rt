@@ -16,7 +16,10 @@ fn push_attempt(text: &mut String, count: u128, label: &Name) -> Result<(), Allo
     if count == 0 {
         return Ok(());
     }
-    writeln!(text, "{label}: contacts of discarded attempts: {count}")
+    writeln!(
+        text,
+        "{label}: contacts of attempts that were discarded: {count}"
+    )
 }
 
 #[tactic(auto, unfolding(crate::specs::Attempts::after_last))]
@@ -33,7 +36,10 @@ fn push_others(text: &mut String, count: u128, place: &str) -> Result<(), AllocE
     if count == 0 {
         return Ok(());
     }
-    writeln!(text, "{place}: contacts of discarded attempts: {count}")
+    writeln!(
+        text,
+        "{place}: contacts of attempts that were discarded: {count}"
+    )
 }
 
 fn push_last(text: &mut String, count: u128, missing: &[Wanted]) -> Result<(), AllocError>
