@@ -5,10 +5,13 @@
 //! - `flow`: `Flow`, the statements in the order in which they are carried out
 #![tactic(auto)]
 
+mod arguments;
 mod blocks;
+pub mod call_examples;
 mod conditions;
 pub mod examples;
 mod flow;
+mod macros;
 mod selections;
 mod turns;
 
