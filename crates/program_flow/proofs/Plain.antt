@@ -1,5 +1,5 @@
 -- A text without macros and calls is carried out as if there were none.
-use Rattle.std.proofs.Common.{◌≡◌, ℕ, zero, suc, Bool, true, false, List, [], ◌∷◌, drop, refl, ap, sym, ◌∙◌}
+use Rattle.std.proofs.Common.{◌≡◌, ℕ, zero, suc, ◌+◌, Bool, true, false, List, [], ◌∷◌, drop, refl, ap, sym, ◌∙◌}
 use Rattle.std.specs.Prelude.{◌||◌, not}
 use Rattle.std.specs.List.{AllByRecursion}
 use Rattle.dmis_text.specs.declared.elements.Statement.{Statement}
@@ -9,10 +9,16 @@ use Rattle.program_flow.specs.Calls as calls
 use Rattle.program_flow.specs.Flow as flow
 use Rattle.program_flow.specs.Flow.{Control, Turn, Valuation, carried, given_up, to, turn, turn_at}
 use Rattle.program_flow.specs.Macros.{begins_macro, ends_macro, outside_after}
+use Rattle.program_flow.specs.Blocks.{part_of}
+use Rattle.program_flow.specs.declared.blocks.Block.{Block}
+use Rattle.program_flow.specs.declared.blocks.Part.TheVariants.{Other}
+use Rattle.program_flow.proofs.Frames.{call-step}
+use Rattle.program_flow.proofs.Leads.{step-here, step-turned}
+use Rattle.program_flow.proofs.Straight.{turn-other}
 use Rattle.program_flow.proofs.Steps.{trace-done, trace-step, turn-end}
 
 -- the only frame of such a text
-abbrev only : List Statement → Control → Frame
+abbrev pub only : List Statement → Control → Frame
 only text c = record { name = []; statements = text; control = c }
 
 not_all : (a b c : Bool) → not (a || (b || c)) ≡ true → (a ≡ false) × ((b ≡ false) × (c ≡ false))
@@ -67,3 +73,25 @@ pub plain_text : (text : List Statement) → AllByRecursion (λ (s : Statement).
     → calls.trace 1000000 text (begun text) [] ≡ flow.trace 1000000 text (to 0 []) []
 plain_text text h = ap (λ (ss : List Statement). calls.trace 1000000 text (only ss (to 0 []) ∷ []) []) (outside_same text h)
     ∙ trace_is 1000000 text (to 0 []) [] h
+
+-- another statement than those of control flow, macros and calls comes out, and the next one follows
+pub step-other : (text : List Statement) (values : Valuation) (name : List ℕ) (all : List Statement) (place : ℕ) (blocks : List Block)
+    (outer : List Frame) (s : Statement) (below : List Statement) → drop place all ≡ s ∷ below → is_plain s ≡ true → part_of s ≡ Other
+    → step text values (record { name = name; statements = all; control = to place blocks } ∷ outer)
+    ≡ calls.Step.Gives s (record { name = name; statements = all; control = to (place + 1) blocks } ∷ outer)
+step-other text values name all place blocks outer s below d p o =
+    let plain = not_all (is_call s) (begins_macro s) (ends_macro s) p in
+    let f : Frame = record { name = name; statements = all; control = to place blocks } in
+    sym (step-here text values f outer s below d) ∙ (sym (step-turned text values f outer s plain.0 plain.1.0 plain.1.1)
+    ∙ ap (λ (t : Turn). lifted f outer t) (turn-other all values place blocks s below d o))
+
+pub call-other : (n place : ℕ) (text all above : List Statement) (s : Statement) (below : List Statement) → drop place all ≡ s ∷ below
+    → is_plain s ≡ true → part_of s ≡ Other
+    → calls.trace (suc n) text (only all (to place []) ∷ []) above ≡ s ∷ calls.trace n text (only all (to (place + 1) []) ∷ []) (carried above s)
+call-other n place text all above s below d p o = call-step n (suc n) text (only all (to place []) ∷ []) above refl
+    ∙ ap (λ (t : Step). calls.traced (calls.trace n text) above t) (step-other text (value_said above) [] all place [] [] s below d p o)
+
+-- and is outside macros
+pub outside-other : (s : Statement) (below : List Statement) → is_plain s ≡ true → outside_after false (s ∷ below) ≡ s ∷ outside_after false below
+unfolding outside_after
+outside-other s below p = let plain = not_all (is_call s) (begins_macro s) (ends_macro s) p in rw plain.1.0 refl

@@ -4,6 +4,7 @@
 use Rattle.std.specs.Prelude.{ℕ, zero, suc, ◌+◌, Bool, false, not, ◌&&◌, ◌||◌, ◌==◌, List, [], ◌∷◌, length, drop, codes, bytes_eq}
 use Rattle.std.specs.Prelude.{is_none, Option, Some, None, if◌then◌else◌}
 use Rattle.std.specs.List.{list_all}
+use Rattle.dmis_text.specs.Reading.{Reading}
 use Rattle.dmis_text.specs.declared.elements.Statement.{Statement}
 use Rattle.program_values.specs.LookBack.{value_said}
 use Rattle.program_values.specs.Values.{is_variable}
@@ -102,6 +103,10 @@ begun text = record { name = []; statements = outside text; control = to 0 [] } 
 
 abbrev pub carried_out : List Statement → List Statement
 carried_out text = trace most text (begun text) []
+
+-- a text as it is carried out
+abbrev pub flow_reading : Reading → Reading
+flow_reading reading = record { statements = carried_out reading.statements; fault = reading.fault }
 
 -- no word of macros and calls
 abbrev pub is_plain : Statement → Bool

@@ -5,9 +5,9 @@ pub mod Selections
 pub mod Flow
 pub mod Macros
 pub mod Calls
-pub mod Named
 pub mod SaidLines
 pub mod Turns
+pub mod Named
 pub mod Left
 pub mod Stepped
 pub mod Examples

@@ -1,20 +1,18 @@
 -- How the code holds the statements of a macro that is called: each as a text that says it. No public clause cites it.
-use Rattle.std.specs.Prelude.{List, [], ◌∷◌, Option, Some, None}
+use Rattle.std.specs.Prelude.{◌≡◌, ℕ, [], ◌∷◌, ◌++◌, List, Option, Some, None}
+use Rattle.dmis_text.specs.Reading.{text_reading}
 use Rattle.dmis_text.specs.declared.elements.Statement.{Statement}
-use Rattle.program_flow.specs.Macros.{both_or_none, said_by}
-use Rattle.program_flow.specs.declared.arguments.Line.{Line}
 
-abbrev pub said : Line → Option Statement
-said l = said_by l.line l.text.items
+-- a text says one statement
+pub record Says (text : List ℕ) (s : Statement) : Type 0 where
+  pub only : text_reading text ≡ record { statements = s ∷ []; fault = None }
 
--- the statements of these lines, and after them others; none, if a line says none
-abbrev pub said_before : List Line → Option (List Statement) → Option (List Statement)
-said_before [] others = others
-said_before (l ∷ ls) others = both_or_none (said l) (said_before ls others)
+-- the statement that a text says which says one
+abbrev pub the_said : Option Statement → Statement
+the_said None = record { line = 0; label = None; word = []; params = [] }
+the_said (Some s) = s
 
-abbrev pub said_lines : List Line → Option (List Statement)
-said_lines ls = said_before ls (Some [])
-
-abbrev pub said_or_none : Option (List Line) → Option (List Statement)
-said_or_none None = None
-said_or_none (Some ls) = said_lines ls
+-- some statements, and after them others, if each of these says one
+abbrev pub prepended : List Statement → Option (List Statement) → Option (List Statement)
+prepended front None = None
+prepended front (Some others) = Some (front ++ others)

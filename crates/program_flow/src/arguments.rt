@@ -1,22 +1,15 @@
 // The statements of a macro with arguments in the places of its parameters.
 
-ghost use Rattle.std.specs.Prelude.{◌≡◌, ◌++◌, IfOk, OnOk, is_some, map};
+ghost use Rattle.std.specs.Prelude.{◌≡◌, ◌++◌, IfOk, OnOk, map};
 ghost use Rattle.std.specs.Option.{option_map};
 ghost use Rattle.program_flow.specs.Macros as spec;
 ghost use Rattle.program_flow.specs.Named.{seen_pair};
-ghost use Rattle.program_flow.specs.SaidLines.{said_or_none};
 
 use crate::blocks::is_label;
+use crate::lines::Line;
 use crate::macros::{Pair, replaced};
-use dmis_text::{Statement, Statements, Text, TextFault};
+use dmis_text::{Statement, Text};
 use std::alloc::{AllocError, Global};
-
-/// A text that says a statement, as if it were on this line.
-#[derive(Drop)]
-pub struct Line {
-    pub line: u64,
-    pub text: Vec<u8>,
-}
 
 /// Each parameter with its argument.
 pub(crate) fn pairs_of<'b>(
@@ -129,42 +122,23 @@ pub(crate) fn text_with_arguments(
     Ok(made)
 }
 
-/// Whether a text says one statement and nothing else.
-#[tactic(auto, unfolding(crate::specs::Macros::said_by))]
-pub(crate) fn says_one(alloc: Global, text: &[u8]) -> Result<bool, AllocError>
-    ensures { IfOk result (λ yes. yes ≡ is_some (spec.said_by 1 text.now)) }
-{
-    let mut statements = Statements::new(alloc, text);
-    match statements.next() {
-        Ok(Some(_)) => {}
-        Err(TextFault::Memory) => return Err(AllocError),
-        Ok(None) | Err(TextFault::LineTooLong(_) | TextFault::BadByte(_)) => return Ok(false),
-    }
-    match statements.next() {
-        Ok(None) => Ok(true),
-        Err(TextFault::Memory) => Err(AllocError),
-        Ok(Some(_)) | Err(TextFault::LineTooLong(_) | TextFault::BadByte(_)) => Ok(false),
-    }
-}
-
 /// The statements of a macro with arguments in the places of its parameters; none, if one is no statement then.
 pub(crate) fn lines_with_arguments(
     alloc: Global,
     pairs: &[Pair],
     body: &[Statement],
 ) -> Result<Option<Vec<Line>>, AllocError>
-    ensures { IfOk result (λ lines. said_or_none (option_map (λ ls. ls.items) lines)
+    ensures { IfOk result (λ lines. option_map (λ ls. ls.items) lines
         ≡ spec.all_with_arguments (map seen_pair pairs.now) body.now) }
 {
     let mut lines = Vec::new(alloc);
     let mut left = body;
     while let [first, others @ ..] = left {
-        let line = first.line;
         let text = text_with_arguments(alloc, pairs, first)?;
-        if !says_one(alloc, &text)? {
+        let Some(line) = Line::new(alloc, first.line, text)? else {
             return Ok(None);
-        }
-        lines.push(Line { line, text })?;
+        };
+        lines.push(line)?;
         left = others;
     }
     Ok(Some(lines))

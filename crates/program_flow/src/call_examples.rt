@@ -40,7 +40,7 @@ pub fn calls_and_blocks_nest()
         ≡ 3 ∷ (7 ∷ []) }
 {}
 
-/// A macro that is open is not called, nor what is none.
+/// A macro that is open is not called, nor one that does not exist.
 #[tactic(auto, unfolding(crate::specs::Calls::trace, crate::specs::Calls::step, crate::specs::Macros::outside_after, crate::specs::Macros::macro_after, crate::specs::Macros::replaced_after, crate::specs::Macros::said_by, crate::specs::Flow::turn, crate::specs::Blocks::part_of))]
 pub fn calls_that_cannot_be_followed()
     ensures itself { lines_called (calling_with (call_on 2 (codes "M(A)") [] ∷ [])) ≡ 2 ∷ [] }

@@ -6,7 +6,8 @@ ghost use Rattle.std.specs.Option.{option_map};
 ghost use Rattle.program_values.specs.Values as values;
 ghost use Rattle.program_flow.specs.Calls.{is_call};
 ghost use Rattle.program_flow.specs.Macros as spec;
-ghost use Rattle.program_flow.specs.Named.{seen_macro, seen_pair};
+ghost use Rattle.program_flow.specs.Named as named;
+ghost use Rattle.program_flow.specs.Named.{count_ends, inside, seen_macro, seen_pair};
 
 use crate::blocks::is_label;
 use crate::conditions::trimmed;
@@ -27,7 +28,7 @@ pub struct Macro<'a, 'b> {
     pub body: &'b [Statement<'a>],
 }
 
-fn is_name_byte(byte: u8) -> bool
+pub(crate) fn is_name_byte(byte: u8) -> bool
     ensures { result ≡ values.is_name_byte byte }
 {
     byte.is_ascii_alphanumeric() || byte == b'_'
@@ -218,4 +219,68 @@ pub(crate) fn macro_named<'a, 'b>(name: &[u8], text: &'b [Statement<'a>]) -> Opt
         left = below;
     }
     None
+}
+
+/// How many statements end a macro.
+fn count_ends(statements: &[Statement]) -> usize
+    ensures { result ≡ count_ends statements.now }
+{
+    let mut left = statements;
+    let mut count = 0;
+    while let [first, others @ ..] = left {
+        if ends_macro(first) {
+            count += 1;
+        }
+        left = others;
+    }
+    count
+}
+
+/// How many of these ENDMACs are below a statement, which may be one.
+fn ends_below(ends: usize, last: bool) -> usize
+    ensures { result ≡ named.ends_below ends last }
+{
+    if last { ends.saturating_sub(1) } else { ends }
+}
+
+/// Whether a statement is within a macro.
+fn within_by(within: bool, ends: usize, begins: bool) -> bool
+    ensures { result ≡ named.within_by within ends begins }
+{
+    within || ends > 0 && begins
+}
+
+/// Whether those below it are.
+fn within_after(within: bool, last: bool, inside: bool) -> bool
+    ensures { result ≡ named.within_after within last inside }
+{
+    if within { !last } else { inside }
+}
+
+/// The statements outside macros, and those within.
+#[tactic(auto, unfolding(crate::specs::Macros::outside_after, crate::specs::Named::inside_after))]
+pub(crate) fn split<'a>(
+    alloc: Global,
+    text: Vec<Statement<'a>>,
+) -> Result<(Vec<Statement<'a>>, Vec<Statement<'a>>), AllocError>
+    ensures outside { IfOk result (λ both. both.0.items ≡ spec.outside text.entry.items) }
+    ensures inside { IfOk result (λ both. both.1.items ≡ inside text.entry.items) }
+{
+    let mut ends = count_ends(&text);
+    let mut outside = Vec::new(alloc);
+    let mut macros = Vec::new(alloc);
+    let mut within = false;
+    let mut left = text.into_iter();
+    while let Some(statement) = left.next() {
+        let last = ends_macro(&statement);
+        ends = ends_below(ends, last);
+        let inside = within_by(within, ends, begins_macro(&statement));
+        within = within_after(within, last, inside);
+        if inside {
+            macros.push(statement)?;
+        } else {
+            outside.push(statement)?;
+        }
+    }
+    Ok((outside, macros))
 }
