@@ -24,8 +24,8 @@ class Refused(Exception):
     """The statement of this line cannot be carried out."""
 
 
-class TooLong(Exception):
-    """More is carried out than is worth it."""
+class TooMuch(Exception):
+    """Too many statements are carried out, or a number grows too large."""
 
 
 class Jumped(Exception):
@@ -52,6 +52,8 @@ class Scope:
         return self.variables[name]
 
     def __setitem__(self, name, value):
+        if abs(value.numerator) > MOST:
+            raise TooMuch
         self.variables[name] = value
 
 
@@ -311,7 +313,7 @@ class Flow:
         while at < len(parts):
             self.turns += 1
             if self.turns > MOST:
-                raise TooLong
+                raise TooMuch
             try:
                 parts[at][1](self)
                 at += 1
@@ -354,7 +356,7 @@ def made(seed, again=0):
         flow.block(parts)
     except Refused as refused:
         return text, refused.args[0]
-    except TooLong:
+    except TooMuch:
         return made(seed, again + 1)
     return text, ["DMISMN $$ line 1", f"SNSLCT/S(P1) $$ line {selected}", *flow.out, f"ENDFIL $$ line {last}"]
 
