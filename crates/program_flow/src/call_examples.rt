@@ -13,7 +13,7 @@ pub fn texts_without_macros_stay()
     ensures { (text : List Statement) → AllByRecursion (λ (s : Statement). is_plain s ≡ true) text → carried_out text ≡ flow_of text }
 {}
 
-/// The statements of a macro come out where it is called, with the arguments in the places of its parameters.
+/// The statements of a macro come out at its CALL, with the arguments in the places of its parameters.
 #[tactic(auto, unfolding(crate::specs::Calls::trace, crate::specs::Calls::step, crate::specs::Macros::outside_after, crate::specs::Macros::macro_after, crate::specs::Macros::replaced_after, crate::specs::Macros::said_by, crate::specs::Flow::turn, crate::specs::Blocks::part_of))]
 pub fn macros_are_called()
     ensures arguments { carried_out (calling (codes "7" ∷ (codes "I" ∷ []))) ≡ called }

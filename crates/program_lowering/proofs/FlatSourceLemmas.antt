@@ -407,27 +407,21 @@ call_words : (is_unknown (keyword_of (codes "CALL")) ≡ true) × ((is_unknown (
 unfolding keyword_of
 call_words = (refl, (refl, refl))
 
+no_end : (b : Bool) → not (false || (false || (true && (b && false)))) ≡ true
+no_end true = refl
+no_end false = refl
+
 plain_flow : (s : Statement) → is_unknown (keyword_of s.word) ≡ false → is_plain s ≡ true
-plain_flow s known = go s.label (without_parameters s.params)
+plain_flow s known = go s.label (without_parameters s.params) (other_word s.word (codes "CALL") call_words.0 known)
+    (other_word s.word (codes "MACRO") call_words.1.0 known) (other_word s.word (codes "ENDMAC") call_words.1.1 known) (no_name s.word known)
   where
-    calls : bytes_eq s.word (codes "CALL") ≡ false
-    calls = other_word s.word (codes "CALL") call_words.0 known
-
-    macros : bytes_eq s.word (codes "MACRO") ≡ false
-    macros = other_word s.word (codes "MACRO") call_words.1.0 known
-
-    ends : bytes_eq s.word (codes "ENDMAC") ≡ false
-    ends = other_word s.word (codes "ENDMAC") call_words.1.1 known
-
-    go : (label : Option (List ℕ)) (bare : Bool) → not ((is_none label && (bytes_eq s.word (codes "CALL") && not bare))
+    go : (label : Option (List ℕ)) (bare : Bool) → bytes_eq s.word (codes "CALL") ≡ false → bytes_eq s.word (codes "MACRO") ≡ false
+        → bytes_eq s.word (codes "ENDMAC") ≡ false → NoName s.word
+        → not ((is_none label && (bytes_eq s.word (codes "CALL") && not bare))
         || (is_some (name_of label s.word bare) || (is_none label && (bytes_eq s.word (codes "ENDMAC") && bare)))) ≡ true
-    go (Some label) bare = rw macros refl
-    go None true = rw (calls, ends, no_name s.word known) refl
-    go None false = rw calls (no_end (bytes_eq s.word (codes "ENDMAC")))
-      where
-        no_end : (b : Bool) → not (false || (false || (true && (b && false)))) ≡ true
-        no_end true = refl
-        no_end false = refl
+    go (Some label) bare call macro end none = rw macro refl
+    go None true call macro end none = rw (call, end, none) refl
+    go None false call macro end none = rw call (no_end (bytes_eq s.word (codes "ENDMAC")))
 
 flow_next : (frames : List (List ℕ × Point)) (fault : Option TextFault) (lines : ℕ) (aboves above text all : List Statement) (n place : ℕ)
     (s : Statement) (below : List Statement) (m : StatementMeaning) → judged frames (context_at frames aboves) s ≡ Ok m
