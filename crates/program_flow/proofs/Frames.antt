@@ -1,10 +1,10 @@
 -- Turns where macros are called, one at a time.
 use Rattle.std.proofs.Common.{◌≡◌, ◌∙◌, ℕ, zero, suc, ◌+◌, ◌<◌, ◌≤◌, List, [], ◌∷◌, ◌++◌, IfOk, arith, cond, drop, inl, inr, length, refl, ap, subst, sym}
-use Rattle.std.specs.Prelude.{◌||◌, ◌⊎◌, Err, None, Ok, Option, Result, Some, codes}
+use Rattle.std.specs.Prelude.{◌||◌, ◌⊎◌, Err, None, Ok, Option, Result, Some}
 use Rattle.dmis_text.specs.declared.elements.Statement.{Statement}
 use Rattle.program_values.specs.LookBack.{Holds, value_said}
 use Rattle.program_values.specs.Variables.{Entry, entry_value}
-use Rattle.program_flow.specs.Calls.{Frame, Step, call_by, call_of, ended_by, given_up_in, is_call, leave_frame, lifted, step, step_at, step_of, trace, traced}
+use Rattle.program_flow.specs.Calls.{Frame, Step, call_by, call_of, ended_by, given_up_in, is_call, lifted, step, step_at, trace, traced}
 use Rattle.program_flow.specs.Calls.Step.{Ends, Stops, Passes, Gives}
 use Rattle.program_flow.specs.Flow.{Valuation, carried, turn}
 use Rattle.program_flow.specs.Left.{GivesNext, IsGiven, Left, frames_of, left_of, size}

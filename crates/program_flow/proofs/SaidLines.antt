@@ -1,5 +1,5 @@
 -- Statements that are held as texts, one more at a time.
-use Rattle.std.proofs.Common.{◌≡◌, ◌∙◌, ℕ, Bool, true, false, List, [], ◌∷◌, ◌++◌, refl, ap, append_assoc, sym}
+use Rattle.std.proofs.Common.{◌≡◌, ℕ, true, false, List, [], ◌∷◌, ◌++◌, refl, ap, append_assoc}
 use Rattle.std.specs.Prelude.{None, Option, Some, is_some}
 use Rattle.dmis_text.specs.Reading.{Reading, text_reading}
 use Rattle.dmis_text.specs.declared.elements.Statement.{Statement}

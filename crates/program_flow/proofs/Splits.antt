@@ -1,11 +1,11 @@
 -- The statements of a text outside macros and those within, which have all its macros.
-use Rattle.std.proofs.Common.{◌≡◌, ◌∙◌, ℕ, zero, suc, ◌+◌, ◌<◌, Bool, true, false, List, [], ◌∷◌, ◌++◌, append_assoc, arith, cond, refl, ap, subst, sym}
-use Rattle.std.specs.Prelude.{◌&&◌, ◌||◌, not, nat_lt, None, Option, Some}
+use Rattle.std.proofs.Common.{◌≡◌, ◌∙◌, ℕ, ◌+◌, Bool, true, false, List, [], ◌∷◌, ◌++◌, append_assoc, arith, cond, refl, ap, subst, sym}
+use Rattle.std.specs.Prelude.{◌&&◌, ◌||◌, not, nat_lt, Some}
 use Rattle.std.proofs.lemmas.Bool.{lt-ltb}
 use Rattle.dmis_text.specs.declared.elements.Statement.{Statement}
 use Rattle.program_flow.specs.Calls.{Frame, begun, trace}
 use Rattle.program_flow.specs.Flow.{Control, to}
-use Rattle.program_flow.specs.Macros.{Macro, begins_macro, body_of, ends_macro, has_end, has_label, macro_after, macro_name, outside, outside_after}
+use Rattle.program_flow.specs.Macros.{begins_macro, body_of, ends_macro, has_end, has_label, macro_after, macro_name, outside, outside_after}
 use Rattle.program_flow.proofs.Frames.{trace-same}
 use Rattle.program_flow.specs.Named.{count_ends, ends_below, inside, inside_after, within_after, within_by}
 

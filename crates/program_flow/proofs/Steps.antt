@@ -4,16 +4,16 @@ use Rattle.std.specs.Prelude.{Result, Err, List}
 use Rattle.program_values.specs.Numbers.{Fraction}
 use Rattle.program_values.specs.declared.faults.ValueFault.{ValueFault}
 use Rattle.program_values.specs.declared.faults.ValueFault.TheVariants.{TooDeep}
-use Rattle.std.proofs.Common.{[], ◌∷◌, ◌+◌, ◌≤◌, Bool, IfOk, subst, cond, false, inl, inr, length, true}
-use Rattle.std.specs.Prelude.{◌⊎◌, bytes_eq, codes, drop, get_or, is_some, None, Ok, Option, Some}
+use Rattle.std.proofs.Common.{[], ◌∷◌, ◌+◌, ◌≤◌, Bool, cond, false, length, true}
+use Rattle.std.specs.Prelude.{bytes_eq, codes, drop, get_or, is_some, None, Option, Some}
 use Rattle.dmis_text.specs.Reading.{Reading, text_reading}
 use Rattle.dmis_text.specs.declared.reading.TextFault.{TextFault}
 use Rattle.dmis_text.specs.declared.elements.Statement.{Statement}
 use Rattle.program_values.specs.LookBack.{Holds, value_said}
 use Rattle.program_values.specs.Variables.{Entry, entry_value}
 use Rattle.program_flow.specs.Conditions.{Parts, holds_within, parts_hold, parts_of}
-use Rattle.program_flow.specs.Flow.{Control, Turn, Valuation, assignment, only_assignment, carried, given_up, trace, traced, turn, turn_at}
-use Rattle.program_flow.specs.Flow.Turn.{Ends, Stops, Passes, Gives}
+use Rattle.program_flow.specs.Flow.{Control, Turn, Valuation, assignment, only_assignment, given_up, trace, traced, turn, turn_at}
+use Rattle.program_flow.specs.Flow.Turn.{Ends}
 
 pub holds_within-done : (values : List ℕ → Result Fraction ValueFault) (n : ℕ) (text : List ℕ) → n ≡ 0 → Err TooDeep ≡ holds_within values n text
 unfolding holds_within

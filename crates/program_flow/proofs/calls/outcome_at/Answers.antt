@@ -1,4 +1,4 @@
-use Rattle.std.proofs.Common.{◌≡◌, ◌∙◌, ◌∷◌, ◌+◌, IfOk, List, ap, drop, refl, subst, sym, true, false, ℕ}
+use Rattle.std.proofs.Common.{◌≡◌, ◌∙◌, ◌∷◌, IfOk, List, ap, drop, refl, subst, sym, true, false, ℕ}
 use Rattle.dmis_text.specs.declared.elements.Statement.{Statement}
 use Rattle.program_values.specs.Variables.{entry_value}
 use Rattle.program_flow.specs.Calls.{Step, call_of, is_call, lifted}

@@ -1,5 +1,4 @@
-use Rattle.std.proofs.Common.{◌≡◌, ◌∙◌, ◌∷◌, IfOk, List, ap, arith, drop, length, refl, subst, sym, ℕ}
-use Rattle.std.specs.Prelude.{◌||◌, ◌<◌}
+use Rattle.std.proofs.Common.{◌≡◌, ◌∙◌, ◌∷◌, IfOk, List, ap, arith, drop, refl, subst, sym}
 use Rattle.dmis_text.specs.declared.elements.Statement.{Statement}
 use Rattle.program_values.specs.Variables.{entry_value}
 use Rattle.program_flow.specs.Calls.{Step, step_of}

@@ -1,5 +1,4 @@
-use Rattle.std.proofs.Common.{◌≡◌, ◌+◌, ap, arith, length}
-use Rattle.std.specs.Vec.Iter.{into_iter_items, into_iter_len}
+use Rattle.std.proofs.Common.{ap, arith, length}
 use Rattle.program_flow.proofs.Splits.{taken_inside, taken_outside}
 use Rattle.program_flow.proofs.macros.split.Goals as goal
 

@@ -1,4 +1,4 @@
-use Rattle.std.proofs.Common.{◌∙◌, [], ◌∷◌, List, ap, refl, sym}
+use Rattle.std.proofs.Common.{◌∙◌, ◌∷◌, List, ap, refl, sym}
 use Rattle.dmis_text.specs.Reading.{text_reading}
 use Rattle.dmis_text.specs.declared.elements.Statement.{Statement}
 use Rattle.program_flow.specs.Flow.{carried}

@@ -1,4 +1,4 @@
-use Rattle.std.proofs.Common.{◌≡◌, ◌∙◌, [], ◌∷◌, ◌++◌, IfOk, List, ap, drop, map, refl, subst, sym, ℕ}
+use Rattle.std.proofs.Common.{◌≡◌, ◌∙◌, [], ◌∷◌, ◌++◌, IfOk, List, ap, drop, map, refl, subst, sym}
 use Rattle.std.specs.Prelude.{◌||◌, bytes_eq}
 use Rattle.dmis_text.specs.declared.elements.Statement.{Statement}
 use Rattle.program_values.specs.Variables.{entry_value}
