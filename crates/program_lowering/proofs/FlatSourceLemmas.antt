@@ -387,11 +387,12 @@ one_of word other k rest none h next = go (bytes_eq word other) refl h
 one_among : (word : List ℕ) (others : List (List ℕ)) (k rest : Keyword) → AllByRecursion NoName others
     → is_unknown (cond (is_among word others) k rest) ≡ false → (is_unknown rest ≡ false → NoName word) → NoName word
 one_among word [] k rest none h next = next h
-one_among word (other ∷ others) k rest none h next = go (bytes_eq word other) refl h
+one_among word (other ∷ others) k rest none h next = go (bytes_eq word other) refl (λ g. one_among word others k rest none.1 g next) h
   where
-    go : (b : Bool) → bytes_eq word other ≡ b → is_unknown (cond (b || is_among word others) k rest) ≡ false → NoName word
-    go true e g = subst NoName (sym ((bytes_eq-Decides word other).0 e)) none.0
-    go false e g = one_among word others k rest none.1 g next
+    go : (b : Bool) → bytes_eq word other ≡ b → (is_unknown (cond (is_among word others) k rest) ≡ false → NoName word)
+        → is_unknown (cond (b || is_among word others) k rest) ≡ false → NoName word
+    go true e later g = subst NoName (sym ((bytes_eq-Decides word other).0 e)) none.0
+    go false e later g = later g
 
 no_name : (word : List ℕ) → is_unknown (keyword_of word) ≡ false → NoName word
 unfolding keyword_of
