@@ -1,4 +1,5 @@
 pub mod Divisors
 pub mod Steps
+pub mod WholeRoots
 pub mod Tables
 pub mod Carrying

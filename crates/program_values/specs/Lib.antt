@@ -1,4 +1,5 @@
 pub mod Numbers
+pub mod Roots
 pub mod Parts
 pub mod Cuts
 pub mod Values

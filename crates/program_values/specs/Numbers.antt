@@ -9,7 +9,7 @@ use Rattle.program_values.specs.declared.faults.ValueFault.TheVariants.{PastBoun
 
 -- the greatest numerator and denominator
 abbrev pub bound : ℕ
-bound = 1000000000000000
+bound = 1000000000000000000
 
 pub record Fraction : Type 0 where
   pub over : ℤ

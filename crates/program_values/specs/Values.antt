@@ -4,6 +4,7 @@ use Rattle.std.specs.Prelude.{bytes_eq, take, drop, Option, Some, None, Result, 
 use Rattle.std.specs.Char.{is_ascii_digit, is_ascii_alphanumeric, is_ascii_alphabetic}
 use Rattle.std.specs.List.{position, list_all}
 use Rattle.program_values.specs.Numbers.{Fraction, and_then, reduced, sum, product, quotient, opposite, power, magnitude, whole_part, numeral}
+use Rattle.program_values.specs.Roots.{root}
 use Rattle.program_values.specs.Parts.{Parts, parts_of, begins_numeral}
 use Rattle.program_values.specs.Parts.Parts.{Both, Opposite, Same, Called, Leaf}
 use Rattle.program_values.specs.declared.places.Operator.{Operator}
@@ -88,10 +89,14 @@ applied Times f g = product f g
 applied Over f g = quotient f g
 applied Power f g = power f g
 
--- parentheses, the value without its sign, or without its decimals
+-- a value by a function's name
+abbrev pub function_named : List ℕ → Fraction → Result Fraction ValueFault
+function_named name f = if bytes_eq name (codes "SQRT") then root f else Err UnknownFunction
+
+-- parentheses, the value without its sign, or without its decimals, or another function
 abbrev pub function_of : List ℕ → Fraction → Result Fraction ValueFault
 function_of name f = if bytes_eq name [] then Ok f else (if bytes_eq name (codes "ABS") then Ok (magnitude f) else
-    (if bytes_eq name (codes "INT") then Ok (whole_part f) else Err UnknownFunction))
+    (if bytes_eq name (codes "INT") then Ok (whole_part f) else function_named name f))
 
 -- the value of parts, where another function gives the values of what they are made of: the left operand's fault comes first
 abbrev pub parts_value : (List ℕ → Result Fraction ValueFault) → (List ℕ → Result Fraction ValueFault) → Parts → Result Fraction ValueFault

@@ -2,11 +2,12 @@
 
 ghost use Rattle.std.specs.Prelude.{◌≡◌, ◌*◌, ◌/◌, ◌∷◌, ◌++◌, ℕ, Err, List, None, Ok, Some, codes, decimal, false, true, pos, negsuc};
 ghost use Rattle.std.specs.Int.{IsGcd};
-ghost use Rattle.program_values.specs.Numbers.{gcd, numeral};
+ghost use Rattle.program_values.specs.Numbers.{Fraction, IsBounded, gcd, numeral};
 ghost use Rattle.program_values.specs.Examples.{Gives, Fails, a_is_seven, assigning, declaring, refusal, start};
 ghost use Rattle.program_values.specs.LookBack.{Holds, is_declaration, value_said};
 ghost use Rattle.program_values.specs.Texts.{expanded};
-ghost use Rattle.program_values.specs.Values.{computed, value_of};
+ghost use Rattle.program_values.specs.Values.{computed, function_of, value_of};
+ghost use Rattle.program_values.specs.Roots.{IsRoot};
 ghost use Rattle.program_values.specs.Variables.{Entry, entry_value};
 ghost use Rattle.dmis_text.specs.declared.elements.Statement.{Statement};
 ghost use Rattle.program_values.specs.Numbers.{whole_number};
@@ -24,6 +25,11 @@ pub fn tables_stand_for_looking_back()
         → Holds above entries → value_of (entry_value entries) text ≡ value_of (value_said above) text }
     ensures texts { (above : List Statement) (entries : List Entry) (text : List ℕ)
         → Holds above entries → expanded (entry_value entries) text ≡ expanded (value_said above) text }
+{}
+
+/// A root is not past the true one, and less than 10^-12 below it.
+pub fn roots_are_near()
+    ensures { (f d : Fraction) → IsBounded f → function_of (codes "SQRT") f ≡ Ok d → IsRoot f d }
 {}
 
 /// Numerals are exact.
@@ -60,7 +66,20 @@ pub fn expressions_have_values()
     ensures magnitude { Gives (codes "ABS(2-A)") (pos 5) 1 }
     ensures towards_zero { Gives (codes "INT(2.7)") (pos 2) 1 }
     ensures from_below { Gives (codes "INT(-2.7)") (negsuc 1) 1 }
-    ensures no_function { Fails (codes "SIN(A)") fault.UnknownFunction }
+    ensures no_function { Fails (codes "LOG(A)") fault.UnknownFunction }
+{}
+
+/// Roots are decimals of twelve places, not past the true root.
+#[tactic(auto, unfolding(crate::specs::Values::value_within, crate::specs::Values::numeral_value, crate::specs::Parts::parts_of, crate::specs::Numbers::reduced, crate::specs::Numbers::gcd_within, crate::specs::Numbers::multiplied, crate::specs::Roots::root, crate::specs::Roots::root_within))]
+pub fn roots_are_decimals()
+    ensures two { Gives (codes "SQRT(2)") (pos 1414213562373) 1000000000000 }
+    ensures exact { Gives (codes "SQRT(2.25)") (pos 3) 2 }
+    ensures zero { Gives (codes "SQRT(A-7)") (pos 0) 1 }
+    ensures third { Gives (codes "SQRT(1/3)") (pos 577350269189) 1000000000000 }
+    ensures greatest { Gives (codes "SQRT(1E12)") (pos 1000000) 1 }
+    ensures past { Fails (codes "SQRT(1E12+1)") fault.PastBound }
+    ensures below_zero { Fails (codes "SQRT(-A)") fault.NegativeRoot }
+    ensures lower_case { Fails (codes "sqrt(A)") fault.UnknownFunction }
 {}
 
 /// What has no value, and why.
@@ -72,9 +91,9 @@ pub fn faults_are_named()
     ensures twice { Fails (codes "(1)(2)") fault.NotExpression }
     ensures zero { Fails (codes "1/(A-7)") fault.DivisionByZero }
     ensures first { Fails (codes "1/0+C") fault.DivisionByZero }
-    ensures past { Fails (codes "10**16") fault.PastBound }
-    ensures within { Gives (codes "10**15") (pos 1000000000000000) 1 }
-    ensures small { Fails (codes "1E-16") fault.PastBound }
+    ensures past { Fails (codes "10**19") fault.PastBound }
+    ensures within { Gives (codes "10**18") (pos 1000000000000000000) 1 }
+    ensures small { Fails (codes ".1E-18") fault.PastBound }
     ensures exponent { Fails (codes "4**.5") fault.BadExponent }
     ensures great { Fails (codes "1**65") fault.BadExponent }
 {}

@@ -17,6 +17,8 @@ pub enum ValueFault {
     DivisionByZero,
     /// An exponent of `**` is not whole, or past 64.
     BadExponent,
+    /// A root of a number below zero.
+    NegativeRoot,
     /// A numerator or a denominator is past the bound.
     PastBound,
     /// More operations are within one another, or names in one text, than the limit.

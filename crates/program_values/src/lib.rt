@@ -1,7 +1,7 @@
 //! The values of variables in a DMIS program (ISO 22093): exact numbers, expressions, assignments and names in texts.
 //!
 //! - `faults`: why an expression or a statement has no value
-//! - `numbers`: `Number`, a fraction in lowest terms, and its arithmetic
+//! - `numbers`: `Number`, a fraction in lowest terms, and its arithmetic; `roots`: `SQRT`
 //! - `places`: where the operators of an expression are; `parts`: what it is made of; `numerals`; `values`: `value_of`
 //! - `variables`: `Variables`, the table of what was assigned; `texts`: `expanded`, names in texts
 #![tactic(auto)]
@@ -12,6 +12,7 @@ mod numbers;
 mod numerals;
 mod parts;
 mod places;
+mod roots;
 mod texts;
 mod values;
 mod variables;

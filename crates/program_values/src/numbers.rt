@@ -1,8 +1,8 @@
 // Exact numbers and their arithmetic.
 
-ghost use Rattle.std.specs.Prelude.{◌≡◌, ◌<◌, ◌≤◌, ◌++◌, ◌∷◌, [], ◌*◌, ◌*ℤ◌, ◌+ℤ◌, OnOk, Ok, pos, unsigned_abs};
+ghost use Rattle.std.specs.Prelude.{◌≡◌, ◌<◌, ◌≤◌, ◌++◌, ◌∷◌, [], ◌*◌, ◌*ℤ◌, ◌+ℤ◌, OnOk, Ok, int_lt, pos, unsigned_abs};
 ghost use Rattle.program_values.specs.Numbers as spec;
-ghost use Rattle.program_values.specs.Numbers.{bound};
+ghost use Rattle.program_values.specs.Numbers.{IsBounded, bound};
 ghost use Rattle.program_values.specs.Texts.{whole_of};
 ghost use Rattle.fixed_um.specs.Computed.{rounded};
 ghost use Rattle.fixed_um.specs.Written.{last_digit, three_digits};
@@ -13,9 +13,9 @@ use std::alloc::AllocError;
 use std::marker::Model;
 
 /// The greatest numerator and denominator.
-const BOUND: u128 = 1_000_000_000_000_000;
+const BOUND: u128 = 1_000_000_000_000_000_000;
 
-/// An exact number: a fraction in lowest terms, with numerator and denominator up to 10^15.
+/// An exact number: a fraction in lowest terms, with numerator and denominator up to 10^18.
 #[derive(Clone, Copy, Debug, PartialEq, Eq)]
 pub struct Number {
     over: i64,
@@ -96,6 +96,17 @@ fn sum_over(left: i128, right: i128, under: u128) -> Result<Number, ValueFault>
 }
 
 impl Number {
+    /// Whether it is below zero, its numerator without the sign, and its denominator.
+    pub(crate) fn split(self) -> (bool, u128, u128)
+        ensures sign { result.0 ≡ int_lt self.over (pos 0) }
+        ensures over { result.1 ≡ unsigned_abs self.over }
+        ensures under { result.2 ≡ self.under }
+        ensures bounded { IsBounded self }
+    {
+        let over = u128::from(self.over.unsigned_abs());
+        (self.over < 0, over, u128::from(self.under))
+    }
+
     /// A whole number within the bound.
     fn whole(over: i64) -> Number
         requires { unsigned_abs over ≤ bound }

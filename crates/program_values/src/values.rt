@@ -11,6 +11,7 @@ use crate::numbers::Number;
 use crate::numerals::numeral_value;
 use crate::parts::{Cut, parts_of};
 use crate::places::{Operator, begins_numeral};
+use crate::roots::root;
 use crate::variables::Variables;
 use std::alloc::AllocError;
 
@@ -77,6 +78,16 @@ fn applied(operator: Operator, left: Number, right: Number) -> Result<Number, Va
     }
 }
 
+fn function_named(name: &[u8], number: Number) -> Result<Number, ValueFault>
+    ensures { result ≡ spec.function_named name.now number }
+{
+    if is_text(name, "SQRT") {
+        root(number)
+    } else {
+        Err(ValueFault::UnknownFunction)
+    }
+}
+
 fn function_of(name: &[u8], number: Number) -> Result<Number, ValueFault>
     ensures { result ≡ spec.function_of name.now number }
 {
@@ -87,7 +98,7 @@ fn function_of(name: &[u8], number: Number) -> Result<Number, ValueFault>
     } else if is_text(name, "INT") {
         Ok(number.whole_part())
     } else {
-        Err(ValueFault::UnknownFunction)
+        function_named(name, number)
     }
 }
 
@@ -119,7 +130,7 @@ fn value_within(text: &[u8], variables: &Variables, levels: u64) -> Result<Numbe
     parts_value(&parts_of(text), variables, levels - 1)
 }
 
-/// The value of an expression of numerals, names of variables, `+ - * / **`, signs, parentheses, `ABS` and `INT`. Operators of one
+/// The value of an expression of numerals, names of variables, `+ - * / **`, signs, parentheses, `ABS`, `INT` and `SQRT`. Operators of one
 /// rank, `**` too, apply from left to right. The left operand's fault comes first.
 pub fn value_of(text: &[u8], variables: &Variables) -> Result<Number, ValueFault>
     ensures { result ≡ spec.value_of (entry_value variables.now) text.now }
