@@ -37,6 +37,7 @@ pub record IsSame (a : ℤ) (b : ℕ) (d : Fraction) : Type 0 where
   pub same : unsigned_abs d.over * b ≡ unsigned_abs a * d.under
   pub some : 0 < d.under
   pub sign : int_lt a (pos 0) ≡ false → int_lt d.over (pos 0) ≡ false
+  pub turned : int_lt a (pos 0) ≡ true → int_lt d.over (pos 0) ≡ false → unsigned_abs d.over ≡ 0
 
 unsigned_abs-signed : (negative : Bool) (n : ℕ) → unsigned_abs (signed negative n) ≡ n
 unsigned_abs-signed false n = refl
@@ -49,6 +50,11 @@ from-zero n = search rules
 sign-signed : (negative : Bool) (n : ℕ) → negative ≡ false → int_lt (signed negative n) (pos 0) ≡ false
 sign-signed false n e = from-zero n
 sign-signed true n e = absurd cc
+
+turned-signed : (negative : Bool) (n : ℕ) → negative ≡ true → int_lt (signed negative n) (pos 0) ≡ false → unsigned_abs (signed negative n) ≡ 0
+turned-signed true zero e f = refl
+turned-signed true (suc n) e f = absurd cc
+turned-signed false n e f = absurd cc
 
 within-made : (b : Bool) (f d : Fraction) → ◌≡◌ {A = Result Fraction ValueFault} (if b then Ok f else Err PastBound) (Ok d) → f ≡ d
 within-made true f d e = cc
@@ -67,5 +73,6 @@ reduced-same a b d some e =
       same = ap (λ x. x * b) (unsigned_abs-signed (int_lt a (pos 0)) (n / gcd n b)) ∙ same_fraction n b;
       some = part-some (gcd n b) b (b / gcd n b) (mul-div_cancel' (gcd n b) (gcd-is n b).1) some;
       sign = sign-signed (int_lt a (pos 0)) (n / gcd n b);
+      turned = turned-signed (int_lt a (pos 0)) (n / gcd n b);
     } in
     subst (λ f. IsSame a b f) (within-made _ made d e) same

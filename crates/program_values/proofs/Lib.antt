@@ -1,5 +1,7 @@
 pub mod Divisors
 pub mod Steps
 pub mod WholeRoots
+pub mod Series
+pub mod NearAngles
 pub mod Tables
 pub mod Carrying

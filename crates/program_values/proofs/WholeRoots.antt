@@ -6,7 +6,7 @@ use Rattle.std.proofs.lemmas.Nat.{mod_below}
 use Rattle.program_values.specs.Roots.{IsRoot, root, root_within, whole_root}
 use Rattle.program_values.specs.Numbers.{Fraction, IsBounded, reduced}
 use Rattle.program_values.proofs.Divisors.{IsSame, from-zero, reduced-same}
-use Rattle.std.specs.Prelude.{Result, Ok, Err, ℤ, pos, int_lt, unsigned_abs}
+use Rattle.std.specs.Prelude.{Result, Ok, Err, pos, int_lt, unsigned_abs}
 use Rattle.program_values.specs.declared.faults.ValueFault.{ValueFault}
 use Rattle.program_values.specs.declared.faults.ValueFault.TheVariants.{PastBound, NegativeRoot}
 

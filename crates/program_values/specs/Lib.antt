@@ -1,5 +1,7 @@
 pub mod Numbers
 pub mod Roots
+pub mod Nearness
+pub mod Angles
 pub mod Parts
 pub mod Cuts
 pub mod Values

@@ -1,5 +1,5 @@
 -- Roots (`SQRT` of ISO 22093) as decimals of twelve places.
-use Rattle.std.specs.Prelude.{ℕ, zero, suc, ◌+◌, ◌*◌, ◌/◌, ◌^◌, ◌<◌, ◌≤◌, ◌≡◌, false, nat_le, pos, unsigned_abs, int_lt, Result, Ok, Err, if◌then◌else◌}
+use Rattle.std.specs.Prelude.{ℕ, zero, suc, ◌+◌, ◌*◌, ◌/◌, ◌^◌, ◌<◌, ◌≤◌, ◌≡◌, false, nat_le, pos, unsigned_abs, int_lt, Result, Err, if◌then◌else◌}
 use Rattle.program_values.specs.Numbers.{Fraction, reduced}
 use Rattle.program_values.specs.declared.faults.ValueFault.{ValueFault}
 use Rattle.program_values.specs.declared.faults.ValueFault.TheVariants.{PastBound, NegativeRoot}

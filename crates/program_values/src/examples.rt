@@ -5,6 +5,7 @@ ghost use Rattle.std.specs.Int.{IsGcd};
 ghost use Rattle.program_values.specs.Numbers.{Fraction, IsBounded, gcd, numeral};
 ghost use Rattle.program_values.specs.Examples.{Gives, Fails, a_is_seven, assigning, declaring, refusal, start};
 ghost use Rattle.program_values.specs.LookBack.{Holds, is_declaration, value_said};
+ghost use Rattle.program_values.specs.Nearness.{IsCosine, IsInDegrees, IsInRadians, IsSine};
 ghost use Rattle.program_values.specs.Texts.{expanded};
 ghost use Rattle.program_values.specs.Values.{computed, function_of, value_of};
 ghost use Rattle.program_values.specs.Roots.{IsRoot};
@@ -30,6 +31,18 @@ pub fn tables_stand_for_looking_back()
 /// A root is not past the true one, and less than 10^-12 below it.
 pub fn roots_are_near()
     ensures { (f d : Fraction) → IsBounded f → function_of (codes "SQRT") f ≡ Ok d → IsRoot f d }
+{}
+
+/// A sine and a cosine are within 10^-12 of the true ones.
+pub fn sines_and_cosines_are_near()
+    ensures sines { (f d : Fraction) → IsBounded f → function_of (codes "SIN") f ≡ Ok d → IsSine f d }
+    ensures cosines { (f d : Fraction) → IsBounded f → function_of (codes "COS") f ≡ Ok d → IsCosine f d }
+{}
+
+/// Angles in other units are within 10^-12 of the true ones.
+pub fn angles_in_other_units_are_near()
+    ensures radians { (f d : Fraction) → IsBounded f → function_of (codes "DTOR") f ≡ Ok d → IsInRadians f d }
+    ensures degrees { (f d : Fraction) → IsBounded f → function_of (codes "RTOD") f ≡ Ok d → IsInDegrees f d }
 {}
 
 /// Numerals are exact.
@@ -80,6 +93,38 @@ pub fn roots_are_decimals()
     ensures past { Fails (codes "SQRT(1E12+1)") fault.PastBound }
     ensures below_zero { Fails (codes "SQRT(-A)") fault.NegativeRoot }
     ensures lower_case { Fails (codes "sqrt(A)") fault.UnknownFunction }
+{}
+
+/// Sines and cosines are of radians; both, and angles in other units, are decimals of twelve places.
+#[tactic(auto, unfolding(crate::specs::Values::value_within, crate::specs::Values::numeral_value, crate::specs::Parts::parts_of, crate::specs::Numbers::reduced, crate::specs::Numbers::gcd_within, crate::specs::Numbers::multiplied, crate::specs::Angles::sine, crate::specs::Angles::cosine, crate::specs::Angles::in_radians, crate::specs::Angles::in_degrees, crate::specs::Angles::series))]
+pub fn angles_are_decimals()
+    ensures zero_sine { Gives (codes "SIN(0)") (pos 0) 1 }
+    ensures sine { Gives (codes "SIN(1)") (pos 105183873101) 125000000000 }
+    ensures opposite_sine { Gives (codes "SIN(-1)") (negsuc 105183873100) 125000000000 }
+    ensures turned_sine { Gives (codes "SIN(-4)") (pos 189200623827) 250000000000 }
+    ensures greatest { Gives (codes "SIN(A)") (pos 656986598719) 1000000000000 }
+    ensures zero_cosine { Gives (codes "COS(0)") (pos 1) 1 }
+    ensures cosine { Gives (codes "COS(1)") (pos 135075576467) 250000000000 }
+    ensures even { Gives (codes "COS(-1)") (pos 135075576467) 250000000000 }
+    ensures below_zero { Gives (codes "COS(2)") (negsuc 416146836546) 1000000000000 }
+    ensures third { Gives (codes "COS(1/3)") (pos 188991389263) 200000000000 }
+    ensures radians { Gives (codes "DTOR(30)") (pos 261799387799) 500000000000 }
+    ensures opposite_radians { Gives (codes "DTOR(-90)") (negsuc 314159265358) 200000000000 }
+    ensures turn { Gives (codes "DTOR(360)") (pos 314159265359) 50000000000 }
+    ensures most_radians { Gives (codes "DTOR(1E6)") (pos 136353847812057) 7812500000 }
+    ensures degrees { Gives (codes "RTOD(1)") (pos 28647889756541) 500000000000 }
+    ensures opposite_degrees { Gives (codes "RTOD(-1/3)") (negsuc 19098593171026) 1000000000000 }
+    ensures half { Gives (codes "SIN(DTOR(30))") (pos 1) 2 }
+    ensures minus_half { Gives (codes "SIN(-DTOR(30))") (negsuc 0) 2 }
+    ensures right { Gives (codes "COS(DTOR(90))") (pos 0) 1 }
+    ensures straight { Gives (codes "COS(DTOR(180))") (negsuc 0) 1 }
+    ensures whole_turn { Gives (codes "SIN(DTOR(360))") (pos 0) 1 }
+    ensures eighth { Gives (codes "COS(DTOR(45))") (pos 707106781187) 1000000000000 }
+    ensures past_sine { Fails (codes "SIN(-7.001)") fault.PastBound }
+    ensures past_cosine { Fails (codes "COS(A+.001)") fault.PastBound }
+    ensures past_radians { Fails (codes "DTOR(1E6+1)") fault.PastBound }
+    ensures past_degrees { Fails (codes "RTOD(-1E6-1)") fault.PastBound }
+    ensures past_places { Fails (codes "RTOD(1E6)") fault.PastBound }
 {}
 
 /// What has no value, and why.

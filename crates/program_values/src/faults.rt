@@ -19,7 +19,7 @@ pub enum ValueFault {
     BadExponent,
     /// A root of a number below zero.
     NegativeRoot,
-    /// A numerator or a denominator is past the bound.
+    /// A numerator or a denominator is past the bound, or what a function is of past its limit.
     PastBound,
     /// More operations are within one another, or names in one text, than the limit.
     TooDeep,

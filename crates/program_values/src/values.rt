@@ -6,6 +6,7 @@ ghost use Rattle.program_values.specs.Parts as cuts;
 ghost use Rattle.program_values.specs.Values as spec;
 ghost use Rattle.program_values.specs.Variables.{entry_value};
 
+use crate::angles::{cosine, in_degrees, in_radians, sine};
 use crate::faults::ValueFault;
 use crate::numbers::Number;
 use crate::numerals::numeral_value;
@@ -83,6 +84,14 @@ fn function_named(name: &[u8], number: Number) -> Result<Number, ValueFault>
 {
     if is_text(name, "SQRT") {
         root(number)
+    } else if is_text(name, "SIN") {
+        sine(number)
+    } else if is_text(name, "COS") {
+        cosine(number)
+    } else if is_text(name, "DTOR") {
+        in_radians(number)
+    } else if is_text(name, "RTOD") {
+        in_degrees(number)
     } else {
         Err(ValueFault::UnknownFunction)
     }
@@ -130,8 +139,8 @@ fn value_within(text: &[u8], variables: &Variables, levels: u64) -> Result<Numbe
     parts_value(&parts_of(text), variables, levels - 1)
 }
 
-/// The value of an expression of numerals, names of variables, `+ - * / **`, signs, parentheses, `ABS`, `INT` and `SQRT`. Operators of one
-/// rank, `**` too, apply from left to right. The left operand's fault comes first.
+/// The value of an expression of numerals, names of variables, `+ - * / **`, signs, parentheses, and `ABS`, `INT`, `SQRT`, `SIN`, `COS`,
+/// `DTOR` and `RTOD`. Operators of one rank, `**` too, apply from left to right. The left operand's fault comes first.
 pub fn value_of(text: &[u8], variables: &Variables) -> Result<Number, ValueFault>
     ensures { result ≡ spec.value_of (entry_value variables.now) text.now }
 {

@@ -1,5 +1,5 @@
 use Rattle.std.proofs.Common.{arith}
-use Rattle.program_values.proofs.WholeRoots.{IsWhole, one_whole, whole, whole_below}
+use Rattle.program_values.proofs.WholeRoots.{one_whole, whole, whole_below}
 use Rattle.program_values.proofs.roots.whole_root.Goals as goal
 
 pub returns-clause-value : goal.returns-clause-value
