@@ -37,7 +37,10 @@ use Rattle.program_flow.specs.declared.blocks.Part.TheVariants.{Other}
 use Rattle.program_flow.proofs.Comes.{comes_all}
 use Rattle.program_flow.proofs.Straight.{drop-next, trace-other}
 use Rattle.program_lowering.proofs.Names.{◌+◌, ◌≤◌, and_parts, arith, drop, eqb-true, nat_tests, suc, zero}
-use Rattle.program_lowering.specs.Valued.{all_valued, assigned_params, commanding, has_variables, held_or_none, valued, valued_params, with_params}
+use Rattle.program_lowering.specs.Valued.{all_valued, assigned_params, commanding, has_variables, held_or_none, reference_of, valued, valued_params, with_params, with_values}
+use Rattle.program_lowering.specs.Cartesian.{Reference, cartesian, cartesian_params, fits, if_fits}
+use Rattle.program_lowering.proofs.CartesianLemmas.{accepted_stays, made_word}
+use Rattle.program_values.specs.declared.faults.ValueFault.{ValueFault}
 
 -- what follows a statement that says this may be exchanged for what has the same steps
 same_front : (b : Bool) (front : List Step) (r q : Result (List Step) (Refusal × ℕ)) (steps : List Step)
@@ -285,8 +288,11 @@ plain_word s known = record {
   no_declaration = rw (other_word s.word (codes "DECL") unknown_words.1 known) refl;
 }
 
-itself : (above : List Statement) (s : Statement) → IsPlainWord s → has_variables above ≡ false → valued above s ≡ s
-itself above s plain none = rw (plain.no_assign, none) refl
+itself : (above : List Statement) (s : Statement) (first : Bool) → IsPlainWord s → has_variables above ≡ false
+    → is_unsupported first (keyword_of s.word) s.params ≡ false → valued above s ≡ s
+itself above s first plain none read =
+    let same : with_values above s ≡ s = rw (plain.no_assign, none) refl in
+    ap (cartesian (reference_of above)) same ∙ accepted_stays first (reference_of above) s read
 
 none_then : (above : List Statement) (s : Statement) → IsPlainWord s → has_variables above ≡ false → has_variables (carried above s) ≡ false
 none_then above s plain none = go (is_none (fault_of (kind_said above) (value_said above) s))
@@ -304,9 +310,10 @@ valued_on : (frames : List (List ℕ × Point)) (fault : Option TextFault) (line
     → steps_from frames fault lines aboves (all_valued above (s ∷ below)) ≡ Ok steps
 valued_on frames fault lines aboves above s below steps (Err refusal) e none behind h = absurd cc
 valued_on frames fault lines aboves above s below steps (Ok m) e none behind h =
-    let known = accepted_known frames (context_at frames aboves) s m (accepted_if frames (context_at frames aboves) s m e) in
-    let plain = plain_word s known in
-    rw (itself above s plain none, e) (same_front (closes m) (steps_of frames (context_at frames aboves) m) (steps_from frames fault lines (s ∷ aboves) below)
+    let a = accepted_if frames (context_at frames aboves) s m e in
+    let plain = plain_word s (accepted_known frames (context_at frames aboves) s m a) in
+    let tests = by_tests (length aboves) (bound_count (nearest bound_said aboves)) (keyword_of s.word) s.params a.known in
+    rw (itself above s (length aboves == 0) plain none tests.second, e) (same_front (closes m) (steps_of frames (context_at frames aboves) m) (steps_from frames fault lines (s ∷ aboves) below)
     (steps_from frames fault lines (s ∷ aboves) (all_valued (carried above s) below)) steps (λ more g. behind more (none_then above s plain none) g) h)
 
 valued_alike : (frames : List (List ℕ × Point)) (fault : Option TextFault) (lines : ℕ) (aboves above below : List Statement) (steps : List Step)
@@ -329,8 +336,8 @@ no_operator s params h = go (is_operator_text (record { line = s.line; label = N
         let is = (is_text (record { line = s.line; label = None; word = s.word; params = params }) e).word_is in
         let same = rw is at h in absurd cc
 
-valued_text : (above : List Statement) (s : Statement) → text_refusal s ≡ None → text_refusal (valued above s) ≡ None
-valued_text above s h = go (bytes_eq s.word (codes "ASSIGN")) (has_variables above) (is_none s.label) (is_among s.word commanding) refl refl
+values_text : (above : List Statement) (s : Statement) → text_refusal s ≡ None → text_refusal (with_values above s) ≡ None
+values_text above s h = go (bytes_eq s.word (codes "ASSIGN")) (has_variables above) (is_none s.label) (is_among s.word commanding) refl refl
   where
     go : (a b c d : Bool) → bytes_eq s.word (codes "ASSIGN") ≡ a → is_among s.word commanding ≡ d
         → text_refusal (with_params s (cond a (Some (assigned_params above s s.label)) (cond (b && (c && d)) (Some (valued_params (value_said above) s.params)) None))) ≡ None
@@ -339,6 +346,25 @@ valued_text above s h = go (bytes_eq s.word (codes "ASSIGN")) (has_variables abo
     go false true true false e f = h
     go false true false d e f = h
     go false false c d e f = h
+
+or_true : (b : Bool) → (b || true) ≡ true
+or_true true = refl
+or_true false = refl
+
+cartesian_text : (ref : Reference) (s : Statement) → text_refusal s ≡ None → text_refusal (cartesian ref s) ≡ None
+cartesian_text ref s h = go (cartesian_params ref s) refl
+  where
+    by_fit : (params : List (List ℕ)) (b : Bool) → is_among s.word commanding ≡ true
+        → text_refusal (cond b (record { line = s.line; label = None; word = s.word; params = params }) s) ≡ None
+    by_fit params true is = no_operator s params (rw is (or_true (bytes_eq s.word (codes "ASSIGN"))))
+    by_fit params false is = h
+
+    go : (r : Result (List (List ℕ)) ValueFault) → cartesian_params ref s ≡ r → text_refusal (if_fits s r) ≡ None
+    go (Err fault) e = h
+    go (Ok params) e = by_fit params (fits s.word params) (made_word ref s params e)
+
+valued_text : (above : List Statement) (s : Statement) → text_refusal s ≡ None → text_refusal (valued above s) ≡ None
+valued_text above s h = cartesian_text (reference_of above) (with_values above s) (values_text above s h)
 
 valued_fits : (above statements : List Statement) → Fit statements → Fit (all_valued above statements)
 valued_fits above [] h = tt

@@ -11,7 +11,7 @@ use Rattle.program_lowering.proofs.LineCounts.{lines_few}
 use Rattle.program_lowering.proofs.ReadBackLemmas.{HasShortLine, acts_back, reads_back}
 use Rattle.program_lowering.proofs.RunLemmas.{ended_append}
 use Rattle.program_lowering.specs.Inches.{all_stated}
-use Rattle.program_lowering.proofs.ValuedLemmas.{valued_line}
+use Rattle.program_lowering.proofs.CartesianLemmas.{valued_line}
 use Rattle.program_flow.specs.Flow.{carried, flow_of, most, to}
 use Rattle.program_flow.proofs.Comes.{comes_all}
 use Rattle.program_lowering.specs.Valued.{all_valued}

@@ -15,7 +15,7 @@ use Rattle.program_values.specs.declared.faults.ValueFault.{ValueFault}
 use Rattle.program_lowering.specs.Carried.{GivesLine, IsRead, Knows, all_pushed, line_with, pair_of, pushed}
 use Rattle.program_lowering.specs.Lowering.{ended}
 use Rattle.program_flow.specs.Flow.{carried}
-use Rattle.program_lowering.specs.Valued.{assigned_params, commanding, has_variables, held, held_or_none, new_params, valued, valued_param, valued_params, with_params}
+use Rattle.program_lowering.specs.Valued.{assigned_params, commanding, has_variables, held, held_or_none, new_params, valued_param, valued_params, with_params, with_values}
 use Rattle.program_lowering.proofs.LineLemmas.{IsHeld, flat_is_line, flat_statement}
 use Rattle.program_lowering.proofs.LineParts.{marked_is}
 use Rattle.program_lowering.proofs.ReadBackLemmas.{line_first}
@@ -154,7 +154,7 @@ held_none word good = record {
   few = omega arith;
 }
 
-held_good : (word : List ℕ) (params : List (List ℕ)) → GoodWord word → IsHeld (flat word (held word params)) 1
+pub held_good : (word : List ℕ) (params : List (List ℕ)) → GoodWord word → IsHeld (flat word (held word params)) 1
 held_good word params good =
     go (list_all (is_plain false) params) (nat_le (length (flat_text (flat word params))) 4000) refl refl
   where
@@ -218,34 +218,41 @@ nothing_held word = go (nat_le (length (flat_text (flat word []))) 4000)
 
 -- the line that is given for a statement
 pub gives_made : (above : List Statement) (s : Statement) (made : Result (List (List ℕ)) ValueFault) (line : List ℕ) → GoodWord s.word
-    → new_params above s ≡ Some made → line ≡ line_with s.word made → GivesLine (Some line) s (valued above s)
+    → new_params above s ≡ Some made → line ≡ line_with s.word made → GivesLine (Some line) s (with_values above s)
 gives_made above s made line good is e =
     subst (λ (o : Option (Result (List (List ℕ)) ValueFault)). GivesLine (Some line) s (with_params s o)) (sym is) (read_is s.word line made good e, refl)
 
 pub gives_assigned : (above : List Statement) (s : Statement) (entries : List Entry) (declared done : Bool) (line : List ℕ)
     → bytes_eq s.word (codes "ASSIGN") ≡ true → Knows (carried above s) entries declared
     → done ≡ is_none (fault_of (kind_said above) (value_said above) s) → line ≡ line_with s.word (pair_of done (entry_value entries) s.label)
-    → GivesLine (Some line) s (valued above s)
+    → GivesLine (Some line) s (with_values above s)
 gives_assigned above s entries declared done line is k d e =
     gives_made above s (assigned_params above s s.label) line (assign_good s.word is) (rw is refl)
     (e ∙ ap (λ (ps : List (List ℕ)). ended (flat_line (flat s.word ps) 1)) (pair_same above s entries declared done is k d))
 
 pub gives_valued : (above : List Statement) (s : Statement) (entries : List Entry) (declared : Bool) (line : List ℕ)
     → bytes_eq s.word (codes "ASSIGN") ≡ false → is_none s.label ≡ true → is_among s.word commanding ≡ true → declared ≡ true
-    → Knows above entries declared → line ≡ line_with s.word (valued_params (entry_value entries) s.params) → GivesLine (Some line) s (valued above s)
+    → Knows above entries declared → line ≡ line_with s.word (valued_params (entry_value entries) s.params) → GivesLine (Some line) s (with_values above s)
 gives_valued above s entries declared line other bare is d k e =
     gives_made above s (valued_params (value_said above) s.params) line (commanding_good s.word is) (rw (other, sym k.some, d, bare, is) refl)
     (e ∙ ap (λ (values : List ℕ → Result Fraction ValueFault). line_with s.word (valued_params values s.params)) k.holds.values)
 
 pub gives_none : (above : List Statement) (s : Statement) (entries : List Entry) (declared : Bool) → bytes_eq s.word (codes "ASSIGN") ≡ false
-    → (declared && (is_none s.label && is_among s.word commanding)) ≡ false → Knows above entries declared → GivesLine None s (valued above s)
+    → (declared && (is_none s.label && is_among s.word commanding)) ≡ false → Knows above entries declared → GivesLine None s (with_values above s)
 gives_none above s entries declared other none k = rw (other, sym k.some, none) refl
 
--- a statement keeps its line
-pub valued_line : (above : List Statement) (s : Statement) → (valued above s).line ≡ s.line
-valued_line above s = go (new_params above s)
+-- a statement keeps its line and its word
+pub values_line : (above : List Statement) (s : Statement) → (with_values above s).line ≡ s.line
+values_line above s = go (new_params above s)
   where
     go : (o : Option (Result (List (List ℕ)) ValueFault)) → (with_params s o).line ≡ s.line
+    go None = refl
+    go (Some made) = refl
+
+pub values_word : (above : List Statement) (s : Statement) → (with_values above s).word ≡ s.word
+values_word above s = go (new_params above s)
+  where
+    go : (o : Option (Result (List (List ℕ)) ValueFault)) → (with_params s o).word ≡ s.word
     go None = refl
     go (Some made) = refl
 

@@ -24,7 +24,8 @@ use Rattle.program_values.specs.declared.faults.ValueFault.{ValueFault}
 use Rattle.program_values.specs.declared.faults.ValueFault.TheVariants as value
 use Rattle.program_lowering.specs.Flats.{flat, flat_line}
 use Rattle.program_flow.specs.Flow.{carried}
-use Rattle.program_lowering.specs.Valued.{has_variables, held_or_none}
+use Rattle.program_lowering.specs.Cartesian.{Reference, cartesian_params, fits, reference_after}
+use Rattle.program_lowering.specs.Valued.{has_variables, held_or_none, reference_of}
 use Rattle.program_lowering.specs.Manual.{manual_after}
 use Rattle.program_lowering.specs.Inches.{inches_after, said_stated}
 use Rattle.program_lowering.specs.OperatorTexts.{flat_meant, is_plain, marked, text_refusal}
@@ -210,9 +211,31 @@ abbrev pub GivesLine : Option (List ℕ) → Statement → Statement → Type 0
 GivesLine None s v = v ≡ s
 GivesLine (Some line) s v = IsRead line (record v { line = 1 }) × (v.line ≡ s.line)
 
--- likewise for a statement with its values, which is then carried out, unless memory ran out
-abbrev pub TakesValued : Result Bool StatementFault → Carried → List Entry → Bool → List Statement → Statement → Result (Bool × Carried) Refusal → Type 0
-TakesValued result new entries declared above s due = GivesStep result new due × OnOk result (Knows (carried above s) entries declared)
+-- the line of these parameters after a word, if one holds them; and that of a statement with Cartesian coordinates, if it had others
+abbrev pub line_if_fits : List ℕ → List (List ℕ) → Option (List ℕ)
+line_if_fits word params = if fits word params then Some (ended (flat_line (flat word params) 1)) else None
+
+abbrev pub line_if_made : List ℕ → Result (List (List ℕ)) ValueFault → Option (List ℕ)
+line_if_made word (Ok params) = line_if_fits word params
+line_if_made word (Err fault) = None
+
+abbrev pub cartesian_line : Reference → Statement → Option (List ℕ)
+cartesian_line reference s = line_if_made s.word (cartesian_params reference s)
+
+-- the variables, and what coordinates refer to, are those of what was carried out
+pub record Follows (above : List Statement) (entries : List Entry) (declared : Bool) (reference : Reference) : Type 0 where
+  pub holds : Holds above entries
+  pub some : declared ≡ has_variables above
+  pub refers : reference ≡ reference_of above
+
+-- what a call gives and leaves for a statement that then has Cartesian coordinates; and for one with its values, which is then carried out;
+-- unless memory ran out
+abbrev pub TakesCartesian : Result Bool StatementFault → Carried → Reference → Reference → Statement → Result (Bool × Carried) Refusal → Type 0
+TakesCartesian result new before after counted due = GivesStep result new due × OnOk result (after ≡ reference_after before counted)
+
+abbrev pub TakesValued : Result Bool StatementFault → Carried → List Entry → Bool → Reference → List Statement → Statement
+    → Result (Bool × Carried) Refusal → Type 0
+TakesValued result new entries declared reference above s due = GivesStep result new due × OnOk result (Follows (carried above s) entries declared reference)
 
 -- the lines of the flat program of a text, and what was decided; or why there are none
 pub record AreLines (frames : List (List ℕ × Point)) (choices : Choices) (source text notes : List ℕ) : Type 0 where

@@ -5,6 +5,7 @@ pub mod StoredFrames
 pub mod Flats
 pub mod OperatorTexts
 pub mod Inches
+pub mod Cartesian
 pub mod Valued
 pub mod Acts
 pub mod Lowering

@@ -1,6 +1,7 @@
 -- Programs with values (ISO 22093, DECL and ASSIGN): each statement with its values, by looking back in what was carried out above it. Below a
 -- declaration, in the words that command something, each `@NAME` becomes its digits and an expression that has a value becomes a numeral (this
 -- profile). A statement whose values have a fault, or which no line holds, has no parameters: so it is refused, where it is, for what it lacks.
+-- Then each has Cartesian coordinates (`Cartesian`).
 use Rattle.std.specs.Prelude.{ℕ, Bool, false, ◌&&◌, ◌||◌, List, [], ◌∷◌, length, nat_le, codes, bytes_eq, Option, Some, None}
 use Rattle.std.specs.Prelude.{is_none, Result, Ok, Err, if◌then◌else◌}
 use Rattle.std.specs.List.{list_all}
@@ -14,6 +15,7 @@ use Rattle.program_values.specs.Texts.{expanded}
 use Rattle.program_values.specs.Values.{computed}
 use Rattle.program_values.specs.declared.faults.ValueFault.{ValueFault}
 use Rattle.program_values.specs.declared.faults.ValueFault.TheVariants.{UnknownName}
+use Rattle.program_lowering.specs.Cartesian.{Reference, cartesian, no_reference, reference_after}
 use Rattle.program_lowering.specs.Flats.{flat, flat_text}
 use Rattle.program_lowering.specs.OperatorTexts.{is_plain}
 
@@ -58,8 +60,16 @@ with_params s None = s
 with_params s (Some made) = record { line = s.line; label = None; word = s.word; params = held_or_none s.word made }
 
 -- a statement with its values, by those that were carried out above it
+abbrev pub with_values : List Statement → Statement → Statement
+with_values above s = with_params s (new_params above s)
+
+-- what its coordinates refer to; and then with Cartesian ones
+abbrev pub reference_of : List Statement → Reference
+reference_of [] = no_reference
+reference_of (s ∷ above) = reference_after (reference_of above) (cartesian (reference_of above) (with_values above s))
+
 abbrev pub valued : List Statement → Statement → Statement
-valued above s = with_params s (new_params above s)
+valued above s = cartesian (reference_of above) (with_values above s)
 
 abbrev pub all_valued : List Statement → List Statement → List Statement
 all_valued above [] = []

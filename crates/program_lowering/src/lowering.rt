@@ -6,8 +6,9 @@ ghost use Rattle.dmis_program.specs.Meaning.{closes, ended};
 ghost use Rattle.dmis_program.specs.Outcomes.{fault_at, refused_at, Gives};
 ghost use Rattle.dmis_text.specs.declared.elements.Statement.{Statement};
 ghost use Rattle.program_flow.specs.Left.{IsGiven};
+ghost use Rattle.program_lowering.specs.Cartesian.{cartesian};
 ghost use Rattle.program_lowering.specs.Valued.{valued};
-ghost use Rattle.program_lowering.specs.Carried.{GivesLines, GivesStep, Knows, TakesValued, followed, left_out_after, nothing_carried, step, frames_closed, judged_next};
+ghost use Rattle.program_lowering.specs.Carried.{Follows, GivesLines, GivesStep, TakesCartesian, TakesValued, followed, left_out_after, nothing_carried, step, frames_closed, judged_next};
 ghost use Rattle.program_lowering.specs.Heads.{names_of};
 ghost use Rattle.program_lowering.specs.Lowered.{GivesLowered};
 ghost use Rattle.program_lowering.specs.Lowering.{note_for, note_start, passed_over};
@@ -16,6 +17,7 @@ ghost use Rattle.program_lowering.specs.Carried.{Carried};
 ghost use Rattle.tool_rack.specs.Setups.{has_name};
 
 use crate::above::Above;
+use crate::cartesian::Bearings;
 use crate::flats::push_note_line;
 use crate::heads::{SourceNames, with_head};
 use crate::inches::inches_after;
@@ -311,7 +313,29 @@ impl Lowering {
     }
 }
 
-/// Takes the next statement of a text, with its values. True at the end of the program.
+/// Takes the next statement of a text, with Cartesian coordinates. True at the end of the program.
+fn take_cartesian(
+    lowering: &mut Lowering,
+    bearings: &mut Bearings,
+    choices: Choices,
+    frames: &Frames,
+    statement: &Statement,
+) -> Result<bool, StatementFault>
+    ensures { TakesCartesian result lowering.new bearings.old bearings.new
+        (cartesian bearings.old statement.now)
+        (step frames.now choices lowering.old (cartesian bearings.old statement.now)) }
+{
+    let alloc = lowering.alloc;
+    let Some(line) = bearings.line(alloc, statement)? else {
+        bearings.follow(alloc, statement)?;
+        return lowering.take(choices, frames, statement);
+    };
+    let made = read_back(alloc, statement.line, &line)?;
+    bearings.follow(alloc, &made)?;
+    lowering.take(choices, frames, &made)
+}
+
+/// Likewise with its values.
 fn take_valued(
     lowering: &mut Lowering,
     values: &mut Values,
@@ -319,15 +343,16 @@ fn take_valued(
     frames: &Frames,
     statement: &Statement,
 ) -> Result<bool, StatementFault>
-    ensures { (above : List Statement) → Knows above values.old.variables values.old.declared
-        → TakesValued result lowering.new values.new.variables values.new.declared above
-        statement.now (step frames.now choices lowering.old (valued above statement.now)) }
+    ensures { (above : List Statement) → Follows above values.old.variables values.old.declared
+        values.old.bearings → TakesValued result lowering.new values.new.variables
+        values.new.declared values.new.bearings above statement.now
+        (step frames.now choices lowering.old (valued above statement.now)) }
 {
     let Some(line) = values.take(lowering.alloc, statement)? else {
-        return lowering.take(choices, frames, statement);
+        return take_cartesian(lowering, &mut values.bearings, choices, frames, statement);
     };
     let valued = read_back(lowering.alloc, statement.line, &line)?;
-    lowering.take(choices, frames, &valued)
+    take_cartesian(lowering, &mut values.bearings, choices, frames, &valued)
 }
 
 /// Likewise the next statement that comes out of a text.
@@ -341,9 +366,9 @@ fn take_given(
 ) -> Result<bool, StatementFault>
     requires { (s : Statement) × IsGiven statements.now given.now s }
     ensures { (above : List Statement) (s : Statement) → IsGiven statements.now given.now s
-        → Knows above values.old.variables values.old.declared
-        → TakesValued result lowering.new values.new.variables values.new.declared above s
-        (step frames.now choices lowering.old (valued above s)) }
+        → Follows above values.old.variables values.old.declared values.old.bearings
+        → TakesValued result lowering.new values.new.variables values.new.declared
+        values.new.bearings above s (step frames.now choices lowering.old (valued above s)) }
 {
     match given {
         Given::Stated(place) => {

@@ -15,6 +15,7 @@ ghost use Rattle.program_lowering.specs.OperatorTexts.{is_plain, marked};
 ghost use Rattle.program_lowering.specs.Carried as code;
 ghost use Rattle.program_lowering.specs.Valued as spec;
 
+use crate::cartesian::Bearings;
 use crate::lines::{is_plain, push_comment};
 use dmis_program::StatementFault;
 use dmis_text::{Statement, Statements, Text, TextFault};
@@ -31,6 +32,8 @@ pub(crate) struct Values {
     pub(crate) variables: Variables,
     /// Whether one is declared.
     pub(crate) declared: bool,
+    /// What coordinates refer to.
+    pub(crate) bearings: Bearings,
 }
 
 /// Whether a word commands a move, a touch or a selection.
@@ -111,20 +114,39 @@ fn bare_line(alloc: Global, word: &[u8]) -> Result<Vec<u8>, AllocError>
     line_of(alloc, word, Vec::from_slice(alloc, word)?, true)
 }
 
+/// The line of a word with these parameters, if it is not too long and they are read back as they are written.
+pub(crate) fn fitting_line(
+    alloc: Global,
+    word: &[u8],
+    text: Vec<u8>,
+    plain: bool,
+) -> Result<Option<Vec<u8>>, AllocError>
+    ensures { (params : List (List ℕ)) → text.items ≡ word.now ++ marked 47 params
+        → plain ≡ list_all (is_plain false) params → IfOk result (λ line.
+        option_map (λ l. l.items) line ≡ code.line_if_fits word.now params) }
+{
+    if !plain || text.len() > MOST_BYTES {
+        return Ok(None);
+    }
+    Ok(Some(line_of(alloc, word, text, true)?))
+}
+
 impl Values {
     /// No variable is declared.
     pub(crate) fn new(alloc: Global) -> Values
-        ensures { code.Knows [] result.variables result.declared }
+        ensures { code.Follows [] result.variables result.declared result.bearings }
     {
         Values {
             variables: Variables::new(alloc),
             declared: false,
+            bearings: Bearings::new(),
         }
     }
 
     /// Carries a statement out. False if a value has a fault.
     fn carry_out(&mut self, statement: &Statement) -> Result<bool, AllocError>
-        ensures { (above : List Statement) → code.Knows above self.old.variables self.old.declared
+        ensures same { self.new.bearings ≡ self.old.bearings }
+        ensures done { (above : List Statement) → code.Knows above self.old.variables self.old.declared
             → IfOk result (λ done. code.Knows (carried above statement.now) self.new.variables
             self.new.declared × (done ≡ is_none (fault_of (kind_said above) (value_said above)
             statement.now))) }
@@ -185,7 +207,7 @@ impl Values {
             → bytes_eq statement.now.word (codes "ASSIGN") ≡ false
             → code.Knows above self.now.variables self.now.declared → IfOk result (λ line.
             code.GivesLine (option_map (λ l. l.items) line) statement.now
-            (spec.valued above statement.now)) }
+            (spec.with_values above statement.now)) }
     {
         if !self.declared {
             return Ok(None);
@@ -202,13 +224,14 @@ impl Values {
         alloc: Global,
         statement: &Statement,
     ) -> Result<Option<Vec<u8>>, AllocError>
+        ensures same { self.new.bearings ≡ self.old.bearings }
         ensures read { IfOk result (λ line. IfSome line (λ l. (s : Statement)
             × code.IsRead l.items s)) }
         ensures valued { (above : List Statement)
             → code.Knows above self.old.variables self.old.declared
             → IfOk result (λ line. code.Knows (carried above statement.now)
             self.new.variables self.new.declared × code.GivesLine
-            (option_map (λ l. l.items) line) statement.now (spec.valued above statement.now)) }
+            (option_map (λ l. l.items) line) statement.now (spec.with_values above statement.now)) }
     {
         if is_text(&statement.word, "ASSIGN") {
             let done = self.carry_out(statement)?;

@@ -3,7 +3,7 @@ use Rattle.program_flow.specs.Flow.{carried}
 use Rattle.program_flow.specs.Left.{IsGiven, left_of}
 use Rattle.program_lowering.specs.Valued.{all_valued, valued}
 use Rattle.program_lowering.proofs.EndLemmas.{at_end, at_statement, closes_at, finished, goes_past, written_of}
-use Rattle.program_lowering.proofs.ValuedLemmas.{valued_line}
+use Rattle.program_lowering.proofs.CartesianLemmas.{valued_line}
 use Rattle.program_lowering.proofs.lowering.lines_of.Goals as goal
 
 pub returns-in_default-next-2 : goal.returns-in_default-next-2

@@ -1,16 +1,16 @@
-use Rattle.program_lowering.proofs.Names.{◌∙◌, GivesStep, Statement, step, subst}
+use Rattle.program_lowering.proofs.Names.{◌∙◌, Statement, sym}
 use Rattle.program_lowering.specs.Carried.{IsRead}
-use Rattle.program_lowering.specs.Valued.{valued}
-use Rattle.program_lowering.proofs.ValuedLemmas.{on_ok, read_again}
+use Rattle.program_lowering.specs.Valued.{with_values}
+use Rattle.program_lowering.proofs.CartesianLemmas.{takes_both}
+use Rattle.program_lowering.proofs.ValuedLemmas.{read_again}
 use Rattle.program_lowering.proofs.lowering.take_valued.Goals as goal
 
 pub returns : goal.returns
 returns c above k =
-    let v = valued above c.args.statement.now in
-    let given = rw c.in-Some.is at (c.in_ok-line.ensures.valued above k) in
+    let v = with_values above c.args.statement.now in
+    let known = record { holds = k.holds; some = k.some } in
+    let given = rw c.in-Some.is at (c.in_ok-line.ensures.valued above known) in
     let read : IsRead c.deref.result.now (record v { line = 1 }) = rw c.deref.ensures.value given.1.0 in
-    let is = c.in_ok-valued.ensures.read (record v { line = 1 }) read ∙ read_again v c.args.statement.now.line given.1.1 in (
-      subst (λ (t : Statement). GivesStep c.take-2.result c.take-2.new.self (step c.args.frames.now c.args.choices c.args.lowering.now t)) is
-          c.take-2.ensures,
-      on_ok c.take-2.result given.0,
-    )
+    let is = c.in_ok-valued.ensures.read (record v { line = 1 }) read ∙ read_again v c.args.statement.now.line given.1.1 in
+    takes_both c.args.frames.now c.args.choices c.args.lowering.now c.take_cartesian-2.new.lowering above c.args.statement.now _
+    c.take.new.self.variables c.take.new.self.declared _ _ c.take_cartesian-2.result given.0 (sym k.refers) (sym is) c.take_cartesian-2.ensures
