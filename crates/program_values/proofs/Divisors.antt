@@ -39,7 +39,7 @@ pub record IsSame (a : ℤ) (b : ℕ) (d : Fraction) : Type 0 where
   pub sign : int_lt a (pos 0) ≡ false → int_lt d.over (pos 0) ≡ false
   pub turned : int_lt a (pos 0) ≡ true → int_lt d.over (pos 0) ≡ false → unsigned_abs d.over ≡ 0
 
-unsigned_abs-signed : (negative : Bool) (n : ℕ) → unsigned_abs (signed negative n) ≡ n
+pub unsigned_abs-signed : (negative : Bool) (n : ℕ) → unsigned_abs (signed negative n) ≡ n
 unsigned_abs-signed false n = refl
 unsigned_abs-signed true zero = refl
 unsigned_abs-signed true (suc n) = refl

@@ -3,5 +3,6 @@ pub mod Steps
 pub mod WholeRoots
 pub mod Series
 pub mod NearAngles
+pub mod HaveValues
 pub mod Tables
 pub mod Carrying

@@ -68,7 +68,7 @@ short-by p q r o u some one less e =
     let f : (o * 10 ^ 12 + u) * (o * 10 ^ 12 + u) * q ≡ (r * u + u) * (r * u + u) * q = ap (λ x. (x + u) * (x + u) * q) e in
     omega (arith, w, s, f)
 
-below-units : (p q : ℕ) → p ≤ q * 10 ^ 12 → p * 10 ^ 24 / q < 2 ^ 128
+pub below-units : (p q : ℕ) → p ≤ q * 10 ^ 12 → p * 10 ^ 24 / q < 2 ^ 128
 below-units p q le = let f = div-le_of_le-mul q {m = p * 10 ^ 24} {n = 10 ^ 36} (omega (arith, le)) in omega (arith, f)
 
 root-made : (f d : Fraction) → 0 < f.under → unsigned_abs f.over ≤ f.under * 10 ^ 12

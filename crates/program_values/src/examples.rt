@@ -1,6 +1,6 @@
 // Examples: expressions and their values.
 
-ghost use Rattle.std.specs.Prelude.{◌≡◌, ◌*◌, ◌/◌, ◌∷◌, ◌++◌, ℕ, Err, List, None, Ok, Some, codes, decimal, false, true, pos, negsuc};
+ghost use Rattle.std.specs.Prelude.{◌≡◌, ◌≤◌, ◌*◌, ◌/◌, ◌^◌, ◌∷◌, ◌++◌, ℕ, Err, IsOk, List, None, Ok, Some, codes, decimal, false, int_lt, true, pos, negsuc, unsigned_abs};
 ghost use Rattle.std.specs.Int.{IsGcd};
 ghost use Rattle.program_values.specs.Numbers.{Fraction, IsBounded, gcd, numeral, rounded_product};
 ghost use Rattle.program_values.specs.Examples.{Gives, Fails, a_is_seven, assigning, declaring, refusal, start};
@@ -31,6 +31,18 @@ pub fn tables_stand_for_looking_back()
 /// A root is not past the true one, and less than 10^-12 below it.
 pub fn roots_are_near()
     ensures { (f d : Fraction) → IsBounded f → function_of (codes "SQRT") f ≡ Ok d → IsRoot f d }
+{}
+
+/// A function of a number up to its limit has a value.
+pub fn functions_have_values()
+    ensures roots { (f : Fraction) → IsBounded f → int_lt f.over (pos 0) ≡ false
+        → unsigned_abs f.over ≤ f.under * 10 ^ 12 → IsOk (function_of (codes "SQRT") f) }
+    ensures sines { (f : Fraction) → IsBounded f → unsigned_abs f.over ≤ f.under * 7
+        → IsOk (function_of (codes "SIN") f) }
+    ensures cosines { (f : Fraction) → IsBounded f → unsigned_abs f.over ≤ f.under * 7
+        → IsOk (function_of (codes "COS") f) }
+    ensures radians { (f : Fraction) → unsigned_abs f.over ≤ f.under * 10 ^ 6
+        → IsOk (function_of (codes "DTOR") f) }
 {}
 
 /// A sine and a cosine are within 10^-12 of the true ones.
