@@ -1,6 +1,8 @@
 -- What the examples of this crate speak of.
-use Rattle.std.specs.Prelude.{ℕ, List, [], ◌∷◌, ◌++◌, codes, true, false, None, Some}
+use Rattle.std.specs.Prelude.{ℕ, ℤ, List, [], ◌∷◌, ◌++◌, codes, true, false, Option, None, Some}
 use Rattle.dmis_text.specs.declared.elements.Statement.{Statement}
+use Rattle.program_values.specs.Numbers.{whole_number}
+use Rattle.program_lowering.specs.Cartesian.{Place, Reference, Spot, no_reference}
 use Rattle.program_lowering.specs.StoredFrames.{by_frame, is_used}
 use Rattle.program_lowering.specs.declared.words.Choices.{Choices}
 
@@ -87,3 +89,22 @@ assign name text = record { line = 1; label = Some name; word = codes "ASSIGN"; 
 
 abbrev pub x_is_five : List Statement
 x_is_five = assign (codes "X") (codes "5") ∷ declare_x ∷ []
+
+-- polar coordinates, where a `GOTO` ends, and what coordinates refer to
+abbrev pub polar : List ℕ → List ℕ → List ℕ → List (List ℕ)
+polar r a h = codes "POL" ∷ r ∷ a ∷ h ∷ []
+
+abbrev pub spot : ℤ → ℤ → ℤ → Spot
+spot x y z = record { x = whole_number x; y = whole_number y; z = whole_number z }
+
+abbrev pub at_place : Option Place → Reference
+at_place place = record no_reference { place = place }
+
+abbrev pub a_place : Option Place
+a_place = Some (record { x = codes "1"; y = codes "2.5"; z = codes "3" })
+
+abbrev pub a_move : Statement
+a_move = bare (codes "GOTO") (codes "CART" ∷ codes "1" ∷ codes "2.5" ∷ codes "3" ∷ [])
+
+abbrev pub by_ten : List ℕ → List ℕ → List ℕ → List (List ℕ)
+by_ten i j k = codes "INCR" ∷ codes "10" ∷ i ∷ j ∷ k ∷ []

@@ -1,5 +1,5 @@
 // What follows from the definitions alone. Each function has laws for its contract and does nothing.
-ghost use Rattle.std.specs.Prelude.{◌≡◌, ◌<◌, ◌^◌, ◌++◌, ◌∷◌, ◌*◌, [], ℕ, ℤ, pos, neg_ℤ, int_lt, unsigned_abs, Bool, Err, List, length, map, codes, decimal, false, true, Some, None, Ok};
+ghost use Rattle.std.specs.Prelude.{◌≡◌, ◌<◌, ◌^◌, ◌++◌, ◌∷◌, ◌*◌, [], ℕ, ℤ, pos, negsuc, neg_ℤ, int_lt, unsigned_abs, Bool, Err, List, length, map, codes, decimal, false, true, Some, None, Ok};
 ghost use Rattle.std.specs.List.{AllByRecursion};
 ghost use Rattle.std.specs.Option.{option_map};
 ghost use Rattle.dmis_program.specs.Keywords.{keyword_of};
@@ -16,8 +16,14 @@ ghost use Rattle.fixed_um.specs.Limits.{component_limit};
 ghost use Rattle.fixed_um.specs.Numerals.{IsRounded, signed};
 ghost use Rattle.fixed_um.specs.declared.lengths.Point.{Point};
 ghost use Rattle.program_review.specs.Texts.{is_operator_text};
+ghost use Rattle.dmis_program.specs.Parameters.{is_other_coordinates};
+ghost use Rattle.program_values.specs.Numbers.{whole_number};
+ghost use Rattle.program_values.specs.declared.faults.ValueFault.TheVariants.{NotExpression};
 ghost use Rattle.program_lowering.specs.Acts.{acts_of};
-ghost use Rattle.program_lowering.specs.Examples.{all_choices, assign, bare, declare_x, first_by_hand, manual_front, measured, mode_man, mode_prog, plain_choices, start, to_operator, a_touch, make_a, make_a_on_7, make_b, recall_a, naming_a, naming_none, of_setup, saving, two_frames, labelled, x_is_five};
+ghost use Rattle.program_lowering.specs.Cartesian.{Reference, cartesian, cartesian_touch, goto_spot, no_reference, plane_named, spot_params, unit_named};
+ghost use Rattle.program_lowering.specs.declared.cartesian.AngleUnit.TheVariants as angle;
+ghost use Rattle.program_lowering.specs.declared.cartesian.Plane.TheVariants as plane;
+ghost use Rattle.program_lowering.specs.Examples.{all_choices, assign, bare, declare_x, first_by_hand, manual_front, measured, mode_man, mode_prog, plain_choices, start, to_operator, a_touch, make_a, make_a_on_7, make_b, recall_a, naming_a, naming_none, of_setup, saving, two_frames, labelled, x_is_five, a_move, a_place, at_place, by_ten, polar, spot};
 ghost use Rattle.program_lowering.specs.Flats.{flat, flat_text};
 ghost use Rattle.program_lowering.specs.Heads.{IsComment, Names, head_lines};
 ghost use Rattle.program_lowering.specs.Inches.{all_stated, in_inches, in_millimetres, inch_length, stated};
@@ -27,7 +33,7 @@ ghost use Rattle.program_lowering.specs.OperatorTexts.{TextsFit, flat_meant, tex
 ghost use Rattle.program_lowering.specs.StoredFrames.{by_frame, frame_note, frame_notes, is_used, stored_frame};
 ghost use Rattle.program_lowering.specs.Reasons.{detail};
 ghost use Rattle.program_flow.specs.Flow.{carried};
-ghost use Rattle.program_lowering.specs.Valued.{held, new_params, valued};
+ghost use Rattle.program_lowering.specs.Valued.{held, new_params, reference_of, with_values};
 ghost use Rattle.program_lowering.specs.Words.{left_out};
 ghost use Rattle.program_lowering.specs.declared.words.Choices.{Choices};
 ghost use Rattle.fixed_um.specs.Numerals.{Reads};
@@ -82,16 +88,16 @@ pub fn examples_of_values()
         (bare (codes "GOTO") (codes "X+10" ∷ (codes "1E1" ∷ (codes "Y" ∷ []))))
         ≡ Some (Ok (decimal 15 ∷ (codes "1E1" ∷ (codes "Y" ∷ [])))) }
     ensures undeclared { new_params [] (bare (codes "GOTO") (codes "1+1" ∷ [])) ≡ None }
-    ensures unknown { (valued x_is_five (bare (codes "SNSLCT") (codes "S(T@Y)" ∷ []))).params
+    ensures unknown { (with_values x_is_five (bare (codes "SNSLCT") (codes "S(T@Y)" ∷ []))).params
         ≡ [] }
     ensures feature { new_params x_is_five (bare (codes "FEAT") (codes "X+1" ∷ [])) ≡ None }
     ensures labelled { new_params x_is_five (labelled (codes "A") (codes "GOTO")) ≡ None }
     ensures assigned { new_params (declare_x ∷ []) (assign (codes "X") (codes "2+3"))
         ≡ Some (Ok (codes "X" ∷ (decimal 5 ∷ []))) }
-    ensures faulty { (valued x_is_five (assign (codes "Y") (codes "5"))).params ≡ [] }
+    ensures faulty { (with_values x_is_five (assign (codes "Y") (codes "5"))).params ≡ [] }
     ensures not_carried { carried x_is_five (assign (codes "Y") (codes "5")) ≡ x_is_five }
     ensures carried { carried (declare_x ∷ []) (assign (codes "X") (codes "5")) ≡ x_is_five }
-    ensures unlabelled { (valued x_is_five
+    ensures unlabelled { (with_values x_is_five
         (bare (codes "ASSIGN") (codes "X" ∷ (codes "5" ∷ [])))).params ≡ [] }
     ensures blank { held (codes "SNSLCT") (codes "S(A B)" ∷ []) ≡ [] }
     ensures plain { held (codes "SNSLCT") (codes "S(A)" ∷ []) ≡ codes "S(A)" ∷ [] }
@@ -102,6 +108,94 @@ pub fn examples_of_values()
         ≡ Some reason.Assigned }
     ensures refused { left_out plain_choices (bare (codes "ASSIGN") []) ≡ None }
     ensures noted { detail reason.Assigned (codes "X" ∷ (codes "5" ∷ [])) ≡ codes "X is 5" }
+{}
+
+/// A statement without polar or incremental coordinates stays as it is.
+pub fn cartesian_statements_stay()
+    ensures { (ref : Reference) (s : Statement) → is_other_coordinates s.params ≡ false
+        → cartesian ref s ≡ s }
+{}
+
+/// Examples: polar coordinates by plane and unit.
+#[tactic(auto, unfolding(program_values::specs::Values::value_within, program_values::specs::Values::numeral_value, program_values::specs::Parts::parts_of, program_values::specs::Numbers::reduced, program_values::specs::Numbers::gcd_within, program_values::specs::Numbers::nearest_millionth, program_values::specs::Angles::cosine, program_values::specs::Angles::sine, program_values::specs::Angles::in_radians, program_values::specs::Angles::series))]
+pub fn examples_of_polar_coordinates()
+    ensures zero { goto_spot no_reference (polar (codes "10") (codes "0") (codes "5"))
+        ≡ Ok (spot (pos 10) (pos 0) (pos 5)) }
+    ensures right { goto_spot no_reference (polar (codes "10") (codes "90") (codes "5"))
+        ≡ Ok (spot (pos 0) (pos 10) (pos 5)) }
+    ensures thirty { goto_spot no_reference (polar (codes "10") (codes "30") (codes "-5"))
+        ≡ Ok (record { x = record { over = pos 4330127; under = 500000 };
+        y = whole_number (pos 5); z = whole_number (negsuc 4) }) }
+    ensures opposite { goto_spot no_reference (polar (codes "-10") (codes "90") (codes "5"))
+        ≡ Ok (spot (pos 0) (negsuc 9) (pos 5)) }
+    ensures second_plane { goto_spot (record no_reference { plane = Some plane.Yz })
+        (polar (codes "10") (codes "90") (codes "5")) ≡ Ok (spot (pos 5) (pos 0) (pos 10)) }
+    ensures third_plane { goto_spot (record no_reference { plane = Some plane.Zx })
+        (polar (codes "10") (codes "90") (codes "5")) ≡ Ok (spot (pos 10) (pos 5) (pos 0)) }
+    ensures radians { goto_spot (record no_reference { unit = Some angle.Radians })
+        (polar (codes "10") (codes ".5") (codes "0"))
+        ≡ Ok (record { x = record { over = pos 4387913; under = 500000 };
+        y = record { over = pos 958851; under = 200000 }; z = whole_number (pos 0) }) }
+    ensures minutes { goto_spot (record no_reference { unit = None })
+        (polar (codes "10") (codes "0") (codes "5")) ≡ Err NotExpression }
+    ensures other_plane { goto_spot (record no_reference { plane = None })
+        (polar (codes "10") (codes "0") (codes "5")) ≡ Err NotExpression }
+    ensures touch { cartesian_touch no_reference (codes "POL" ∷ (codes "10" ∷ (codes "90"
+        ∷ (codes "5" ∷ (codes "0" ∷ (codes "-1" ∷ (codes "0" ∷ [])))))))
+        ≡ Ok (spot_params (spot (pos 0) (pos 10) (pos 5)) (codes "0" ∷ (codes "-1"
+        ∷ (codes "0" ∷ [])))) }
+{}
+
+/// Examples: a move by a distance, from where a `GOTO` ends.
+#[tactic(auto, unfolding(program_values::specs::Values::value_within, program_values::specs::Values::numeral_value, program_values::specs::Parts::parts_of, program_values::specs::Numbers::reduced, program_values::specs::Numbers::gcd_within, program_values::specs::Numbers::nearest_millionth, dmis_program::specs::Positions::direction_of, dmis_program::specs::Positions::component_of))]
+pub fn examples_of_moves_by_distances()
+    ensures along { goto_spot (at_place a_place) (by_ten (codes "0") (codes "-1") (codes "0"))
+        ≡ Ok (record { x = whole_number (pos 1); y = record { over = negsuc 14; under = 2 };
+        z = whole_number (pos 3) }) }
+    ensures across { goto_spot (at_place a_place) (by_ten (codes ".6") (codes "0") (codes ".8"))
+        ≡ Ok (record { x = whole_number (pos 7); y = record { over = pos 5; under = 2 };
+        z = whole_number (pos 11) }) }
+    ensures four_places { goto_spot (at_place a_place)
+        (by_ten (codes ".7071") (codes ".7071") (codes "0"))
+        ≡ Ok (record { x = record { over = pos 8071; under = 1000 };
+        y = record { over = pos 9571; under = 1000 }; z = whole_number (pos 3) }) }
+    ensures short { goto_spot (at_place a_place) (by_ten (codes ".707") (codes ".707") (codes "0"))
+        ≡ Err NotExpression }
+    ensures long { goto_spot (at_place a_place) (by_ten (codes "0") (codes "1.0001") (codes "0"))
+        ≡ Err NotExpression }
+    ensures nowhere { goto_spot (at_place None) (by_ten (codes "0") (codes "1") (codes "0"))
+        ≡ Err NotExpression }
+{}
+
+/// Examples: what coordinates refer to, by the statements above.
+#[tactic(auto, unfolding(dmis_program::specs::Keywords::keyword_of))]
+pub fn examples_of_references()
+    ensures first { reference_of [] ≡ no_reference }
+    ensures moved { (reference_of (a_move ∷ [])).place ≡ a_place }
+    ensures bare_move { (reference_of (bare (codes "GOTO") (codes "1" ∷ (codes "2.5"
+        ∷ (codes "3" ∷ []))) ∷ [])).place ≡ a_place }
+    ensures still { (reference_of (bare (codes "FEDRAT") [] ∷ (bare (codes "MEAS") []
+        ∷ (bare (codes "ENDMES") [] ∷ (declare_x ∷ (bare (codes "FLY") []
+        ∷ (a_move ∷ []))))))).place ≡ a_place }
+    ensures touched { (reference_of (bare (codes "ENDMES") [] ∷ (a_touch ∷ (a_move ∷ [])))).place
+        ≡ None }
+    ensures recalled { (reference_of (recall_a ∷ (a_move ∷ []))).place ≡ None }
+    ensures made { (reference_of (make_a ∷ (a_move ∷ []))).place ≡ None }
+    ensures selected { (reference_of (bare (codes "SNSLCT") [] ∷ (a_move ∷ []))).place ≡ None }
+    ensures in_units { (reference_of (bare (codes "UNITS") [] ∷ (a_move ∷ []))).place ≡ None }
+    ensures by_hand { (reference_of (mode_man ∷ (a_move ∷ []))).place ≡ None }
+    ensures home { (reference_of (bare (codes "GOHOME") [] ∷ (a_move ∷ []))).place ≡ None }
+    ensures plane { (reference_of (a_move ∷ (bare (codes "WKPLAN") (codes "ZXPLAN" ∷ [])
+        ∷ (bare (codes "WKPLAN") (codes "YZPLAN" ∷ []) ∷ [])))).plane ≡ Some plane.Zx }
+    ensures other_plane { plane_named (codes "XZPLAN" ∷ []) ≡ None }
+    ensures planes { map plane_named ((codes "XYPLAN" ∷ []) ∷ ((codes "YZPLAN" ∷ []) ∷ []))
+        ≡ Some plane.Xy ∷ (Some plane.Yz ∷ []) }
+    ensures unit { (reference_of (a_move ∷ (bare (codes "UNITS") (codes "MM" ∷ (codes "ANGRAD"
+        ∷ [])) ∷ []))).unit ≡ Some angle.Radians }
+    ensures degrees { (reference_of (bare (codes "UNITS") (codes "MM" ∷ (codes "ANGDEC" ∷ []))
+        ∷ (bare (codes "UNITS") (codes "MM" ∷ (codes "ANGRAD" ∷ [])) ∷ []))).unit
+        ≡ Some angle.Degrees }
+    ensures minutes { unit_named (codes "MM" ∷ (codes "ANGDMS" ∷ [])) ≡ None }
 {}
 
 /// Where the operator would measure, no touch stays, if it is asked for; elsewhere a statement is left out for itself alone.
