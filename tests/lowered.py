@@ -1,13 +1,14 @@
 """Programs with variables, branches, selections, loops and jumps, made at random and lowered.
 
-Each is carried out here, too, by a second reading: of the tree that its text is written from, with exact fractions. The moves, their lines
-and their order have to be those of `dme lower`; or the line of the first statement that cannot be carried out that of its refusal. Some of
-the programs are flat already. What is lowered is lowered again, and stays.
+Each is carried out here, too, by a second reading: of the tree that its text is written from, with exact fractions, and with power series for
+the functions. The moves, their lines and their order have to be those of `dme lower`; or the line of the first statement that cannot be
+carried out that of its refusal. Some of the programs are flat already. What is lowered is lowered again, and stays.
 
 `run` calls this with a few programs; by itself: tests/lowered.py [COUNT], 3000 by default.
 """
 
 import fractions
+import math
 import random
 import subprocess
 import sys
@@ -18,6 +19,62 @@ from growths import PROGRAM, Wrong, must
 WHOLE, REAL = ("I", "J", "K"), ("X", "Y")
 COMPARISONS = {".LT.": "__lt__", ".LE.": "__le__", ".EQ.": "__eq__", ".NE.": "__ne__", ".GE.": "__ge__", ".GT.": "__gt__"}
 MOST = 10_000
+
+
+class NoValue(Exception):
+    """An expression has no value, or none that is taken."""
+
+
+def rounded(value, places):
+    """The nearest decimal of that many places; of two the one farther from zero."""
+    whole = int(abs(value) * 10**places + fractions.Fraction(1, 2))
+    return fractions.Fraction(whole if value >= 0 else -whole, 10**places)
+
+
+def bounded(value):
+    """A number that is taken: numerator and denominator are up to 10^18."""
+    if max(abs(value.numerator), value.denominator) > 10**18:
+        raise NoValue
+    return value
+
+
+def inverse_tangent(number):
+    """The arc tangent of one divided by a number."""
+    return sum(fractions.Fraction((-1) ** it, (2 * it + 1) * number ** (2 * it + 1)) for it in range(40))
+
+
+PI = 16 * inverse_tangent(5) - 4 * inverse_tangent(239)
+
+
+def wave(angle, first):
+    """The sine (from the first power on) or the cosine (from the power of zero on) of radians, as a power series."""
+    if abs(angle) > 7:
+        raise NoValue
+    terms = ((-1) ** it * angle ** (2 * it + first) / math.factorial(2 * it + first) for it in range(26))
+    return rounded(sum(terms), 12)
+
+
+def root(number):
+    if not 0 <= number <= 10**12:
+        raise NoValue
+    return fractions.Fraction(math.isqrt(number.numerator * 10**24 // number.denominator), 10**12)
+
+
+def turned(angle, factor):
+    """An angle in another unit."""
+    if abs(angle) > 10**6:
+        raise NoValue
+    return rounded(angle * factor, 12)
+
+
+FUNCTIONS = {
+    "SQRT({})": root,
+    "COS(DTOR({}))": lambda it: wave(turned(it, PI / 180), 0),
+    "SIN(DTOR({}))": lambda it: wave(turned(it, PI / 180), 1),
+    "COS({}/4)": lambda it: wave(it / 4, 0),
+    "SIN({}/4)": lambda it: wave(it / 4, 1),
+    "RTOD({})": lambda it: turned(it, 180 / PI),
+}
 
 
 class Refused(Exception):
@@ -76,9 +133,11 @@ class Made:
         return f" .{kind.upper()}. ".join(texts), rank, lambda values: join([it[2](values) for it in parts])
 
     def number(self):
-        """The text of a coordinate, which is a whole number of micrometres, and its value in millimetres."""
+        """The text of a coordinate, and its value in millimetres."""
         inner, name = self.expression(WHOLE), self.random.choice(REAL)
+        text, function = self.random.choice(list(FUNCTIONS.items()))
         return self.random.choice([
+            (f"{name}*{text.format(f'({inner[0]})')}", lambda values: bounded(values[name] * bounded(function(inner[2](values))))),
             (inner[0], inner[2]),
             (f"({inner[0]})/8", lambda values: inner[2](values) / 8),
             (f"{name}-({inner[0]})", lambda values: values[name] - inner[2](values)),
@@ -89,10 +148,7 @@ class Made:
         line = self.add(f"GOTO/{','.join(it[0] for it in texts)}")
 
         def carry_out(flow):
-            values = [it[1](flow.values) * 1000 for it in texts]
-            if any(abs(it) > 1_000_000_000 for it in values):
-                raise Refused(line)
-            flow.move(line, [int(it) for it in values])
+            flow.move(line, flow.micrometres(line, texts))
 
         return carry_out
 
@@ -105,7 +161,8 @@ class Made:
 
         def carry_out(flow):
             flow.out.append(f"MEAS/POINT,F(P{flow.values[name]}),1 $$ line {first}")
-            flow.out.append(f"PTMEAS/CART,{','.join(written(int(it[1](flow.values) * 1000)) for it in texts)},0.000000,0.000000,1.000000 $$ line {line}")
+            values = ",".join(map(written, flow.micrometres(line, texts)))
+            flow.out.append(f"PTMEAS/CART,{values},0.000000,0.000000,1.000000 $$ line {line}")
             flow.out.append(f"ENDMES $$ line {last}")
 
         return carry_out
@@ -245,6 +302,16 @@ class Flow:
 
     def move(self, line, values):
         self.out.append(f"GOTO/CART,{','.join(written(it) for it in values)} $$ line {line}")
+
+    def micrometres(self, line, texts):
+        """Values of coordinates up to a kilometre: one that is not whole is written with six decimals, and read to a micrometre."""
+        try:
+            values = [int(rounded(rounded(it[1](self.values), 6), 3) * 1000) for it in texts]
+        except NoValue:
+            raise Refused(line) from None
+        if any(abs(it) > 1_000_000_000 for it in values):
+            raise Refused(line)
+        return values
 
     def assign(self, line, name, value):
         whole = abs(value.numerator) // value.denominator * (1 if value >= 0 else -1)
