@@ -1,7 +1,7 @@
 -- Polar and incremental coordinates (ISO 22093, GOTO and PTMEAS): the Cartesian ones that stand for them, to the nearest millionth. A polar angle
 -- is from the first axis of the working plane towards its second (X and Y, Y and Z, Z and X); the height is along the third. A move by a
 -- distance is from where a `GOTO` ends, if nothing has moved since, and no coordinates changed (this profile).
-use Rattle.std.specs.Prelude.{◌≡◌, ℕ, ◌*◌, ◌+◌, Bool, true, false, ◌&&◌, ◌||◌, List, [], ◌∷◌, ◌++◌, length, nat_le, unsigned_abs, codes, Option, Some, None}
+use Rattle.std.specs.Prelude.{ℕ, ◌*◌, ◌+◌, Bool, true, false, ◌&&◌, List, [], ◌∷◌, ◌++◌, length, nat_le, unsigned_abs, codes, Option, Some, None}
 use Rattle.std.specs.Prelude.{is_none, Result, Ok, Err, ℤ, if◌then◌else◌}
 use Rattle.std.specs.List.{list_all, list_any}
 use Rattle.std.specs.Str.{bytes_eq}
@@ -19,7 +19,7 @@ use Rattle.program_values.specs.Numbers.{Fraction, and_then, numeral, rounded_pr
 use Rattle.program_values.specs.Values.{value_of}
 use Rattle.program_values.specs.declared.faults.ValueFault.{ValueFault}
 use Rattle.program_values.specs.declared.faults.ValueFault.TheVariants.{NotExpression}
-use Rattle.program_lowering.specs.Flats.{flat, flat_line, flat_text}
+use Rattle.program_lowering.specs.Flats.{flat, flat_text}
 use Rattle.program_lowering.specs.OperatorTexts.{is_plain}
 use Rattle.program_lowering.specs.declared.cartesian.AngleUnit.{AngleUnit}
 use Rattle.program_lowering.specs.declared.cartesian.AngleUnit.TheVariants as angle

@@ -124,8 +124,11 @@ pub fn examples_of_polar_coordinates()
     ensures right { goto_spot no_reference (polar (codes "10") (codes "90") (codes "5"))
         ≡ Ok (spot (pos 0) (pos 10) (pos 5)) }
     ensures thirty { goto_spot no_reference (polar (codes "10") (codes "30") (codes "-5"))
-        ≡ Ok (record { x = record { over = pos 4330127; under = 500000 };
-        y = whole_number (pos 5); z = whole_number (negsuc 4) }) }
+        ≡ Ok (record {
+          x = record { over = pos 4330127; under = 500000 };
+          y = whole_number (pos 5);
+          z = whole_number (negsuc 4);
+        }) }
     ensures opposite { goto_spot no_reference (polar (codes "-10") (codes "90") (codes "5"))
         ≡ Ok (spot (pos 0) (negsuc 9) (pos 5)) }
     ensures second_plane { goto_spot (record no_reference { plane = Some plane.Yz })
@@ -134,8 +137,11 @@ pub fn examples_of_polar_coordinates()
         (polar (codes "10") (codes "90") (codes "5")) ≡ Ok (spot (pos 10) (pos 5) (pos 0)) }
     ensures radians { goto_spot (record no_reference { unit = Some angle.Radians })
         (polar (codes "10") (codes ".5") (codes "0"))
-        ≡ Ok (record { x = record { over = pos 4387913; under = 500000 };
-        y = record { over = pos 958851; under = 200000 }; z = whole_number (pos 0) }) }
+        ≡ Ok (record {
+          x = record { over = pos 4387913; under = 500000 };
+          y = record { over = pos 958851; under = 200000 };
+          z = whole_number (pos 0);
+        }) }
     ensures minutes { goto_spot (record no_reference { unit = None })
         (polar (codes "10") (codes "0") (codes "5")) ≡ Err NotExpression }
     ensures other_plane { goto_spot (record no_reference { plane = None })
@@ -147,18 +153,27 @@ pub fn examples_of_polar_coordinates()
 {}
 
 /// Examples: a move by a distance, from where a `GOTO` ends.
-#[tactic(auto, unfolding(program_values::specs::Values::value_within, program_values::specs::Values::numeral_value, program_values::specs::Parts::parts_of, program_values::specs::Numbers::reduced, program_values::specs::Numbers::gcd_within, program_values::specs::Numbers::nearest_millionth, dmis_program::specs::Positions::direction_of, dmis_program::specs::Positions::component_of))]
+#[tactic(auto, unfolding(program_values::specs::Values::value_within, program_values::specs::Values::numeral_value, program_values::specs::Parts::parts_of, program_values::specs::Numbers::reduced, program_values::specs::Numbers::gcd_within, program_values::specs::Numbers::nearest_millionth, dmis_program::specs::Positions::direction_of, dmis_program::specs::Positions::component_of, fixed_um::specs::Scan::exponent_of, fixed_um::specs::Scan::numeral_of))]
 pub fn examples_of_moves_by_distances()
     ensures along { goto_spot (at_place a_place) (by_ten (codes "0") (codes "-1") (codes "0"))
-        ≡ Ok (record { x = whole_number (pos 1); y = record { over = negsuc 14; under = 2 };
-        z = whole_number (pos 3) }) }
+        ≡ Ok (record {
+          x = whole_number (pos 1);
+          y = record { over = negsuc 14; under = 2 };
+          z = whole_number (pos 3);
+        }) }
     ensures across { goto_spot (at_place a_place) (by_ten (codes ".6") (codes "0") (codes ".8"))
-        ≡ Ok (record { x = whole_number (pos 7); y = record { over = pos 5; under = 2 };
-        z = whole_number (pos 11) }) }
+        ≡ Ok (record {
+          x = whole_number (pos 7);
+          y = record { over = pos 5; under = 2 };
+          z = whole_number (pos 11);
+        }) }
     ensures four_places { goto_spot (at_place a_place)
         (by_ten (codes ".7071") (codes ".7071") (codes "0"))
-        ≡ Ok (record { x = record { over = pos 8071; under = 1000 };
-        y = record { over = pos 9571; under = 1000 }; z = whole_number (pos 3) }) }
+        ≡ Ok (record {
+          x = record { over = pos 8071; under = 1000 };
+          y = record { over = pos 9571; under = 1000 };
+          z = whole_number (pos 3);
+        }) }
     ensures short { goto_spot (at_place a_place) (by_ten (codes ".707") (codes ".707") (codes "0"))
         ≡ Err NotExpression }
     ensures long { goto_spot (at_place a_place) (by_ten (codes "0") (codes "1.0001") (codes "0"))
