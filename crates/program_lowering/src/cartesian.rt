@@ -52,7 +52,7 @@ impl Model for PlaceTexts {
 }
 
 /// Three coordinates.
-#[derive(Clone, Copy)]
+#[derive(Drop)]
 struct SpotNumbers {
     x: Number,
     y: Number,
@@ -327,9 +327,9 @@ fn push_number(out: &mut Vec<u8>, number: Number) -> Result<bool, AllocError>
 }
 
 /// The text of a word with Cartesian coordinates, and whether it is read back.
-fn spot_text(alloc: Global, word: &[u8], spot: SpotNumbers) -> Result<(Vec<u8>, bool), AllocError>
-    ensures { IfOk result (λ r. (r.0.items ≡ word.now ++ marked 47 (spec.spot_params spot []))
-        × (r.1 ≡ list_all (is_plain false) (spec.spot_params spot []))) }
+fn spot_text(alloc: Global, word: &[u8], spot: &SpotNumbers) -> Result<(Vec<u8>, bool), AllocError>
+    ensures { IfOk result (λ r. (r.0.items ≡ word.now ++ marked 47 (spec.spot_params spot.now []))
+        × (r.1 ≡ list_all (is_plain false) (spec.spot_params spot.now []))) }
 {
     let mut text = Vec::from_slice(alloc, word)?;
     text.extend_from_slice(b"/CART")?;
@@ -339,9 +339,9 @@ fn spot_text(alloc: Global, word: &[u8], spot: SpotNumbers) -> Result<(Vec<u8>, 
     Ok((text, x && y && z))
 }
 
-fn spot_line(alloc: Global, word: &[u8], spot: SpotNumbers) -> Result<Option<Vec<u8>>, AllocError>
+fn spot_line(alloc: Global, word: &[u8], spot: &SpotNumbers) -> Result<Option<Vec<u8>>, AllocError>
     ensures { IfOk result (λ line. option_map (λ l. l.items) line
-        ≡ code.line_if_fits word.now (spec.spot_params spot [])) }
+        ≡ code.line_if_fits word.now (spec.spot_params spot.now [])) }
 {
     let (text, plain) = spot_text(alloc, word, spot)?;
     fitting_line(alloc, word, text, plain)
@@ -350,13 +350,13 @@ fn spot_line(alloc: Global, word: &[u8], spot: SpotNumbers) -> Result<Option<Vec
 fn directed_line(
     alloc: Global,
     word: &[u8],
-    spot: SpotNumbers,
+    spot: &SpotNumbers,
     i: &[u8],
     j: &[u8],
     k: &[u8],
 ) -> Result<Option<Vec<u8>>, AllocError>
     ensures { IfOk result (λ line. option_map (λ l. l.items) line
-        ≡ code.line_if_fits word.now (spec.spot_params spot (i.now ∷ (j.now ∷ (k.now ∷ []))))) }
+        ≡ code.line_if_fits word.now (spec.spot_params spot.now (i.now ∷ (j.now ∷ (k.now ∷ []))))) }
 {
     let (mut text, plain) = spot_text(alloc, word, spot)?;
     let i = push_param(&mut text, i)?;
@@ -437,7 +437,7 @@ impl Bearings {
         let Ok(spot) = self.goto_spot(alloc, params) else {
             return Ok(None);
         };
-        spot_line(alloc, word, spot)
+        spot_line(alloc, word, &spot)
     }
 
     fn touch_line(
@@ -451,12 +451,12 @@ impl Bearings {
     {
         match params {
             [form, r, a, h] if is_text(form, "POL") => match self.polar(alloc, r, a, h) {
-                Ok(spot) => spot_line(alloc, word, spot),
+                Ok(spot) => spot_line(alloc, word, &spot),
                 Err(_) => Ok(None),
             },
             [form, r, a, h, i, j, k] if is_text(form, "POL") => {
                 match self.polar(alloc, r, a, h) {
-                    Ok(spot) => directed_line(alloc, word, spot, i, j, k),
+                    Ok(spot) => directed_line(alloc, word, &spot, i, j, k),
                     Err(_) => Ok(None),
                 }
             }
