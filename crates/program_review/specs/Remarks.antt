@@ -1,5 +1,5 @@
 -- What a review remarks on, in the order of the program's lines (this profile).
-use Rattle.std.specs.Prelude.{ℕ, ◌+◌, Bool, true, false, List, [], ◌∷◌, Option, Some, None, if◌then◌else◌}
+use Rattle.std.specs.Prelude.{ℕ, Bool, true, false, not, List, [], ◌∷◌, length, filter, take_while, Option, Some, None}
 use Rattle.std.specs.Ordering.{nat_cmp}
 use Rattle.std.specs.List.Sorted.{IsPermutation, IsNonDecreasingBy, IsStableByKey}
 use Rattle.program_review.specs.declared.notices.Passed.TheVariants as passed
@@ -24,14 +24,13 @@ is_clearing (what.Passed passed.Clearing) = true
 is_clearing (what.Passed passed.ClearingOff) = true
 is_clearing _ = false
 
-abbrev pub one_straight : What → ℕ
-one_straight (what.Straight travel) = 1
-one_straight _ = 0
+abbrev pub is_straight : What → Bool
+is_straight (what.Straight travel) = true
+is_straight _ = false
 
 -- how many straight travels come before the next statement on clearing
 abbrev pub straights : List Remark → ℕ
-straights [] = 0
-straights (r ∷ later) = if is_clearing r.what then 0 else one_straight r.what + straights later
+straights later = length (filter (λ r. is_straight r.what) (take_while (λ r. not (is_clearing r.what)) later))
 
 -- a statement on clearing is remarked on with the number of straight travels that it would have replaced
 abbrev pub counted : What → List Remark → What

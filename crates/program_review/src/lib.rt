@@ -1,13 +1,13 @@
 //! What stands between a DMIS program (ISO 22093) and its run, all at once, and the report on it.
 //!
-//! - `readings`: a program's text, read once
+//! - `readings`: a program's text, read once; `said`: what its statements say by themselves
 //! - `refusals`: every refusal of a text; `standing`: what is carried from statement to statement
 //! - `notices`: statements that are passed over though they change something
 //! - `odd`: statements that are probably not meant as they are written
 //! - `under_setup`: what a setup lacks for a program
 //! - `recalling`: the frames of a setup that a program does not recall
-//! - `groups`: what refused statements are for; `strays`: the touches that would be measured elsewhere without them
-//! - `travels`: the straight travels from feature to feature
+//! - `groups`: what refused statements are for
+//! - `travels`: the straight travels from feature to feature, and the touches that would be measured elsewhere without refused statements
 //! - `variables`: the names that statements declare or assign, and the moves that are refused for one
 //! - `remarks`: all of this, in the order of the program's lines
 //! - `walking`: the remarks with their sentences; `sentences`: those on statements; `summary`: those on groups
@@ -27,9 +27,9 @@ mod recalling;
 mod refusals;
 mod remarks;
 mod reports;
+mod said;
 mod sentences;
 mod standing;
-mod strays;
 mod summary;
 mod tasks;
 mod texts;

@@ -4,8 +4,7 @@ ghost use Rattle.std.specs.Prelude.{◌≡◌, ◌++◌, ◌∷◌, [], codes, s
 ghost use Rattle.std.specs.List.{take_while};
 ghost use Rattle.json.specs.Token.{key, string};
 ghost use Rattle.deviations.specs.Json.{Puts};
-ghost use Rattle.program_review.specs.Printed.{file_of, line_of, kind_text, title_of, title_text, number_text, finding_line, finding_lines, finding_tokens, array_tokens, line_member, code_member, printed, names_of};
-ghost use Rattle.json.specs.Print.{print};
+ghost use Rattle.program_review.specs.Printed.{file_of, line_of, kind_text, title_of, title_text, number_text, finding_line, finding_tokens, line_member, code_member, printed, names_of};
 
 use crate::remarks::{Finding, What};
 use json::Writer;
@@ -88,24 +87,6 @@ fn finding_line(
     format!(in alloc; "{file}{number}: {kind}: {title}{said}\n")
 }
 
-fn lines_text(
-    alloc: Global,
-    style: FindingStyle<'_>,
-    findings: &[Finding],
-) -> Result<Vec<u8>, AllocError>
-    ensures { IfOk result (λ text. text.items ≡ finding_lines
-        (names_of style.entry.program.now style.entry.setup.now) findings.now) }
-{
-    let mut text = Vec::new(alloc);
-    let mut left = findings;
-    while let [finding, others @ ..] = left {
-        let line = finding_line(alloc, style, finding)?;
-        text.extend_from_slice(line.as_bytes())?;
-        left = others;
-    }
-    Ok(text)
-}
-
 fn put_text(json: &mut Writer, name: &str, text: &str) -> Result<(), AllocError>
     ensures { Puts result json.old json.new (key name.now ∷ string text.now ∷ []) }
 {
@@ -165,27 +146,6 @@ fn put_finding(
     json.end_object()
 }
 
-fn array_text(
-    alloc: Global,
-    style: FindingStyle<'_>,
-    findings: &[Finding],
-) -> Result<Vec<u8>, AllocError>
-    ensures { IfOk result (λ text. text.items ≡ print (array_tokens
-        (names_of style.entry.program.now style.entry.setup.now) findings.now) ++ codes "\n") }
-{
-    let mut json = Writer::new(Vec::new(alloc));
-    json.begin_array()?;
-    let mut left = findings;
-    while let [finding, others @ ..] = left {
-        put_finding(alloc, &mut json, style, finding)?;
-        left = others;
-    }
-    json.end_array()?;
-    let mut text = json.into_inner();
-    text.extend_from_slice(b"\n")?;
-    Ok(text)
-}
-
 pub(crate) fn printed(
     alloc: Global,
     style: FindingStyle<'_>,
@@ -195,7 +155,24 @@ pub(crate) fn printed(
         (names_of style.entry.program.now style.entry.setup.now) findings.now) }
 {
     match style.form {
-        FindingForm::Lines => lines_text(alloc, style, findings),
-        FindingForm::Json => array_text(alloc, style, findings),
+        FindingForm::Lines => {
+            let mut text = Vec::new(alloc);
+            for finding in findings {
+                let line = finding_line(alloc, style, finding)?;
+                text.extend_from_slice(line.as_bytes())?;
+            }
+            Ok(text)
+        }
+        FindingForm::Json => {
+            let mut json = Writer::new(Vec::new(alloc));
+            json.begin_array()?;
+            for one in findings {
+                put_finding(alloc, &mut json, style, one)?;
+            }
+            json.end_array()?;
+            let mut text = json.into_inner();
+            text.extend_from_slice(b"\n")?;
+            Ok(text)
+        }
     }
 }

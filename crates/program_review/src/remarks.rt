@@ -1,7 +1,7 @@
 // What a review remarks on, in the order of the program's lines.
 
 ghost use Rattle.std.specs.Prelude.{◌≡◌, ◌++◌, OnOk};
-ghost use Rattle.program_review.specs.Remarks.{remark_on, AreByLine, is_clearing, one_straight, straights, counted};
+ghost use Rattle.program_review.specs.Remarks.{remark_on, AreByLine, is_clearing, straights, counted};
 
 use crate::groups::Group;
 use crate::notices::Passed;
@@ -78,18 +78,10 @@ fn is_clearing(what: What) -> bool
 fn straights(later: &[Remark]) -> usize
     ensures { result ≡ straights later.now }
 {
-    let mut count = 0;
-    let mut left = later;
-    while let [remark, rest @ ..] = left {
-        if is_clearing(remark.what) {
-            break;
-        }
-        if let What::Straight(_) = remark.what {
-            count += 1;
-        }
-        left = rest;
-    }
-    count
+    let before = later.iter().take_while(|r| !is_clearing(r.what));
+    before
+        .filter(|r| matches!(r.what, What::Straight(_)))
+        .count()
 }
 
 pub(crate) fn counted(what: What, later: &[Remark]) -> What

@@ -6,7 +6,7 @@ ghost use Rattle.program_review.specs.Summary.{number_of, is_of, has_lines, sums
 
 use crate::groups::Group;
 use crate::remarks::{Finding, Remark, What};
-use crate::strays::Stray;
+use crate::travels::Stray;
 use dmis_program::Refusal;
 use std::alloc::{AllocError, Global};
 
@@ -48,20 +48,17 @@ fn strays_text(alloc: Global, strays: &[Stray]) -> Result<String, AllocError> {
 
 /// What deleting the lines that leave touches to the operator would change.
 fn hand_text(alloc: Global, strays: &[Stray]) -> Result<String, AllocError> {
-    let mut count: usize = 0;
-    let (mut first, mut last): (u64, u64) = (0, 0);
+    let mut lines = Vec::new(alloc);
     for stray in strays {
         if let Stray::ByHand(line) = stray {
-            first = if count == 0 { *line } else { first };
-            last = *line;
-            count = count.saturating_add(1);
+            lines.push(*line)?;
         }
     }
-    let touches = touches_text(alloc, count)?;
-    let lines = match count {
-        0 => touches,
-        1 => format!(in alloc; "{touches}, at line {first}")?,
-        _ => format!(in alloc; "{touches}, from line {first} to line {last}")?,
+    let touches = touches_text(alloc, lines.len())?;
+    let lines = match lines.as_slice() {
+        [] => touches,
+        [line] => format!(in alloc; "{touches}, at line {line}")?,
+        [first, .., last] => format!(in alloc; "{touches}, from line {first} to line {last}")?,
     };
     format!(in alloc;
         "if deleted, or with PROG, the machine drives by itself to {lines}: MAN leaves this to the operator, since the place of the part is not known."
@@ -155,8 +152,7 @@ fn lines_text(alloc: Global, found: &[Remark], group: Group) -> Result<String, A
             let line = one.line;
             let mark = if count == 1 { "" } else { ", " };
             if count <= MOST_LINES {
-                let number = format!(in alloc; "{mark}{line}")?;
-                numbers.push_str(number.as_str())?;
+                write!(numbers, "{mark}{line}")?;
             }
         }
     }
