@@ -1,7 +1,6 @@
 pub mod TaskLines
 pub mod Texts
 pub mod PlanLines
-pub mod Readings
 pub mod Refusals
 pub mod Notices
 pub mod UnderSetup

@@ -1,6 +1,6 @@
 //! What stands between a DMIS program (ISO 22093) and its run, all at once, and the report on it.
 //!
-//! - `readings`: a program's text, read once; `said`: what its statements say by themselves
+//! - `said`: what statements say by themselves
 //! - `refusals`: every refusal of a text; `standing`: what is carried from statement to statement
 //! - `notices`: statements that are passed over though they change something
 //! - `odd`: statements that are probably not meant as they are written
@@ -22,7 +22,6 @@ pub mod laws;
 mod notices;
 mod odd;
 mod printing;
-mod readings;
 mod recalling;
 mod refusals;
 mod remarks;
@@ -42,7 +41,7 @@ pub use groups::{Group, is_among, is_text};
 pub use notices::{Passed, begins_with};
 pub use odd::Odd;
 pub use printing::{FindingForm, FindingStyle};
-pub use readings::{Reading, read};
+pub use refusal_guide::{Reading, read};
 pub use remarks::{Remark, What};
 pub use reports::{Report, ReviewTexts, review_report};
 pub use tasks::{Task, TaskLine, command_lines, task_lines};

@@ -6,13 +6,13 @@ ghost use Rattle.dmis_program.specs.Meaning.{ended};
 ghost use Rattle.program_review.specs.Refusals.{refusals_from, at_start, listed, due, after};
 
 use crate::groups::Group;
-use crate::readings::Reading;
 use crate::remarks::{Remark, What, push_remark};
 use crate::standing::Standing;
 use crate::variables::{group_below, push_declared};
 use dmis_program::{Frames, Keyword, Refusal, StatementFault, keyword_of_word};
 use dmis_text::{Statement, TextFault};
 use fixed_um::Name;
+use refusal_guide::Reading;
 use std::alloc::{AllocError, Global};
 
 fn pass(

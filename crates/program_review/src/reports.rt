@@ -13,7 +13,6 @@ ghost use Rattle.program_review.specs.Travels.{travels_of};
 use crate::notices::push_passed;
 use crate::odd::odd_statements;
 use crate::printing::{FindingStyle, printed};
-use crate::readings::read;
 use crate::recalling::add_unused_frames;
 use crate::refusals::refusals;
 use crate::remarks::{Remark, What, sort_by_line};
@@ -23,6 +22,7 @@ use crate::travels::{Stray, push_travels};
 use crate::under_setup::push_lacks;
 use crate::walking::findings_in;
 use dmis_program::Frames;
+use refusal_guide::read;
 use std::alloc::{AllocError, Global};
 use tool_rack::Setup;
 

@@ -4,13 +4,15 @@ ghost use Rattle.std.specs.Prelude.{◌≡◌, ◌++◌, OnOk, find};
 ghost use Rattle.dmis_program.specs.Keywords.{keyword_of, is_among};
 ghost use Rattle.dmis_program.specs.Parameters.{name_of, without_cart};
 ghost use Rattle.tool_rack.specs.Setups.{has_name};
-ghost use Rattle.program_review.specs.Variables.{declaring, assigning, as_list, names_in, names_by, is_no_length, refused_argument};
+ghost use Rattle.program_review.specs.Variables.{declaring, assigning, as_list, names_in, names_by, refused_argument};
+ghost use Rattle.refusal_guide.specs.Lengths.{is_no_length};
 ghost use Rattle.program_review.specs.Variables.{is_named, is_computed_move, group_below};
 
 use crate::groups::{Group, group_of, is_among, is_text};
 use dmis_program::{Keyword, Refusal};
 use dmis_text::{Statement, Text};
-use fixed_um::{Name, Um, read_um};
+use fixed_um::Name;
+use refusal_guide::is_no_length;
 use std::alloc::AllocError;
 
 fn is_declaring(word: &[u8]) -> bool
@@ -57,15 +59,6 @@ pub(crate) fn push_declared(names: &mut Vec<Name>, statement: &Statement) -> Res
         return push_name(names, label);
     }
     Ok(())
-}
-
-fn is_no_length(text: &[u8]) -> bool
-    ensures { result ≡ is_no_length text.now }
-{
-    match read_um(text, Um::volume_limit()) {
-        Ok(_) => false,
-        Err(_) => true,
-    }
 }
 
 /// The parameters after a first `CART`.

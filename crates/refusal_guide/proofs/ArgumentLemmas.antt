@@ -1,6 +1,6 @@
--- The last apostrophe, and the last parameter.
-use Rattle.refusal_guide.proofs.Outside.{[], ◌++◌, ◌-◌, ◌<◌, ◌==◌, ◌∙◌, ◌∷◌, ◌≡◌, ◌≢◌, ◌≤◌, ap, arith, last_or, length, length-take-le, List, ne_eqb}
-use Rattle.refusal_guide.proofs.Outside.{not, Option, refl, slice_index, Some, suffix_len, sym, take, ℕ}
+-- The last apostrophe.
+use Rattle.refusal_guide.proofs.Outside.{◌-◌, ◌<◌, ◌==◌, ◌∙◌, ◌≡◌, ◌≢◌, ◌≤◌, ap, arith, length, length-take-le, List, ne_eqb}
+use Rattle.refusal_guide.proofs.Outside.{not, slice_index, suffix_len, sym, take, ℕ}
 use Rattle.std.proofs.lemmas.List.Sums.{suffix_len_is}
 use Rattle.refusal_guide.specs.Arguments.{last_apostrophe}
 
@@ -13,7 +13,3 @@ last_apostrophe-is text end h none there =
     (λ a. ap (λ (b : ℕ). not (b == 39)) (there a)) in
     let n : length text - suffix_len (λ (b : ℕ). not (b == 39)) text - 1 ≡ end - 1 = omega arith in
     sym (ap (λ (k : ℕ). length (take k text)) n ∙ length-take-le (end - 1) text (omega arith))
-
-pub last_or_at : (o : Option (List ℕ)) (front : List (List ℕ)) (last : List ℕ) → last_or o (front ++ last ∷ []) ≡ Some last
-last_or_at o [] last = refl
-last_or_at o (param ∷ front) last = last_or_at (Some param) front last

@@ -3,6 +3,7 @@ use Rattle.std.specs.Prelude.{ℕ, List, [], ◌∷◌, codes, Some, None}
 use Rattle.dmis_text.specs.declared.elements.Statement.{Statement}
 use Rattle.refusal_guide.specs.declared.causes.Cause.{Cause}
 use Rattle.refusal_guide.specs.Blocks.{OpenBlock}
+use Rattle.refusal_guide.specs.Spots.{Site}
 use Rattle.refusal_guide.specs.Words.{Caused}
 
 -- a word of this length at this place is at fault
@@ -25,9 +26,26 @@ ending = record { line = 1; label = None; word = codes "ENDMES"; params = [] }
 abbrev pub one_of_two : OpenBlock
 one_of_two = record { line = 1; wanted = codes "2"; touches = 1 }
 
--- a statement without a label
+-- a statement on these bytes
+abbrev pub at : List ℕ → Statement → Site
+at rest s = record { rest = rest; statement = s }
+
+-- one without a label
+abbrev pub on_line : ℕ → List ℕ → List (List ℕ) → Statement
+on_line line word params = record { line = line; label = None; word = word; params = params }
+
 abbrev pub unlabelled : List ℕ → List (List ℕ) → Statement
-unlabelled word params = record { line = 1; label = None; word = word; params = params }
+unlabelled word params = on_line 1 word params
+
+abbrev pub said : List ℕ → List ℕ → List (List ℕ) → Site
+said rest word params = at rest (unlabelled word params)
+
+-- `MEAS/POINT,F(A),2` and `PTMEAS` on a line
+abbrev pub beginning : ℕ → Statement
+beginning line = on_line line (codes "MEAS") (codes "POINT" ∷ (codes "F(A)" ∷ (codes "2" ∷ [])))
+
+abbrev pub touching : ℕ → Statement
+touching line = on_line line (codes "PTMEAS") (codes "CART" ∷ [])
 
 -- `GOTO/CART,1,x,y`
 abbrev pub moving : Statement

@@ -1,4 +1,5 @@
 pub mod Codes
+pub mod Readings
 pub mod Files
 pub mod Lines
 pub mod Windows

@@ -5,8 +5,9 @@
 //! - `places`: the line of a text that is refused, with a sentence on it, or the sentence by itself
 //! - `lines`, `words`: a line and a word as they are shown
 //! - `causes`: why a text is refused, and how it is said
-//! - `programs`: the sentences of programs; `statements`, `blocks`, `bad_bytes`: what they are about; `arguments`, `numerals`, `names`: why
-//!   a parameter does not fit
+//! - `readings`: a program's text, read once
+//! - `programs`: why a program is refused; `statements`, `blocks`, `bad_bytes`: what that is about; `arguments`, `numerals`, `names`: why a
+//!   parameter does not fit
 //! - `fields`: lines of fields, and the sentences of setups, limits and schedules; `ledgers`, `records`: those of the other texts
 //! - `strangers`: why a record is of another part or program; `touches`: in what two touches differ
 //! - `audits`: what an audit found
@@ -27,6 +28,7 @@ mod names;
 mod numerals;
 mod places;
 mod programs;
+mod readings;
 mod records;
 mod statements;
 mod strangers;
@@ -35,7 +37,11 @@ mod touches;
 mod words;
 
 pub use audits::write_audit;
+pub use blocks::{Block, block_after};
 pub use files::{InputFile, InputFiles, place_of, shown_fault};
-pub use places::{Passage, write_place, write_sentence};
+pub use numerals::is_no_length;
+pub use places::write_place;
+pub use programs::{Passage, write_sentence};
+pub use readings::{Reading, read};
 pub use strangers::{write_other_part, write_other_program};
 pub use topics::{Topic, write_page};

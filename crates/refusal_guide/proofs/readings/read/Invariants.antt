@@ -1,5 +1,5 @@
-use Rattle.program_review.proofs.Names.{◌++◌, ◌≡◌, length, text_reading}
-use Rattle.program_review.proofs.readings.read.Given as goal
+use Rattle.refusal_guide.proofs.Outside.{◌++◌, ◌≡◌, length, text_reading}
+use Rattle.refusal_guide.proofs.readings.read.Given as goal
 
 -- the statements so far and those that are left are all of them
 abbrev pub invariant-loop-statement : goal.invariant-loop-statement

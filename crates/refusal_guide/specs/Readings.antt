@@ -2,7 +2,7 @@
 use Rattle.std.specs.Prelude.{◌≡◌, ℕ, List, length}
 use Rattle.std.specs.Str.Lines.{lines}
 use Rattle.dmis_text.specs.Reading.{text_reading}
-use Rattle.program_review.specs.declared.readings.Reading.{Reading}
+use Rattle.refusal_guide.specs.declared.readings.Reading.{Reading}
 
 -- the reading has the statements of the text, why they end, and how many lines the text has
 pub record IsReadingOf (text : List ℕ) (r : Reading) : Type 0 where
