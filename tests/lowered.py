@@ -1,4 +1,4 @@
-"""Programs with variables, branches, selections, loops and jumps, made at random and lowered.
+"""Programs with variables, branches, selections, loops, jumps and macros, made at random and lowered.
 
 Each is carried out here, too, by a second reading: of the tree that its text is written from, with exact fractions, and with power series for
 the functions. The moves, their lines and their order have to be those of `dme lower`; or the line of the first statement that cannot be
@@ -18,7 +18,7 @@ from growths import PROGRAM, Wrong, must
 
 WHOLE, REAL = ("I", "J", "K"), ("X", "Y")
 COMPARISONS = {".LT.": "__lt__", ".LE.": "__le__", ".EQ.": "__eq__", ".NE.": "__ne__", ".GE.": "__ge__", ".GT.": "__gt__"}
-MOST = 10_000
+MOST = 3_000
 
 
 class NoValue(Exception):
@@ -81,8 +81,37 @@ class Refused(Exception):
     """The statement of this line cannot be carried out."""
 
 
+class TooMuch(Exception):
+    """Too many statements are carried out, or a number grows too large."""
+
+
 class Jumped(Exception):
     """To the label of this name."""
+
+
+class Macro:
+    """Its name, its parameters and its parts; a parameter may have the name of a variable, and is not assigned to."""
+
+    def __init__(self, name, params):
+        self.name, self.params, self.parts = name, params, None
+
+
+class Scope:
+    """The values of names: a parameter's is that of its argument where the macro was called, now."""
+
+    def __init__(self, variables, arguments):
+        self.variables, self.arguments = variables, arguments
+
+    def __getitem__(self, name):
+        if name in self.arguments:
+            value, scope = self.arguments[name]
+            return value(scope)
+        return self.variables[name]
+
+    def __setitem__(self, name, value):
+        if abs(value.numerator) > MOST:
+            raise TooMuch
+        self.variables[name] = value
 
 
 class Made:
@@ -90,6 +119,9 @@ class Made:
 
     def __init__(self, seed):
         self.random, self.lines, self.loops, self.labels = random.Random(seed), [], [], 0
+        # A macro calls those before it; now and then itself, one that is not there, or one with an argument too many.
+        self.macros = [Macro(f"A{n}", self.random.sample(WHOLE + ("X", "N"), self.random.randint(0, 2))) for n in range(self.random.randint(0, 3))]
+        self.called, self.params = list(self.macros), []
 
     def add(self, text):
         self.lines.append(text)
@@ -154,7 +186,7 @@ class Made:
 
     def touch(self):
         """A block of one touch, whose label ends with a whole number."""
-        name, texts = self.random.choice(WHOLE), [self.number() for _ in range(3)]
+        name, texts = self.random.choice([it for it in WHOLE if it not in self.params]), [self.number() for _ in range(3)]
         first = self.add(f"MEAS/POINT,F(P@{name}),1")
         line = self.add(f"PTMEAS/CART,{','.join(it[0] for it in texts)},0,0,1")
         last = self.add("ENDMES")
@@ -263,6 +295,23 @@ class Made:
 
         return carry_out
 
+    def call(self):
+        macro = self.random.choice(self.called + [Macro("B", [])] * (self.random.random() < 0.03)) if self.called else Macro("B", [])
+        count = len(macro.params) + (self.random.random() < 0.03)
+        arguments = [self.expression(WHOLE, 1) for _ in range(count)]
+        texts = [it[0] if it[1] == 2 else f"({it[0]})" for it in arguments]
+        line = self.add(",".join([f"CALL/M({macro.name})", *texts]))
+        return lambda flow: flow.call(line, macro, [it[2] for it in arguments])
+
+    def body(self, macro, index):
+        """The lines of a macro, and its parts."""
+        self.add(f"M({macro.name})=MACRO" + "/" * bool(macro.params) + ",".join(macro.params))
+        self.called, self.params = self.macros[:index] + [macro] * (self.random.random() < 0.05), macro.params
+        self.loops += macro.params
+        macro.parts = self.block(2, [])
+        self.loops, self.params, self.called = [], [], list(self.macros)
+        self.add("ENDMAC")
+
     def jump(self, targets):
         if not targets:
             return self.move()
@@ -275,7 +324,7 @@ class Made:
         return carry_out
 
     def part(self, depth, targets):
-        kinds = ["move", "move", "touch", "assignment"] + (["branch", "selection", "loop", "jump"] if depth else [])
+        kinds = ["move", "move", "touch", "assignment"] + (["branch", "selection", "loop", "jump"] if depth else []) + ["call"] * bool(self.called)
         kind = self.random.choice(kinds)
         if kind in ("branch", "selection", "loop"):
             return getattr(self, kind)(depth, targets)
@@ -298,7 +347,7 @@ class Flow:
     """A program as it is carried out."""
 
     def __init__(self):
-        self.values, self.out = {}, []
+        self.values, self.out, self.open, self.turns = Scope({}, {}), [], [], 0
 
     def move(self, line, values):
         self.out.append(f"GOTO/CART,{','.join(written(it) for it in values)} $$ line {line}")
@@ -317,9 +366,21 @@ class Flow:
         whole = abs(value.numerator) // value.denominator * (1 if value >= 0 else -1)
         self.values[name] = fractions.Fraction(whole) if name in WHOLE else value
 
+    def call(self, line, macro, arguments):
+        if macro.parts is None or macro in self.open or len(arguments) != len(macro.params):
+            raise Refused(line)
+        scope, self.values = self.values, Scope(self.values.variables, {it: (value, self.values) for it, value in zip(macro.params, arguments)})
+        self.open.append(macro)
+        self.block(macro.parts)
+        self.open.pop()
+        self.values = scope
+
     def block(self, parts):
         at = 0
         while at < len(parts):
+            self.turns += 1
+            if self.turns > MOST:
+                raise TooMuch
             try:
                 parts[at][1](self)
                 at += 1
@@ -334,12 +395,12 @@ def written(micrometres):
     return f"{'-' if micrometres < 0 else ''}{abs(micrometres) // 1000}.{abs(micrometres) % 1000:03}"
 
 
-def made(seed):
+def made(seed, again=0):
     """The text of a program, and what comes out: its statements, or the line that is refused."""
-    program = Made(seed)
+    program = Made(f"{seed} {again}")
     program.add("DMISMN/'MADE',05.2")
     selected = program.add("SNSLCT/S(P1)")
-    flow, parts = Flow(), []
+    flow, parts, below = Flow(), [], []
     if seed % 10 == 0:
         parts = [(None, flat_move(program)) for _ in range(program.random.randint(1, 9))]
     else:
@@ -349,13 +410,21 @@ def made(seed):
             number = program.random.randint(0, 9)
             program.add(f"{name}=ASSIGN/{number}")
             flow.values[name] = fractions.Fraction(number)
+        below = [it for it in enumerate(program.macros) if program.random.random() < 0.3]
+        for index, macro in enumerate(program.macros):
+            if (index, macro) not in below:
+                program.body(macro, index)
         parts = program.block(3, [])
     last = program.add("ENDFIL")
+    for index, macro in below:
+        program.body(macro, index)
     text = "\n".join(program.lines) + "\n"
     try:
         flow.block(parts)
     except Refused as refused:
         return text, refused.args[0]
+    except TooMuch:
+        return made(seed, again + 1)
     return text, ["DMISMN $$ line 1", f"SNSLCT/S(P1) $$ line {selected}", *flow.out, f"ENDFIL $$ line {last}"]
 
 

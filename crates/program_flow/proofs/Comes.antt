@@ -1,16 +1,20 @@
--- What holds of each statement of a text, and of assignments on their lines, holds of each that comes out.
+-- What holds of each statement of a text, and of others on their lines, holds of each that comes out.
 use Rattle.std.proofs.Common.{◌≡◌, ℕ, zero, suc, ◌+◌, Bool, true, false, List, [], ◌∷◌, cond, drop, refl, subst, sym}
 use Rattle.std.specs.List.{AllByRecursion}
-use Rattle.std.specs.Prelude.{◌==◌, ◌&&◌, not, bytes_eq, codes, None, Option, Some, ℤ, ◌+ℤ◌, ◌-◌, unsigned_abs, take}
+use Rattle.std.specs.Prelude.{◌==◌, ◌&&◌, ◌||◌, not, bytes_eq, codes, None, Option, Some, ℤ, ◌+ℤ◌, ◌-◌, unsigned_abs, take}
 use Rattle.dmis_text.specs.Reading.{text_reading}
 use Rattle.dmis_text.specs.declared.elements.Statement.{Statement}
 use Rattle.dmis_text.specs.declared.reading.TextFault.{TextFault}
 use Rattle.program_values.specs.LookBack.{value_said}
+use Rattle.program_flow.specs.Calls as calls
+use Rattle.program_flow.specs.Calls.{Frame, Step, call_by, call_of, ended_by, fits, given_up_in, is_call, is_open, leave_frame, step, step_at}
+use Rattle.program_flow.specs.Macros.{Macro, Pair, all_with_arguments, begins_macro, body_of, both_or_none, ends_macro, has_end, has_label, macro_after, macro_name}
+use Rattle.program_flow.specs.Macros.{only_statement, outside_after, pairs_of, replaced_statement, said_by, statement_text, with_arguments}
 use Rattle.program_flow.specs.Blocks.{around, end_of, is_level, label_place, part_of, start_of}
 use Rattle.program_flow.specs.Flow.{Control, Header, Turn, Valuation, again, assignment, assigns, begun, branch, carried, choose_by, condition_of, do_by}
 use Rattle.program_flow.specs.Flow.{do_with, enddo_by, enter_at, enter_by, is_default, is_last, select_by}
-use Rattle.program_flow.specs.Flow.{first_text, given_up, gives_or, header_at, header_of, if_by, is_kept, jump_by, jump_of, leave_by, next_text}
-use Rattle.program_flow.specs.Flow.{only_assignment, other_branch, past_branch, round_by, round_of, round_with, to, trace, traced, turn, turn_at, turn_of, whole_value}
+use Rattle.program_flow.specs.Flow.{first_text, gives_or, header_at, header_of, if_by, is_kept, jump_by, jump_of, leave_by, next_text}
+use Rattle.program_flow.specs.Flow.{only_assignment, other_branch, past_branch, round_by, round_of, round_with, to, turn, turn_at, turn_of, whole_value}
 use Rattle.program_flow.specs.Flow.Turn.{Ends, Stops, Passes, Gives}
 use Rattle.program_flow.specs.declared.blocks.Block.{Block}
 use Rattle.program_flow.specs.declared.blocks.Rounds.{Rounds}
@@ -20,7 +24,7 @@ use Rattle.program_flow.specs.declared.selections.Choice.{Choice}
 use Rattle.program_flow.specs.declared.selections.Choice.TheVariants.{Branch, NoBranch}
 use Rattle.program_flow.specs.Selections.{chosen, selected}
 use Rattle.program_values.specs.Numbers.{Fraction}
-use Rattle.program_flow.proofs.Steps.{trace-done, trace-step}
+use Rattle.program_flow.proofs.Frames.{call-done, call-step}
 
 module _ (Q : Statement → Type 0) (assigned : (s a : Statement) → Q s → bytes_eq a.word (codes "ASSIGN") ≡ true → a.line ≡ s.line → Q a) where
   abbrev Comes : Turn → Type 0
@@ -179,19 +183,156 @@ module _ (Q : Statement → Type 0) (assigned : (s a : Statement) → Q s → by
       go [] h = tt
       go (s ∷ below) h = part_comes all values c s below (part_of s) h.0
 
-  traced_all : (rest : Control → List Statement → List Statement) (above : List Statement) (t : Turn)
-      → ((next : Control) (more : List Statement) → AllByRecursion Q (rest next more)) → Comes t → AllByRecursion Q (traced rest above t)
-  traced_all rest above Ends all q = tt
-  traced_all rest above (Stops s) all q = (q, tt)
-  traced_all rest above (Passes next) all q = all next above
-  traced_all rest above (Gives s next) all q = (q, all next (carried above s))
+  -- statements with arguments, and those of macros
+  abbrev AllIn : List Frame → Type 0
+  AllIn [] = Unit {0}
+  AllIn (f ∷ outer) = AllByRecursion Q f.statements × AllIn outer
 
-  module _ (given : (s : Statement) → Q s → Q (record { line = s.line; label = None; word = codes "ENDDO"; params = [] })) where
-    ends_all : (below : List Statement) → AllByRecursion Q below → AllByRecursion Q (given_up below)
-    ends_all [] h = tt
-    ends_all (s ∷ below) h = (given s h.0, tt)
+  abbrev StepComes : Step → Type 0
+  StepComes calls.Step.Ends = Unit {0}
+  StepComes (calls.Step.Stops s) = Q s
+  StepComes (calls.Step.Passes next) = AllIn next
+  StepComes (calls.Step.Gives s next) = Q s × AllIn next
 
-    pub comes_all : (n : ℕ) (all : List Statement) (c : Control) (above : List Statement) → AllByRecursion Q all → AllByRecursion Q (trace n all c above)
-    comes_all zero all c above h = subst (AllByRecursion Q) (sym (trace-done zero all c above refl)) (ends_all (drop c.place all) (dropped c.place all h))
-    comes_all (suc n) all c above h = subst (AllByRecursion Q) (sym (trace-step n (suc n) all c above refl))
-        (traced_all (trace n all) above (turn all (value_said above) c) (λ next more. comes_all n all next more h) (turn_comes all (value_said above) c h))
+  abbrev OneComes : Option Statement → Type 0
+  OneComes None = Unit {0}
+  OneComes (Some s) = Q s
+
+  abbrev SomeCome : Option (List Statement) → Type 0
+  SomeCome None = Unit {0}
+  SomeCome (Some ss) = AllByRecursion Q ss
+
+  abbrev BodyComes : Option Macro → Type 0
+  BodyComes None = Unit {0}
+  BodyComes (Some m) = AllByRecursion Q m.body
+
+  lifted_comes : (f : Frame) (outer : List Frame) (t : Turn) → AllByRecursion Q f.statements → AllIn outer → Comes t → StepComes (calls.lifted f outer t)
+  lifted_comes f outer Ends fs os q = tt
+  lifted_comes f outer (Stops s) fs os q = q
+  lifted_comes f outer (Passes next) fs os q = (fs, os)
+  lifted_comes f outer (Gives s next) fs os q = (q, (fs, os))
+
+  body_comes : (below : List Statement) → AllByRecursion Q below → AllByRecursion Q (body_of below)
+  body_comes [] h = tt
+  body_comes (s ∷ below) h = go (ends_macro s) (body_comes below h.1)
+    where
+      go : (b : Bool) → AllByRecursion Q (body_of below) → AllByRecursion Q (cond b [] (s ∷ body_of below))
+      go true rest = tt
+      go false rest = (h.0, rest)
+
+  macro_comes : (name : List ℕ) (within : Bool) (text : List Statement) → AllByRecursion Q text → BodyComes (macro_after name within text)
+  unfolding macro_after
+  macro_comes name true [] h = tt
+  macro_comes name false [] h = tt
+  macro_comes name true (s ∷ below) h = macro_comes name (not (ends_macro s)) below h.1
+  macro_comes name false (s ∷ below) h = go (begins_macro s && has_end below) (has_label (macro_name s) name) (body_comes below h.1)
+      (macro_comes name true below h.1) (macro_comes name false below h.1)
+    where
+      go : (b l : Bool) → AllByRecursion Q (body_of below) → BodyComes (macro_after name true below) → BodyComes (macro_after name false below)
+          → BodyComes (cond b (cond l (Some (record { params = s.params; body = body_of below })) (macro_after name true below)) (macro_after name false below))
+      go true true body inner outer = body
+      go true false body inner outer = inner
+      go false l body inner outer = outer
+
+  outside_comes : (within : Bool) (text : List Statement) → AllByRecursion Q text → AllByRecursion Q (outside_after within text)
+  unfolding outside_after
+  outside_comes true [] h = tt
+  outside_comes false [] h = tt
+  outside_comes true (s ∷ below) h = outside_comes (not (ends_macro s)) below h.1
+  outside_comes false (s ∷ below) h = go (begins_macro s && has_end below) (outside_comes true below h.1) (outside_comes false below h.1)
+    where
+      go : (b : Bool) → AllByRecursion Q (outside_after true below) → AllByRecursion Q (outside_after false below)
+          → AllByRecursion Q (cond b (outside_after true below) (s ∷ outside_after false below))
+      go true inner outer = inner
+      go false inner outer = (h.0, outer)
+
+  module _ (said : (s a : Statement) → Q s → a.line ≡ s.line → Q a) where
+    only_comes : (s : Statement) (ss : List Statement) (fault : Option TextFault) → Q s → OneComes (only_statement s.line ss fault)
+    only_comes s [] fault h = tt
+    only_comes s (t ∷ []) (Some f) h = tt
+    only_comes s (t ∷ []) None h = said s (record t { line = s.line }) h refl
+    only_comes s (t ∷ (u ∷ ss)) fault h = tt
+
+    argued_comes : (pairs : List Pair) (s : Statement) → Q s → OneComes (with_arguments pairs s)
+    unfolding said_by
+    argued_comes pairs s h = only_comes s (text_reading (statement_text (replaced_statement pairs s))).statements
+        (text_reading (statement_text (replaced_statement pairs s))).fault h
+
+    both_come : (o : Option Statement) (r : Option (List Statement)) → OneComes o → SomeCome r → SomeCome (both_or_none o r)
+    both_come None r h g = tt
+    both_come (Some s) None h g = tt
+    both_come (Some s) (Some below) h g = (h, g)
+
+    all_argued : (pairs : List Pair) (body : List Statement) → AllByRecursion Q body → SomeCome (all_with_arguments pairs body)
+    all_argued pairs [] h = tt
+    all_argued pairs (s ∷ below) h =
+        both_come (with_arguments pairs s) (all_with_arguments pairs below) (argued_comes pairs s h.0) (all_argued pairs below h.1)
+
+    entered_comes : (f : Frame) (outer : List Frame) (s : Statement) (name : List ℕ) (o : Option (List Statement)) → Q s → AllIn (f ∷ outer)
+        → SomeCome o → StepComes (calls.enter_by f outer s name o)
+    entered_comes f outer s name None q h g = q
+    entered_comes f outer s name (Some ss) q h g = (g, h)
+
+    called_comes : (f : Frame) (outer : List Frame) (s : Statement) (name : List ℕ) (arguments : List (List ℕ)) (m : Option Macro) → Q s
+        → AllIn (f ∷ outer) → BodyComes m → StepComes (call_by f outer s name arguments m)
+    called_comes f outer s name arguments None q h g = q
+    called_comes f outer s name arguments (Some m) q h g = go (is_open name (f ∷ outer) || not (fits m arguments))
+        (entered_comes f outer s name (all_with_arguments (pairs_of m.params arguments) m.body) q h (all_argued (pairs_of m.params arguments) m.body g))
+      where
+        go : (b : Bool) → StepComes (calls.enter_by f outer s name (all_with_arguments (pairs_of m.params arguments) m.body))
+            → StepComes (cond b (calls.Step.Stops s) (calls.enter_by f outer s name (all_with_arguments (pairs_of m.params arguments) m.body)))
+        go true entered = q
+        go false entered = entered
+
+    call_comes : (text : List Statement) (f : Frame) (outer : List Frame) (s : Statement) (params : List (List ℕ)) → AllByRecursion Q text → Q s
+        → AllIn (f ∷ outer) → StepComes (call_of text f outer s params)
+    call_comes text f outer s [] all q h = q
+    call_comes text f outer s (name ∷ arguments) all q h =
+        called_comes f outer s name arguments (macro_after name false text) q h (macro_comes name false text all)
+
+    left_comes : (outer : List Frame) → AllIn outer → StepComes (leave_frame outer)
+    left_comes [] h = tt
+    left_comes (f ∷ outer) h = h
+
+    step_comes : (text : List Statement) (values : Valuation) (frames : List Frame) → AllByRecursion Q text → AllIn frames
+        → StepComes (step text values frames)
+    unfolding step
+    step_comes text values [] all h = tt
+    step_comes text values (f ∷ outer) all h = go (drop f.control.place f.statements) (dropped f.control.place f.statements h.0)
+      where
+        by : (b d : Bool) (s : Statement) → Q s → StepComes (cond b (call_of text f outer s s.params)
+            (cond d (calls.Step.Stops s) (calls.lifted f outer (turn f.statements values f.control))))
+        by true d s q = call_comes text f outer s s.params all q h
+        by false true s q = q
+        by false false s q = lifted_comes f outer (turn f.statements values f.control) h.0 h.1 (turn_comes f.statements values f.control h.0)
+
+        go : (below : List Statement) → AllByRecursion Q below → StepComes (step_at text values f outer below)
+        go [] g = left_comes outer h.1
+        go (s ∷ below) g = by (is_call s) (begins_macro s || ends_macro s) s g.0
+
+    traced_all : (rest : List Frame → List Statement → List Statement) (above : List Statement) (t : Step)
+        → ((next : List Frame) (more : List Statement) → AllIn next → AllByRecursion Q (rest next more)) → StepComes t
+        → AllByRecursion Q (calls.traced rest above t)
+    traced_all rest above calls.Step.Ends all q = tt
+    traced_all rest above (calls.Step.Stops s) all q = (q, tt)
+    traced_all rest above (calls.Step.Passes next) all q = all next above q
+    traced_all rest above (calls.Step.Gives s next) all q = (q.0, all next (carried above s) q.1)
+
+    up_all : (frames : List Frame) → AllIn frames → AllByRecursion Q (given_up_in frames)
+    up_all [] h = tt
+    up_all (f ∷ outer) h = go (drop f.control.place f.statements) (dropped f.control.place f.statements h.0) (up_all outer h.1)
+      where
+        go : (below : List Statement) → AllByRecursion Q below → AllByRecursion Q (given_up_in outer)
+            → AllByRecursion Q (ended_by below (given_up_in outer))
+        go [] g rest = rest
+        go (s ∷ below) g rest = (said s (record { line = s.line; label = None; word = codes "ENDDO"; params = [] }) g.0 refl, tt)
+
+    pub comes_all : (n : ℕ) (text : List Statement) (frames : List Frame) (above : List Statement) → AllByRecursion Q text → AllIn frames
+        → AllByRecursion Q (calls.trace n text frames above)
+    comes_all zero text frames above all h = subst (AllByRecursion Q) (sym (call-done zero text frames above refl)) (up_all frames h)
+    comes_all (suc n) text frames above all h = subst (AllByRecursion Q) (sym (call-step n (suc n) text frames above refl))
+        (traced_all (calls.trace n text) above (step text (value_said above) frames) (λ next more g. comes_all n text next more all g)
+        (step_comes text (value_said above) frames all h))
+
+    pub all_carried_out : (text : List Statement) → AllByRecursion Q text → AllByRecursion Q (calls.trace 1000000 text (calls.begun text) [])
+    all_carried_out text h = comes_all 1000000 text (calls.begun text) [] h (outside_comes false text h, tt)

@@ -1,3 +1,9 @@
 pub mod Steps
 pub mod Straight
+pub mod Frames
+pub mod Leads
+pub mod Splits
+pub mod Plain
 pub mod Comes
+pub mod Bodies
+pub mod SaidLines

@@ -4,18 +4,16 @@ use Rattle.std.specs.Prelude.{Result, Err, List}
 use Rattle.program_values.specs.Numbers.{Fraction}
 use Rattle.program_values.specs.declared.faults.ValueFault.{ValueFault}
 use Rattle.program_values.specs.declared.faults.ValueFault.TheVariants.{TooDeep}
-use Rattle.std.proofs.Common.{[], ◌∷◌, ◌+◌, ◌≤◌, Bool, IfOk, subst, cond, false, inl, inr, length, true}
-use Rattle.std.specs.Prelude.{◌⊎◌, bytes_eq, codes, drop, get_or, is_some, None, Ok, Option, Some}
+use Rattle.std.proofs.Common.{[], ◌∷◌, ◌+◌, ◌≤◌, Bool, cond, false, length, true}
+use Rattle.std.specs.Prelude.{bytes_eq, codes, drop, get_or, is_some, None, Option, Some}
 use Rattle.dmis_text.specs.Reading.{Reading, text_reading}
 use Rattle.dmis_text.specs.declared.reading.TextFault.{TextFault}
 use Rattle.dmis_text.specs.declared.elements.Statement.{Statement}
 use Rattle.program_values.specs.LookBack.{Holds, value_said}
 use Rattle.program_values.specs.Variables.{Entry, entry_value}
 use Rattle.program_flow.specs.Conditions.{Parts, holds_within, parts_hold, parts_of}
-use Rattle.program_flow.specs.Flow.{Control, Turn, Valuation, assignment, only_assignment, carried, given_up, trace, traced, turn, turn_at}
-use Rattle.program_flow.specs.Flow.Turn.{Ends, Stops, Passes, Gives}
-use Rattle.program_flow.specs.Left.{GivesNext, IsGiven, Left, left_of, one_left, size}
-use Rattle.program_flow.specs.declared.flow.Given.{Given}
+use Rattle.program_flow.specs.Flow.{Control, Turn, Valuation, assignment, only_assignment, given_up, trace, traced, turn, turn_at}
+use Rattle.program_flow.specs.Flow.Turn.{Ends}
 
 pub holds_within-done : (values : List ℕ → Result Fraction ValueFault) (n : ℕ) (text : List ℕ) → n ≡ 0 → Err TooDeep ≡ holds_within values n text
 unfolding holds_within
@@ -62,25 +60,12 @@ trace-end zero statements c above e = trace-done zero statements c above refl �
 trace-end (suc n) statements c above e = trace-step n (suc n) statements c above refl
     ∙ ap (λ (u : Turn). traced (trace n statements) above u) (turn-end statements (value_said above) c e)
 
--- a statement comes out
-pub gives-next : (old new : Left) (above : List Statement) (entries : List Entry) (s : Statement) → Holds above entries
-    → old.turns ≡ new.turns + 1 → new.statements ≡ old.statements
-    → (turn old.statements (entry_value entries) old.control ≡ Gives s new.control)
-    ⊎ ((turn old.statements (entry_value entries) old.control ≡ Stops s) × (drop new.control.place new.statements ≡ []))
-    → left_of old above ≡ s ∷ left_of new (carried above s)
-gives-next old new above entries s h t same (inl e) =
-    ap (λ (n : ℕ). trace n old.statements old.control above) t ∙ (trace-by new.turns old.statements old.control above entries _ h e
-    ∙ ap (λ (ss : List Statement). s ∷ trace new.turns ss new.control (carried above s)) (sym same))
-gives-next old new above entries s h t same (inr e) =
-    ap (λ (n : ℕ). trace n old.statements old.control above) t ∙ (trace-by new.turns old.statements old.control above entries _ h e.0
-    ∙ ap (λ (ss : List Statement). s ∷ ss) (sym (trace-end new.turns new.statements new.control (carried above s) e.1)))
-
 -- the first of some statements, and none
-pub first_item : (ss : List Statement) (s : Statement) → 1 ≤ length ss → s ≡ get_or ss 0 s → ss ≡ s ∷ drop 1 ss
+pub first_item : {A : Type 0} (ss : List A) (s : A) → 1 ≤ length ss → s ≡ get_or ss 0 s → ss ≡ s ∷ drop 1 ss
 first_item [] s some e = absurd (omega (arith, some))
-first_item (x ∷ xs) s some e = ap (λ (t : Statement). t ∷ xs) (sym e)
+first_item (x ∷ xs) s some e = ap (λ t. t ∷ xs) (sym e)
 
-pub no_items : (ss : List Statement) → length ss < 1 → ss ≡ []
+pub no_items : {A : Type 0} (ss : List A) → length ss < 1 → ss ≡ []
 no_items [] none = refl
 no_items (x ∷ xs) none = absurd (omega (arith, none))
 
@@ -89,50 +74,6 @@ drop_past zero [] h = refl
 drop_past (suc i) [] h = refl
 drop_past zero (x ∷ xs) h = absurd (omega (arith, h))
 drop_past (suc i) (x ∷ xs) h = drop_past i xs (omega (arith, h))
-
-pub ends-next : (old new : Left) (above : List Statement) (entries : List Entry) → Holds above entries → old.turns ≡ new.turns + 1
-    → turn old.statements (entry_value entries) old.control ≡ Ends → left_of old above ≡ []
-ends-next old new above entries h t e =
-    ap (λ (n : ℕ). trace n old.statements old.control above) t ∙ trace-by new.turns old.statements old.control above entries _ h e
-
-pub passes-next : (old new : Left) (above : List Statement) (entries : List Entry) → Holds above entries → old.turns ≡ new.turns + 1
-    → new.statements ≡ old.statements → turn old.statements (entry_value entries) old.control ≡ Passes new.control
-    → left_of new above ≡ left_of old above
-passes-next old new above entries h t same e =
-    sym (ap (λ (n : ℕ). trace n old.statements old.control above) t ∙ (trace-by new.turns old.statements old.control above entries _ h e
-    ∙ ap (λ (ss : List Statement). trace new.turns ss new.control above) (sym same)))
-
--- and fewer are left
-few_left : (ss : List Statement) → one_left ss ≤ 1
-few_left [] = omega arith
-few_left (s ∷ ss) = omega arith
-
-some_left : (all : List Statement) (values : Valuation) (c : Control) → (turn all values c ≡ Ends → ⊥) → one_left (drop c.place all) ≡ 1
-some_left all values c apart = go (drop c.place all) refl
-  where
-    go : (ss : List Statement) → drop c.place all ≡ ss → one_left ss ≡ 1
-    go [] e = absurd (apart (turn-end all values c e))
-    go (s ∷ ss) e = refl
-
-pub gives-fewer : (old new : Left) (values : Valuation) (s : Statement) → old.turns ≡ new.turns + 1
-    → (turn old.statements values old.control ≡ Gives s new.control)
-    ⊎ ((turn old.statements values old.control ≡ Stops s) × (drop new.control.place new.statements ≡ []))
-    → size new < size old
-gives-fewer old new values s t (inl e) =
-    omega (arith, t, few_left (drop new.control.place new.statements), some_left old.statements values old.control (λ end. let bad = sym end ∙ e in absurd cc))
-gives-fewer old new values s t (inr e) =
-    omega (arith, t, few_left (drop new.control.place new.statements), some_left old.statements values old.control (λ end. let bad = sym end ∙ e.0 in absurd cc))
-
-pub passes-fewer : (old new : Left) → old.turns ≡ new.turns + 1 → size new ≤ size old
-passes-fewer old new t = omega (arith, t, few_left (drop new.control.place new.statements))
-
--- what the loop has left alone
-pub given-on : {E : Type 0} (r : Result (Option Given) E) (old first new : Left) (above : List Statement) → old.statements ≡ first.statements
-    → left_of old above ≡ left_of first above → IfOk r (GivesNext old new above) → IfOk r (GivesNext first new above)
-given-on (Err e) old first new above same same_left h = tt
-given-on (Ok None) old first new above same same_left h = sym same_left ∙ h
-given-on (Ok (Some given)) old first new above same same_left h =
-    (h.0, subst (λ (ss : List Statement). IsGiven ss given h.0) same h.1, sym same_left ∙ h.2)
 
 -- the assignment that a text says
 record IsOne (statements : List Statement) (fault : Option TextFault) : Type 0 where

@@ -4,7 +4,7 @@ use Rattle.std.specs.Prelude.{ℕ, zero, suc, ◌+◌, ◌-◌, Bool, true, fals
 use Rattle.std.specs.Prelude.{Option, Some, None, Result, ℤ, pos, ◌+ℤ◌, int_lt, int_le, unsigned_abs, if◌then◌else◌}
 use Rattle.std.specs.Ordering.{int_eq}
 use Rattle.std.specs.Result.{result_ok}
-use Rattle.dmis_text.specs.Reading.{Reading, text_reading}
+use Rattle.dmis_text.specs.Reading.{text_reading}
 use Rattle.dmis_text.specs.declared.elements.Statement.{Statement}
 use Rattle.dmis_text.specs.declared.reading.TextFault.{TextFault}
 use Rattle.program_values.specs.LookBack.{fault_of, kind_said, value_said}
@@ -254,7 +254,3 @@ most = 1000000
 
 abbrev pub flow_of : List Statement → List Statement
 flow_of statements = trace most statements (to 0 []) []
-
--- a text as it is carried out
-abbrev pub flow_reading : Reading → Reading
-flow_reading reading = record { statements = flow_of reading.statements; fault = reading.fault }

@@ -3,7 +3,12 @@ pub mod Cuts
 pub mod Blocks
 pub mod Selections
 pub mod Flow
+pub mod Macros
+pub mod Calls
+pub mod SaidLines
 pub mod Turns
+pub mod Named
 pub mod Left
 pub mod Stepped
 pub mod Examples
+pub mod CallExamples

@@ -55,7 +55,7 @@ fn is_text(text: &[u8], other: &str) -> bool
     text == other.as_bytes()
 }
 
-fn is_label(word: &[u8]) -> bool
+pub(crate) fn is_label(word: &[u8]) -> bool
     ensures { result ≡ spec.is_label word.now }
 {
     matches!(word, [b'(', .., b')'])

@@ -63,7 +63,7 @@ fn kept_length(text: &[u8]) -> usize
 }
 
 /// A text without blanks at both ends.
-fn trimmed(text: &[u8]) -> &[u8]
+pub(crate) fn trimmed(text: &[u8]) -> &[u8]
     ensures { result.now ≡ parts.trimmed text.now }
 {
     let rest = without_front(text);

@@ -1,19 +1,20 @@
 // The statements of a text in the order in which they are carried out.
 
-ghost use Rattle.std.specs.Prelude.{◌≡◌, ◌<◌, ◌∷◌, [], List, IfOk, IfSome, OnOk, drop, is_some};
-ghost use Rattle.program_flow.specs.Blocks.{around};
+ghost use Rattle.std.specs.Prelude.{◌≡◌, ◌<◌, ◌∷◌, ◌++◌, [], List, IfOk, IfSome, OnOk, map};
 ghost use Rattle.dmis_text.specs.declared.elements.Statement.{Statement};
 ghost use Rattle.program_values.specs.LookBack.{Holds};
 ghost use Rattle.program_values.specs.Variables.{entry_value};
-ghost use Rattle.program_flow.specs.Flow.{assignment, most, to, turn};
-ghost use Rattle.program_flow.specs.Flow.Turn.{Stops};
-ghost use Rattle.program_flow.specs.Left.{GivesNext, size};
-ghost use Rattle.program_flow.specs.Stepped.{Steps};
-ghost use Rattle.program_flow.specs.Turns.{moved};
+ghost use Rattle.program_flow.specs.Calls.{Frame, Step, carried_out, given_up_in, step};
+ghost use Rattle.program_flow.specs.Flow.{given_up};
+ghost use Rattle.program_flow.specs.Left.{GivesNext, IsGiven, frames_of, left_of, size};
+ghost use Rattle.program_flow.specs.Named.{IsNext, seen_call, top_to};
+ghost use Rattle.program_flow.specs.Stepped.{HasEnded, Leads, Steps, ended_on};
 
-use crate::blocks::{Block, Move, from};
-use crate::turns::{Turned, assigned_text, turn};
-use dmis_text::{Statement, Statements, TextFault};
+use crate::blocks::{Move, from};
+use crate::calls::{Call, Outcome, outcome_at, outcome_in};
+use crate::macros::split;
+use crate::positions::Position;
+use dmis_text::Statement;
 use program_values::Variables;
 use std::alloc::{AllocError, Global};
 use std::marker::Model;
@@ -24,7 +25,7 @@ const MOST: u64 = 1_000_000;
 /// A statement that comes out.
 #[derive(Drop)]
 pub enum Given {
-    /// That in this place of the text.
+    /// That in this place of the text outside macros.
     Stated(usize),
     /// The one that this text says, as if it were on this line.
     Made(u64, Vec<u8>),
@@ -41,165 +42,196 @@ pub enum Stepped {
 /// The statements of a text in the order in which they are carried out.
 #[derive(Drop)]
 pub struct Flow<'a> {
-    statements: Vec<Statement<'a>>,
-    place: usize,
-    blocks: Vec<Block>,
+    macros: Vec<Statement<'a>>,
+    calls: Vec<Call>,
+    outside: Vec<Statement<'a>>,
+    position: Position,
     turns: u64,
 }
 
 impl<'a> Model for Flow<'a> {
+    ghost use Rattle.std.specs.Prelude.{map};
     ghost use Rattle.program_flow.specs.Left.{Left};
-    ghost use Rattle.program_flow.specs.Flow.{to};
+    ghost use Rattle.program_flow.specs.Named.{seen_call, seen_position};
 
     ghost Value = { Left };
 
-    ghost view = { λ f. record { statements = f.statements.items; control = to f.place f.blocks.items; turns = f.turns } };
-}
-
-/// Whether a text says one assignment and nothing else.
-#[tactic(auto, unfolding(crate::specs::Flow::assignment))]
-fn is_assignment(alloc: Global, text: &[u8]) -> Result<bool, AllocError>
-    ensures { IfOk result (λ yes. yes ≡ is_some (assignment 1 text.now)) }
-{
-    let mut statements = Statements::new(alloc, text);
-    let first = match statements.next() {
-        Ok(Some(first)) => first,
-        Err(TextFault::Memory) => return Err(AllocError),
-        Ok(None) | Err(TextFault::LineTooLong(_) | TextFault::BadByte(_)) => return Ok(false),
-    };
-    let word: &[u8] = &first.word;
-    let assigns = word == b"ASSIGN".as_slice();
-    match statements.next() {
-        Ok(None) => Ok(assigns),
-        Err(TextFault::Memory) => Err(AllocError),
-        Ok(Some(_)) | Err(TextFault::LineTooLong(_) | TextFault::BadByte(_)) => Ok(false),
-    }
+    ghost view = { λ f. record { macros = f.macros.items; calls = map seen_call f.calls.items; outside = f.outside.items; control = seen_position f.position; turns = f.turns } };
 }
 
 impl<'a> Flow<'a> {
     /// At the first statement of a text.
-    pub fn new(alloc: Global, statements: Vec<Statement<'a>>) -> Flow<'a>
-        ensures statements { result.statements ≡ statements.entry.items }
-        ensures control { result.control ≡ to 0 [] }
-        ensures turns { result.turns ≡ most }
+    pub fn new(alloc: Global, text: Vec<Statement<'a>>) -> Result<Flow<'a>, AllocError>
+        ensures { IfOk result (λ flow. left_of flow [] ≡ carried_out text.entry.items) }
     {
-        Flow {
-            statements,
-            place: 0,
-            blocks: Vec::new(alloc),
+        let (outside, macros) = split(alloc, text)?;
+        Ok(Flow {
+            macros,
+            calls: Vec::new(alloc),
+            outside,
+            position: Position::new(alloc),
             turns: MOST,
-        }
+        })
     }
 
-    /// The statements of the text.
-    pub fn statements(&self) -> &[Statement<'a>]
-        ensures { result.now ≡ self.now.statements }
+    /// The statements of the text outside macros.
+    pub fn outside(&self) -> &[Statement<'a>]
+        ensures { result.now ≡ self.now.outside }
     {
-        self.statements.as_slice()
+        self.outside.as_slice()
+    }
+
+    /// What follows at the next statement.
+    fn outcome(&self, alloc: Global, variables: &Variables) -> Result<Outcome, AllocError>
+        ensures { IfOk result (λ led. Leads (frames_of self.now) led
+            (step self.now.macros (entry_value variables.now) (frames_of self.now))) }
+    {
+        if let [call, ..] = self.calls.as_slice() {
+            return outcome_in(alloc, &self.macros, &self.calls, call, variables);
+        }
+        outcome_at(
+            alloc,
+            &self.macros,
+            &self.calls,
+            &self.outside,
+            &self.position,
+            variables,
+        )
     }
 
     /// Goes where a move leads.
     fn go(&mut self, target: Move) -> Result<(), AllocError>
-        ensures control { OnOk result (self.new.control ≡ moved self.old.control.blocks target) }
-        ensures statements { self.new.statements ≡ self.old.statements }
+        ensures frames { OnOk result (frames_of self.new ≡ top_to target (frames_of self.old)) }
+        ensures outside { self.new.outside ≡ self.old.outside }
+        ensures macros { self.new.macros ≡ self.old.macros }
         ensures turns { self.new.turns ≡ self.old.turns }
     {
-        match target {
-            Move::Stay(place) => self.place = place,
-            Move::Enter(block) => {
-                self.place = block.start;
-                self.blocks.insert(0, block)?;
-            }
-            Move::Leave(place) => {
-                self.place = place;
-                if !self.blocks.is_empty() {
-                    self.blocks.remove(0);
-                }
-            }
-            Move::Jump(place) => {
-                self.place = place;
-                self.leave_for(place);
-            }
+        if self.calls.is_empty() {
+            return self.position.go(target);
         }
-        Ok(())
+        let mut call = self.calls.remove(0);
+        call.position.go(target)?;
+        Ok(self.calls.insert(0, call)?)
     }
 
-    /// Leaves the blocks that have not this place in them.
-    fn leave_for(&mut self, place: usize)
-        ensures place { self.new.control ≡ to self.old.control.place
-            (around place self.old.control.blocks) }
-        ensures statements { self.new.statements ≡ self.old.statements }
+    /// The next statement, as it is given.
+    fn here(&self, alloc: Global) -> Result<Given, AllocError>
+        requires { (s : Statement) × IsNext (frames_of self.now) s }
+        ensures { (s : Statement) → IsNext (frames_of self.now) s
+            → IfOk result (λ given. IsGiven self.now.outside given s) }
+    {
+        let Some(call) = self.calls.first() else {
+            return Ok(Given::Stated(self.position.place));
+        };
+        call.lines[call.position.place].given(alloc)
+    }
+
+    /// Comes to the end.
+    fn end(&mut self)
+        ensures ended { HasEnded self.new }
+        ensures outside { self.new.outside ≡ self.old.outside }
+        ensures macros { self.new.macros ≡ self.old.macros }
         ensures turns { self.new.turns ≡ self.old.turns }
     {
-        while let Some(inner) = self.blocks.first()
-            && !(inner.start <= place && place < inner.end)
-        {
-            self.blocks.remove(0);
+        self.calls.clear();
+        self.position.place = self.outside.len();
+    }
+
+    /// Leaves the macro that was called last.
+    fn leave(&mut self)
+        ensures frames { (f g : Frame) (outer : List Frame)
+            → frames_of self.old ≡ f ∷ (g ∷ outer) → frames_of self.new ≡ g ∷ outer }
+        ensures outside { self.new.outside ≡ self.old.outside }
+        ensures macros { self.new.macros ≡ self.old.macros }
+        ensures turns { self.new.turns ≡ self.old.turns }
+    {
+        if !self.calls.is_empty() {
+            self.calls.remove(0);
         }
     }
 
-    /// Comes to the end at a statement that cannot be followed.
-    fn stop(&mut self) -> Stepped
-        ensures step { (s : Statement) (below : List Statement)
-            → drop self.old.control.place self.old.statements ≡ s ∷ below
-            → Steps result self.new (Stops s) }
-        ensures statements { self.new.statements ≡ self.old.statements }
+    /// Does what follows.
+    fn follow(&mut self, alloc: Global, outcome: Outcome) -> Result<Stepped, AllocError>
+        requires { (due : Step) × Leads (frames_of self.old) outcome due }
+        ensures step { (due : Step) → Leads (frames_of self.old) outcome due
+            → IfOk result (λ stepped. Steps stepped self.new due) }
+        ensures outside { self.new.outside ≡ self.old.outside }
+        ensures macros { self.new.macros ≡ self.old.macros }
         ensures turns { self.new.turns ≡ self.old.turns }
     {
-        let place = self.place;
-        self.place = self.statements.len();
-        Stepped::Gives(Given::Stated(place))
+        match outcome {
+            Outcome::Ends => Ok(Stepped::Ends),
+            Outcome::Leaves => {
+                self.leave();
+                Ok(Stepped::Passes)
+            }
+            Outcome::Stops => {
+                let given = self.here(alloc)?;
+                self.end();
+                Ok(Stepped::Gives(given))
+            }
+            Outcome::Passes(target) => {
+                self.go(target)?;
+                Ok(Stepped::Passes)
+            }
+            Outcome::Gives(target) => {
+                let given = self.here(alloc)?;
+                self.go(target)?;
+                Ok(Stepped::Gives(given))
+            }
+            Outcome::Assigns(line, text, target) => {
+                self.go(target)?;
+                Ok(Stepped::Gives(Given::Made(line, text)))
+            }
+            Outcome::Enters(call, target) => {
+                self.go(target)?;
+                self.calls.insert(0, call)?;
+                Ok(Stepped::Passes)
+            }
+        }
     }
 
     /// One turn.
     fn take_turn(&mut self, alloc: Global, variables: &Variables) -> Result<Stepped, AllocError>
-        ensures step { IfOk result (λ r. Steps r self.new
-            (turn self.old.statements (entry_value variables.now) self.old.control)) }
-        ensures statements { self.new.statements ≡ self.old.statements }
+        ensures step { IfOk result (λ stepped. Steps stepped self.new
+            (step self.old.macros (entry_value variables.now) (frames_of self.old))) }
+        ensures outside { self.new.outside ≡ self.old.outside }
+        ensures macros { self.new.macros ≡ self.old.macros }
         ensures turns { self.new.turns ≡ self.old.turns }
     {
-        let place = self.place;
-        let [statement, ..] = from(place, &self.statements) else {
-            return Ok(Stepped::Ends);
-        };
-        let line = statement.line;
-        let Some(turned) = turn(&self.statements, place, &self.blocks, variables) else {
-            return Ok(self.stop());
-        };
-        let (text, target) = match turned {
-            Turned::Passes(target) => {
-                self.go(target)?;
-                return Ok(Stepped::Passes);
+        let outcome = self.outcome(alloc, variables)?;
+        self.follow(alloc, outcome)
+    }
+
+    /// The line of the next statement, here or below a CALL.
+    fn next_line(&self) -> Option<u64>
+        ensures { ended_on result ≡ given_up_in (frames_of self.now) }
+    {
+        let mut left = self.calls.as_slice();
+        while let [call, outer @ ..] = left {
+            if call.position.place < call.lines.len() {
+                return Some(call.lines[call.position.place].line());
             }
-            Turned::Gives(target) => {
-                self.go(target)?;
-                return Ok(Stepped::Gives(Given::Stated(place)));
-            }
-            Turned::Assigns(header, again, target) => (
-                assigned_text(alloc, header, again)?,
-                target,
-            ),
-        };
-        if !is_assignment(alloc, &text)? {
-            return Ok(self.stop());
+            left = outer;
         }
-        self.go(target)?;
-        Ok(Stepped::Gives(Given::Made(line, text)))
+        match from(self.position.place, &self.outside) {
+            [statement, ..] => Some(statement.line),
+            [] => None,
+        }
     }
 
     /// What comes out where no turn is left: a statement that no flat program has.
     fn give_up(&mut self, alloc: Global) -> Result<Option<Given>, AllocError>
         requires { self.old.turns ≡ 0 }
         ensures given { (above : List Statement) → IfOk result (GivesNext self.old self.new above) }
-        ensures statements { self.new.statements ≡ self.old.statements }
+        ensures outside { self.new.outside ≡ self.old.outside }
         ensures fewer { IfOk result (λ given. IfSome given (λ _. size self.new < size self.old)) }
     {
-        let [statement, ..] = from(self.place, &self.statements) else {
+        let Some(line) = self.next_line() else {
             return Ok(None);
         };
-        let line = statement.line;
         let text = Vec::from_slice(alloc, b"ENDDO")?;
-        self.place = self.statements.len();
+        self.end();
         Ok(Some(Given::Made(line, text)))
     }
 
@@ -211,7 +243,7 @@ impl<'a> Flow<'a> {
     ) -> Result<Option<Given>, AllocError>
         ensures given { (above : List Statement) → Holds above variables.now
             → IfOk result (GivesNext self.old self.new above) }
-        ensures statements { self.new.statements ≡ self.old.statements }
+        ensures outside { self.new.outside ≡ self.old.outside }
         ensures fewer { IfOk result (λ given. IfSome given (λ _. size self.new < size self.old)) }
     {
         while self.turns > 0 {

@@ -29,23 +29,100 @@ use Rattle.program_review.specs.Notices.{begins_with}
 use Rattle.program_lowering.proofs.StatedLemmas.{text_same}
 use Rattle.program_lowering.proofs.Names.{is_none, is_operator_text}
 use Rattle.program_lowering.proofs.TextLemmas.{is_text}
-use Rattle.dmis_program.specs.Keywords.{is_among}
+use Rattle.dmis_program.specs.Keywords.{definitions, is_among, passed}
 use Rattle.program_values.specs.LookBack.{fault_of, is_declaration, kind_said, value_said}
 use Rattle.program_flow.specs.Blocks.{is_label, part_named, part_of}
-use Rattle.program_flow.specs.Flow.{carried, flow_of, most, to, trace}
+use Rattle.program_flow.specs.Calls.{carried_out, is_plain, trace}
+use Rattle.program_flow.specs.Flow.{carried, to}
+use Rattle.program_flow.specs.Macros.{name_before, name_of, outside, outside_after, without_parameters}
 use Rattle.program_flow.specs.declared.blocks.Part.TheVariants.{Other}
-use Rattle.program_flow.proofs.Comes.{comes_all}
-use Rattle.program_flow.proofs.Straight.{drop-next, trace-other}
-use Rattle.program_lowering.proofs.Names.{◌+◌, ◌≤◌, and_parts, arith, drop, eqb-true, nat_tests, suc, zero}
+use Rattle.program_flow.proofs.Plain.{call-other, only, outside-other}
+use Rattle.program_flow.proofs.Straight.{drop-next}
+use Rattle.std.specs.List.{position}
+use Rattle.std.specs.Prelude.{is_some}
+use Rattle.program_lowering.proofs.Names.{subst, ◌+◌, ◌≤◌, and_parts, arith, drop, eqb-true, nat_tests, suc, zero}
 use Rattle.program_lowering.specs.Valued.{all_valued, assigned_params, commanding, has_variables, held_or_none, valued, valued_params, with_params}
 
--- what follows a statement that says this may be exchanged for what has the same steps
-same_front : (b : Bool) (front : List Step) (r q : Result (List Step) (Refusal × ℕ)) (steps : List Step)
-    → ((more : List Step) → r ≡ Ok more → q ≡ Ok more) → cond b (Ok []) (with_front front r) ≡ Ok steps
-    → cond b (Ok []) (with_front front q) ≡ Ok steps
-same_front true front r q steps h e = e
-same_front false front (Ok more) q steps h e = rw (h more refl) e
-same_front false front (Err refusal) q steps h e = absurd cc
+-- the steps of some statements, of which one line can hold each text for the operator up to the statement that closes the program
+abbrev ends_there : Result StatementMeaning Refusal → Bool
+ends_there (Ok m) = closes m
+ends_there (Err refusal) = true
+
+abbrev FitTo : List (List ℕ × Point) → List Statement → List Statement → Type 0
+FitTo frames aboves [] = Unit {0}
+FitTo frames aboves (s ∷ below) = (text_refusal s ≡ None) × (ends_there (judged frames (context_at frames aboves) s) ≡ false → FitTo frames (s ∷ aboves) below)
+
+record Alike (frames : List (List ℕ × Point)) (fault : Option TextFault) (lines : ℕ) (aboves below : List Statement) (steps : List Step) : Type 0 where
+  steps_are : steps_from frames fault lines aboves below ≡ Ok steps
+  fits : FitTo frames aboves below
+
+-- where the first is accepted, what follows it may be exchanged for what is alike
+record IsNext (frames : List (List ℕ × Point)) (fault : Option TextFault) (lines : ℕ) (aboves : List Statement) (s : Statement)
+    (below whole : List Statement) : Type 0 where
+  other : List Statement
+  is : whole ≡ s ∷ other
+  behind : (more : List Step) → Alike frames fault lines (s ∷ aboves) below more → Alike frames fault lines (s ∷ aboves) other more
+
+alike_on : (frames : List (List ℕ × Point)) (fault : Option TextFault) (lines : ℕ) (aboves : List Statement) (s : Statement)
+    (below other : List Statement) (steps : List Step) (m : StatementMeaning) → judged frames (context_at frames aboves) s ≡ Ok m
+    → ((more : List Step) → Alike frames fault lines (s ∷ aboves) below more → Alike frames fault lines (s ∷ aboves) other more)
+    → FitTo frames aboves (s ∷ below)
+    → cond (closes m) (Ok []) (with_front (steps_of frames (context_at frames aboves) m) (steps_from frames fault lines (s ∷ aboves) below)) ≡ Ok steps
+    → Alike frames fault lines aboves (s ∷ other) steps
+alike_on frames fault lines aboves s below other steps m e behind fits h = go (closes m) refl (steps_from frames fault lines (s ∷ aboves) below) refl h
+  where
+    go : (b : Bool) → closes m ≡ b → (r : Result (List Step) (Refusal × ℕ)) → steps_from frames fault lines (s ∷ aboves) below ≡ r
+        → cond b (Ok []) (with_front (steps_of frames (context_at frames aboves) m) r) ≡ Ok steps → Alike frames fault lines aboves (s ∷ other) steps
+    go true c r i g = record { steps_are = rw (e, c) g; fits = (fits.0, λ goes_on. let never : true ≡ false = sym (ap ends_there e ∙ c) ∙ goes_on in absurd cc) }
+    go false c (Err refusal) i g = absurd cc
+    go false c (Ok more) i g =
+        let a = behind more (record { steps_are = i; fits = fits.1 (ap ends_there e ∙ c) }) in
+        record { steps_are = rw (e, c, a.steps_are) g; fits = (fits.0, λ goes_on. a.fits) }
+
+alike_next : (frames : List (List ℕ × Point)) (fault : Option TextFault) (lines : ℕ) (aboves : List Statement) (s : Statement)
+    (below whole : List Statement) (steps : List Step)
+    → ((m : StatementMeaning) → judged frames (context_at frames aboves) s ≡ Ok m → IsNext frames fault lines aboves s below whole)
+    → Alike frames fault lines aboves (s ∷ below) steps → Alike frames fault lines aboves whole steps
+alike_next frames fault lines aboves s below whole steps next h = go (judged frames (context_at frames aboves) s) refl h.steps_are
+  where
+    go : (r : Result StatementMeaning Refusal) → judged frames (context_at frames aboves) s ≡ r
+        → continued s.line r (steps_of frames (context_at frames aboves)) (steps_from frames fault lines (s ∷ aboves) below) ≡ Ok steps
+        → Alike frames fault lines aboves whole steps
+    go (Err refusal) e g = absurd cc
+    go (Ok m) e g =
+        let n = next m e in
+        subst (λ (ss : List Statement). Alike frames fault lines aboves ss steps) (sym n.is)
+        (alike_on frames fault lines aboves s below n.other steps m e n.behind h.fits g)
+
+all_fit_to : (frames : List (List ℕ × Point)) (aboves below : List Statement) → AllByRecursion (λ (s : Statement). text_refusal s ≡ None) below
+    → FitTo frames aboves below
+all_fit_to frames aboves [] h = tt
+all_fit_to frames aboves (s ∷ below) h = (h.0, λ goes_on. all_fit_to frames (s ∷ aboves) below h.1)
+
+-- so nothing is cut off
+up_to_end : (frames : List (List ℕ × Point)) (fault : Option TextFault) (lines : ℕ) (aboves below : List Statement) (steps : List Step)
+    → Alike frames fault lines aboves below steps → steps_up_to frames fault lines aboves below ≡ Ok steps
+up_to_end frames fault lines aboves [] steps h = h.steps_are
+up_to_end frames fault lines aboves (s ∷ below) steps h =
+    by_meaning (judged frames (context_at frames aboves) s) refl h.steps_are (λ more fit i. up_to_end frames fault lines (s ∷ aboves) below more (record { steps_are = i; fits = fit }))
+  where
+    by_closing : (m : StatementMeaning) → judged frames (context_at frames aboves) s ≡ Ok m → (b : Bool) → closes m ≡ b
+        → (r : Result (List Step) (Refusal × ℕ)) → steps_from frames fault lines (s ∷ aboves) below ≡ r
+        → cond b (Ok []) (with_front (steps_of frames (context_at frames aboves) m) r) ≡ Ok steps
+        → ((more : List Step) → FitTo frames (s ∷ aboves) below → steps_from frames fault lines (s ∷ aboves) below ≡ Ok more
+        → steps_up_to frames fault lines (s ∷ aboves) below ≡ Ok more)
+        → steps_up_to frames fault lines aboves (s ∷ below) ≡ Ok steps
+    by_closing m e true c r i g rest = rw (h.fits.0, e, c) g
+    by_closing m e false c (Err refusal) i g rest = absurd cc
+    by_closing m e false c (Ok more) i g rest = rw (h.fits.0, e, c, rest more (h.fits.1 (ap ends_there e ∙ c)) i) g
+
+    by_meaning : (r : Result StatementMeaning Refusal) → judged frames (context_at frames aboves) s ≡ r
+        → continued s.line r (steps_of frames (context_at frames aboves)) (steps_from frames fault lines (s ∷ aboves) below) ≡ Ok steps
+        → ((more : List Step) → FitTo frames (s ∷ aboves) below → steps_from frames fault lines (s ∷ aboves) below ≡ Ok more
+        → steps_up_to frames fault lines (s ∷ aboves) below ≡ Ok more)
+        → steps_up_to frames fault lines aboves (s ∷ below) ≡ Ok steps
+    by_meaning (Err refusal) e g rest = absurd cc
+    by_meaning (Ok m) e g rest = by_closing m e (closes m) refl (steps_from frames fault lines (s ∷ aboves) below) refl g rest
 
 -- a mode that is accepted is not manual
 same_mode : (params : List (List ℕ)) (m : StatementMeaning) → mode params ≡ Ok m → is_manual params ≡ false
@@ -131,48 +208,17 @@ counted frames choices aboves s m above e =
     go [] here known = refl
     go (t ∷ more) here known = rw (here, known) (no_manual choices.skip_manual None)
 
-by_judged : (frames : List (List ℕ × Point)) (choices : Choices) (fault : Option TextFault) (lines : ℕ) (aboves : List Statement) (s : Statement)
-    (below : List Statement) (steps : List Step) (r : Result StatementMeaning Refusal) → judged frames (context_at frames aboves) s ≡ r
-    → in_manual aboves ≡ false
-    → ((more : List Step) → in_manual (s ∷ aboves) ≡ false → steps_from frames fault lines (s ∷ aboves) below ≡ Ok more
-    → steps_from frames fault lines (s ∷ aboves) (kept_below choices (s ∷ aboves) below) ≡ Ok more)
-    → continued s.line r (steps_of frames (context_at frames aboves)) (steps_from frames fault lines (s ∷ aboves) below) ≡ Ok steps
-    → steps_from frames fault lines aboves (kept_below choices aboves (s ∷ below)) ≡ Ok steps
-by_judged frames choices fault lines aboves s below steps (Err refusal) e above behind h = absurd cc
-by_judged frames choices fault lines aboves s below steps (Ok m) e above behind h =
-    let c = counted frames choices aboves s m above e in
-    rw (c.stays, c.same, e) (same_front (closes m) (steps_of frames (context_at frames aboves) m) (steps_from frames fault lines (s ∷ aboves) below)
-    (steps_from frames fault lines (s ∷ aboves) (kept_below choices (s ∷ aboves) below)) steps (λ more g. behind more c.mode g) h)
-
 all_kept : (frames : List (List ℕ × Point)) (choices : Choices) (fault : Option TextFault) (lines : ℕ) (aboves below : List Statement)
-    (steps : List Step) → in_manual aboves ≡ false → steps_from frames fault lines aboves below ≡ Ok steps
-    → steps_from frames fault lines aboves (kept_below choices aboves below) ≡ Ok steps
+    (steps : List Step) → in_manual aboves ≡ false → Alike frames fault lines aboves below steps
+    → Alike frames fault lines aboves (kept_below choices aboves below) steps
 all_kept frames choices fault lines aboves [] steps above h = h
 all_kept frames choices fault lines aboves (s ∷ below) steps above h =
-    by_judged frames choices fault lines aboves s below steps (judged frames (context_at frames aboves) s) refl above
-    (λ more here g. all_kept frames choices fault lines (s ∷ aboves) below more here g) h
-
--- one line can hold each text for the operator
-abbrev Fit : List Statement → Type 0
-Fit = AllByRecursion (λ (s : Statement). text_refusal s ≡ None)
-
-all_fit : (fault : Option TextFault) (statements : List Statement) → Fit statements
-    → up_to_refused fault statements ≡ record { statements = statements; fault = fault }
-all_fit fault [] h = refl
-all_fit fault (s ∷ statements) h = rw (h.0, all_fit fault statements h.1) refl
-
-kept_fits : (choices : Choices) (above statements : List Statement) → Fit statements → Fit (kept_below choices above statements)
-kept_fits choices above [] h = tt
-kept_fits choices above (s ∷ statements) h = go (left_out_at choices above s) (kept_fits choices (s ∷ above) statements h.1)
-  where
-    fits : (o : Option (List ℕ)) → text_refusal (selecting o s) ≡ None
-    fits None = h.0
-    fits (Some name) = no_text name s
-
-    go : (o : Option Reason) → Fit (kept_below choices (s ∷ above) statements)
-        → Fit (unless_left_out o (counted_at choices above s) ++ kept_below choices (s ∷ above) statements)
-    go None rest = (fits (stored_frame choices (is_used (kept_above choices above)) s), rest)
-    go (Some reason) rest = rest
+    alike_next frames fault lines aboves s below (kept_below choices aboves (s ∷ below)) steps (λ m e.
+    let c = counted frames choices aboves s m above e in record {
+      other = kept_below choices (s ∷ aboves) below;
+      is = rw (c.stays, c.same) refl;
+      behind = λ more g. all_kept frames choices fault lines (s ∷ aboves) below more c.mode g;
+    }) h
 
 -- a unit that is accepted is the millimetre
 same_units : (params : List (List ℕ)) (m : StatementMeaning) → units params ≡ Ok m → (begins_with (codes "INCH") params ≡ false) × (unit_params params ≡ params)
@@ -225,43 +271,17 @@ in_millimetres_already s m h =
     either true y e = refl
     either false y e = e
 
-stated_on : (frames : List (List ℕ × Point)) (fault : Option TextFault) (lines : ℕ) (aboves sources : List Statement) (s : Statement)
-    (below : List Statement) (steps : List Step) (r : Result StatementMeaning Refusal) → judged frames (context_at frames aboves) s ≡ r
-    → in_inches sources ≡ false
-    → ((more : List Step) → in_inches (s ∷ sources) ≡ false → steps_from frames fault lines (s ∷ aboves) below ≡ Ok more
-    → steps_from frames fault lines (s ∷ aboves) (all_stated (s ∷ sources) below) ≡ Ok more)
-    → continued s.line r (steps_of frames (context_at frames aboves)) (steps_from frames fault lines (s ∷ aboves) below) ≡ Ok steps
-    → steps_from frames fault lines aboves (all_stated sources (s ∷ below)) ≡ Ok steps
-stated_on frames fault lines aboves sources s below steps (Err refusal) e unit behind h = absurd cc
-stated_on frames fault lines aboves sources s below steps (Ok m) e unit behind h =
-    let mm = in_millimetres_already s m (accepted_if frames (context_at frames aboves) s m e).says in
-    let next : in_inches (s ∷ sources) ≡ false = ap (λ (b : Bool). inches_after b s) unit ∙ mm.unit in
-    let same : stated (in_inches sources) s ≡ s = ap (λ (b : Bool). stated b s) unit ∙ mm.same in
-    rw (same, e) (same_front (closes m) (steps_of frames (context_at frames aboves) m) (steps_from frames fault lines (s ∷ aboves) below)
-    (steps_from frames fault lines (s ∷ aboves) (all_stated (s ∷ sources) below)) steps (λ more g. behind more next g) h)
-
 stated_alike : (frames : List (List ℕ × Point)) (fault : Option TextFault) (lines : ℕ) (aboves sources below : List Statement) (steps : List Step)
-    → in_inches sources ≡ false → steps_from frames fault lines aboves below ≡ Ok steps
-    → steps_from frames fault lines aboves (all_stated sources below) ≡ Ok steps
+    → in_inches sources ≡ false → Alike frames fault lines aboves below steps
+    → Alike frames fault lines aboves (all_stated sources below) steps
 stated_alike frames fault lines aboves sources [] steps unit h = h
 stated_alike frames fault lines aboves sources (s ∷ below) steps unit h =
-    stated_on frames fault lines aboves sources s below steps (judged frames (context_at frames aboves) s) refl unit
-    (λ more next g. stated_alike frames fault lines (s ∷ aboves) (s ∷ sources) below more next g) h
-
-stated_fits : (sources statements : List Statement) → Fit statements → Fit (all_stated sources statements)
-stated_fits sources [] h = tt
-stated_fits sources (s ∷ statements) h = (text_same (in_inches sources) s ∙ h.0, stated_fits (s ∷ sources) statements h.1)
-
-flat_source : (frames : List (List ℕ × Point)) (choices : Choices) (fault : Option TextFault) (lines : ℕ) (statements : List Statement)
-    (m : Meaning) → AllByRecursion (λ (s : Statement). text_refusal s ≡ None) statements → meant (steps_from frames fault lines [] statements) ≡ Ok m
-    → meant (steps_up_to frames fault lines [] (all_stated [] (kept choices statements))) ≡ Ok m
-flat_source frames choices fault lines statements m fit h =
-    let found = meant_steps m (steps_from frames fault lines [] statements) h in
-    rw (
-      all_fit fault (all_stated [] (kept choices statements)) (stated_fits [] (kept choices statements) (kept_fits choices [] statements fit)),
-      stated_alike frames fault lines [] [] (kept choices statements) found.0 refl (all_kept frames choices fault lines [] statements found.0 refl found.1),
-    )
-    (ap (λ (all : Meaning). Ok all) (sym found.2))
+    alike_next frames fault lines aboves s below (all_stated sources (s ∷ below)) steps (λ m e.
+    let mm = in_millimetres_already s m (accepted_if frames (context_at frames aboves) s m e).says in record {
+      other = all_stated (s ∷ sources) below;
+      is = ap (λ (t : Statement). t ∷ all_stated (s ∷ sources) below) (ap (λ (b : Bool). stated b s) unit ∙ mm.same);
+      behind = λ more g. stated_alike frames fault lines (s ∷ aboves) (s ∷ sources) below more (ap (λ (b : Bool). inches_after b s) unit ∙ mm.unit) g;
+    }) h
 
 -- a flat program declares no variable, so each statement is its own with values
 record IsPlainWord (s : Statement) : Type 0 where
@@ -295,54 +315,17 @@ none_then above s plain none = go (is_none (fault_of (kind_said above) (value_sa
     go true = rw (none, plain.no_declaration) refl
     go false = none
 
-valued_on : (frames : List (List ℕ × Point)) (fault : Option TextFault) (lines : ℕ) (aboves above : List Statement) (s : Statement)
-    (below : List Statement) (steps : List Step) (r : Result StatementMeaning Refusal) → judged frames (context_at frames aboves) s ≡ r
-    → has_variables above ≡ false
-    → ((more : List Step) → has_variables (carried above s) ≡ false → steps_from frames fault lines (s ∷ aboves) below ≡ Ok more
-    → steps_from frames fault lines (s ∷ aboves) (all_valued (carried above s) below) ≡ Ok more)
-    → continued s.line r (steps_of frames (context_at frames aboves)) (steps_from frames fault lines (s ∷ aboves) below) ≡ Ok steps
-    → steps_from frames fault lines aboves (all_valued above (s ∷ below)) ≡ Ok steps
-valued_on frames fault lines aboves above s below steps (Err refusal) e none behind h = absurd cc
-valued_on frames fault lines aboves above s below steps (Ok m) e none behind h =
-    let known = accepted_known frames (context_at frames aboves) s m (accepted_if frames (context_at frames aboves) s m e) in
-    let plain = plain_word s known in
-    rw (itself above s plain none, e) (same_front (closes m) (steps_of frames (context_at frames aboves) m) (steps_from frames fault lines (s ∷ aboves) below)
-    (steps_from frames fault lines (s ∷ aboves) (all_valued (carried above s) below)) steps (λ more g. behind more (none_then above s plain none) g) h)
-
 valued_alike : (frames : List (List ℕ × Point)) (fault : Option TextFault) (lines : ℕ) (aboves above below : List Statement) (steps : List Step)
-    → has_variables above ≡ false → steps_from frames fault lines aboves below ≡ Ok steps
-    → steps_from frames fault lines aboves (all_valued above below) ≡ Ok steps
+    → has_variables above ≡ false → Alike frames fault lines aboves below steps
+    → Alike frames fault lines aboves (all_valued above below) steps
 valued_alike frames fault lines aboves above [] steps none h = h
 valued_alike frames fault lines aboves above (s ∷ below) steps none h =
-    valued_on frames fault lines aboves above s below steps (judged frames (context_at frames aboves) s) refl none
-    (λ more next g. valued_alike frames fault lines (s ∷ aboves) (carried above s) below more next g) h
-
--- and no text for the operator changes
-no_operator : (s : Statement) (params : List (List ℕ)) → (bytes_eq s.word (codes "ASSIGN") || is_among s.word commanding) ≡ true
-    → text_refusal (record { line = s.line; label = None; word = s.word; params = params }) ≡ None
-no_operator s params h = go (is_operator_text (record { line = s.line; label = None; word = s.word; params = params })) refl
-  where
-    go : (b : Bool) → is_operator_text (record { line = s.line; label = None; word = s.word; params = params }) ≡ b
-        → text_refusal (record { line = s.line; label = None; word = s.word; params = params }) ≡ None
-    go false e = rw e refl
-    go true e =
-        let is = (is_text (record { line = s.line; label = None; word = s.word; params = params }) e).word_is in
-        let same = rw is at h in absurd cc
-
-valued_text : (above : List Statement) (s : Statement) → text_refusal s ≡ None → text_refusal (valued above s) ≡ None
-valued_text above s h = go (bytes_eq s.word (codes "ASSIGN")) (has_variables above) (is_none s.label) (is_among s.word commanding) refl refl
-  where
-    go : (a b c d : Bool) → bytes_eq s.word (codes "ASSIGN") ≡ a → is_among s.word commanding ≡ d
-        → text_refusal (with_params s (cond a (Some (assigned_params above s s.label)) (cond (b && (c && d)) (Some (valued_params (value_said above) s.params)) None))) ≡ None
-    go true b c d e f = no_operator s (held_or_none s.word (assigned_params above s s.label)) (rw e refl)
-    go false true true true e f = no_operator s (held_or_none s.word (valued_params (value_said above) s.params)) (rw (e, f) refl)
-    go false true true false e f = h
-    go false true false d e f = h
-    go false false c d e f = h
-
-valued_fits : (above statements : List Statement) → Fit statements → Fit (all_valued above statements)
-valued_fits above [] h = tt
-valued_fits above (s ∷ statements) h = (valued_text above s h.0, valued_fits (carried above s) statements h.1)
+    alike_next frames fault lines aboves s below (all_valued above (s ∷ below)) steps (λ m e.
+    let plain = plain_word s (accepted_known frames (context_at frames aboves) s m (accepted_if frames (context_at frames aboves) s m e)) in record {
+      other = all_valued (carried above s) below;
+      is = ap (λ (t : Statement). t ∷ all_valued (carried above s) below) (itself above s plain none);
+      behind = λ more g. valued_alike frames fault lines (s ∷ aboves) (carried above s) below more (none_then above s plain none) g;
+    }) h
 
 -- nor has it a word of control flow, so each statement comes out in its place
 label_unknown : (word : List ℕ) → is_label word ≡ true → is_unknown (keyword_of word) ≡ true
@@ -389,47 +372,94 @@ other_part s known = go (is_none s.label)
     go true = other_named s.word s.params known
     go false = refl
 
-flow_on : (frames : List (List ℕ × Point)) (fault : Option TextFault) (lines : ℕ) (aboves above all : List Statement) (n place : ℕ)
-    (s : Statement) (below : List Statement) (steps : List Step) (r : Result StatementMeaning Refusal) → judged frames (context_at frames aboves) s ≡ r
-    → drop place all ≡ s ∷ below → 10000 ≤ n + length aboves
-    → ((more : List Step) (m : ℕ) → n ≡ suc m → steps_from frames fault lines (s ∷ aboves) below ≡ Ok more
-    → steps_from frames fault lines (s ∷ aboves) (trace m all (to (place + 1) []) (carried above s)) ≡ Ok more)
-    → continued s.line r (steps_of frames (context_at frames aboves)) (steps_from frames fault lines (s ∷ aboves) below) ≡ Ok steps
-    → steps_from frames fault lines aboves (trace n all (to place []) above) ≡ Ok steps
-flow_on frames fault lines aboves above all n place s below steps (Err refusal) e d few behind h = absurd cc
-flow_on frames fault lines aboves above all zero place s below steps (Ok m) e d few behind h =
-    let short = (accepted_if frames (context_at frames aboves) s m e).few in absurd (grind (arith, nat_tests, few, short))
-flow_on frames fault lines aboves above all (suc n) place s below steps (Ok m) e d few behind h =
-    let known = accepted_known frames (context_at frames aboves) s m (accepted_if frames (context_at frames aboves) s m e) in
-    rw (trace-other n place all [] above s below d (other_part s known), e) (same_front (closes m) (steps_of frames (context_at frames aboves) m)
-    (steps_from frames fault lines (s ∷ aboves) below) (steps_from frames fault lines (s ∷ aboves) (trace n all (to (place + 1) []) (carried above s)))
-    steps (λ more g. behind more n refl g) h)
+-- nor of macros and calls
+abbrev NoName : List ℕ → Type 0
+NoName word = name_before word (position (λ b. b == 61) word) ≡ None
 
-flow_alike : (frames : List (List ℕ × Point)) (fault : Option TextFault) (lines : ℕ) (aboves above all : List Statement) (n place : ℕ)
-    (below : List Statement) (steps : List Step) → drop place all ≡ below → 10000 ≤ n + length aboves
-    → steps_from frames fault lines aboves below ≡ Ok steps → steps_from frames fault lines aboves (trace n all (to place []) above) ≡ Ok steps
-flow_alike frames fault lines aboves above all n place [] steps d few h = absurd cc
-flow_alike frames fault lines aboves above all n place (s ∷ below) steps d few h =
-    flow_on frames fault lines aboves above all n place s below steps (judged frames (context_at frames aboves) s) refl d few
-    (λ more m e g. flow_alike frames fault lines (s ∷ aboves) (carried above s) all m (place + 1) below more (drop-next place all s below d)
-    (omega (arith, few, e)) g) h
-
--- what comes out besides the statements of a text is no text for the operator
-assignment_fits : (s a : Statement) → text_refusal s ≡ None → bytes_eq a.word (codes "ASSIGN") ≡ true → a.line ≡ s.line → text_refusal a ≡ None
-assignment_fits s a h e l = go (is_operator_text a) refl
+one_of : (word other : List ℕ) (k rest : Keyword) → NoName other → is_unknown (cond (bytes_eq word other) k rest) ≡ false
+    → (is_unknown rest ≡ false → NoName word) → NoName word
+one_of word other k rest none h next = go (bytes_eq word other) refl h
   where
-    go : (b : Bool) → is_operator_text a ≡ b → text_refusal a ≡ None
-    go false f = rw f refl
-    go true f = let is = (is_text a f).word_is in let same = rw is at e in absurd cc
+    go : (b : Bool) → bytes_eq word other ≡ b → is_unknown (cond b k rest) ≡ false → NoName word
+    go true e g = subst NoName (sym ((bytes_eq-Decides word other).0 e)) none
+    go false e g = next g
 
-flow_fits : (statements : List Statement) → Fit statements → Fit (flow_of statements)
-flow_fits statements h = comes_all (λ (s : Statement). text_refusal s ≡ None) assignment_fits (λ s g. refl) most statements (to 0 []) [] h
+one_among : (word : List ℕ) (others : List (List ℕ)) (k rest : Keyword) → AllByRecursion NoName others
+    → is_unknown (cond (is_among word others) k rest) ≡ false → (is_unknown rest ≡ false → NoName word) → NoName word
+one_among word [] k rest none h next = next h
+one_among word (other ∷ others) k rest none h next = go (bytes_eq word other) refl (λ g. one_among word others k rest none.1 g next) h
+  where
+    go : (b : Bool) → bytes_eq word other ≡ b → (is_unknown (cond (is_among word others) k rest) ≡ false → NoName word)
+        → is_unknown (cond (b || is_among word others) k rest) ≡ false → NoName word
+    go true e later g = subst NoName (sym ((bytes_eq-Decides word other).0 e)) none.0
+    go false e later g = later g
+
+no_name : (word : List ℕ) → is_unknown (keyword_of word) ≡ false → NoName word
+unfolding keyword_of
+no_name word h =
+    one_of word (codes "DMISMN") _ _ refl h (λ h. one_of word (codes "GOTO") _ _ refl h (λ h. one_of word (codes "MEAS") _ _ refl h
+    (λ h. one_of word (codes "PTMEAS") _ _ refl h (λ h. one_of word (codes "ENDMES") _ _ refl h (λ h. one_of word (codes "SNSLCT") _ _ refl h
+    (λ h. one_of word (codes "RECALL") _ _ refl h (λ h. one_of word (codes "ENDFIL") _ _ refl h (λ h. one_of word (codes "UNITS") _ _ refl h
+    (λ h. one_of word (codes "MODE") _ _ refl h (λ h. one_among word definitions _ _ (refl, (refl, (refl, tt))) h
+    (λ h. one_among word passed _ _ (refl, (refl, (refl, (refl, (refl, (refl, (refl, (refl, (refl, (refl, tt)))))))))) h (λ h. absurd cc))))))))))))
+
+call_words : (is_unknown (keyword_of (codes "CALL")) ≡ true) × ((is_unknown (keyword_of (codes "MACRO")) ≡ true)
+    × (is_unknown (keyword_of (codes "ENDMAC")) ≡ true))
+unfolding keyword_of
+call_words = (refl, (refl, refl))
+
+no_end : (b : Bool) → not (false || (false || (true && (b && false)))) ≡ true
+no_end true = refl
+no_end false = refl
+
+plain_flow : (s : Statement) → is_unknown (keyword_of s.word) ≡ false → is_plain s ≡ true
+plain_flow s known = go s.label (without_parameters s.params) (other_word s.word (codes "CALL") call_words.0 known)
+    (other_word s.word (codes "MACRO") call_words.1.0 known) (other_word s.word (codes "ENDMAC") call_words.1.1 known) (no_name s.word known)
+  where
+    go : (label : Option (List ℕ)) (bare : Bool) → bytes_eq s.word (codes "CALL") ≡ false → bytes_eq s.word (codes "MACRO") ≡ false
+        → bytes_eq s.word (codes "ENDMAC") ≡ false → NoName s.word
+        → not ((is_none label && (bytes_eq s.word (codes "CALL") && not bare))
+        || (is_some (name_of label s.word bare) || (is_none label && (bytes_eq s.word (codes "ENDMAC") && bare)))) ≡ true
+    go (Some label) bare call macro end none = rw macro refl
+    go None true call macro end none = rw (call, end, none) refl
+    go None false call macro end none = rw call (no_end (bytes_eq s.word (codes "ENDMAC")))
+
+flow_next : (frames : List (List ℕ × Point)) (fault : Option TextFault) (lines : ℕ) (aboves above text all : List Statement) (n place : ℕ)
+    (s : Statement) (below : List Statement) (m : StatementMeaning) → judged frames (context_at frames aboves) s ≡ Ok m
+    → drop place all ≡ outside_after false (s ∷ below) → 10000 ≤ n + length aboves
+    → ((more : List Step) (p : ℕ) → n ≡ suc p → drop (place + 1) all ≡ outside_after false below → Alike frames fault lines (s ∷ aboves) below more
+    → Alike frames fault lines (s ∷ aboves) (trace p text (only all (to (place + 1) []) ∷ []) (carried above s)) more)
+    → IsNext frames fault lines aboves s below (trace n text (only all (to place []) ∷ []) above)
+flow_next frames fault lines aboves above text all zero place s below m e d few behind =
+    let short = (accepted_if frames (context_at frames aboves) s m e).few in absurd (grind (arith, nat_tests, few, short))
+flow_next frames fault lines aboves above text all (suc n) place s below m e d few behind =
+    let known = accepted_known frames (context_at frames aboves) s m (accepted_if frames (context_at frames aboves) s m e) in
+    let plain = plain_flow s known in
+    let here : drop place all ≡ s ∷ outside_after false below = d ∙ outside-other s below plain in record {
+      other = trace n text (only all (to (place + 1) []) ∷ []) (carried above s);
+      is = call-other n place text all above s (outside_after false below) here plain (other_part s known);
+      behind = λ more g. behind more n refl (drop-next place all s (outside_after false below) here) g;
+    }
+
+flow_alike : (frames : List (List ℕ × Point)) (fault : Option TextFault) (lines : ℕ) (aboves above text all : List Statement) (n place : ℕ)
+    (below : List Statement) (steps : List Step) → drop place all ≡ outside_after false below → 10000 ≤ n + length aboves
+    → Alike frames fault lines aboves below steps
+    → Alike frames fault lines aboves (trace n text (only all (to place []) ∷ []) above) steps
+flow_alike frames fault lines aboves above text all n place [] steps d few h = let e = h.steps_are in absurd cc
+flow_alike frames fault lines aboves above text all n place (s ∷ below) steps d few h =
+    alike_next frames fault lines aboves s below (trace n text (only all (to place []) ∷ []) above) steps (λ m e.
+    flow_next frames fault lines aboves above text all n place s below m e d few
+    (λ more p is rest g. flow_alike frames fault lines (s ∷ aboves) (carried above s) text all p (place + 1) below more rest (omega (arith, few, is)) g)) h
 
 pub valued_source : (frames : List (List ℕ × Point)) (choices : Choices) (fault : Option TextFault) (lines : ℕ) (statements : List Statement)
     (m : Meaning) → AllByRecursion (λ (s : Statement). text_refusal s ≡ None) statements → meant (steps_from frames fault lines [] statements) ≡ Ok m
-    → meant (steps_up_to frames fault lines [] (all_stated [] (kept choices (all_valued [] (flow_of statements))))) ≡ Ok m
+    → meant (steps_up_to frames fault lines [] (all_stated [] (kept choices (all_valued [] (carried_out statements))))) ≡ Ok m
 valued_source frames choices fault lines statements m fit h =
     let found = meant_steps m (steps_from frames fault lines [] statements) h in
-    let flows = flow_alike frames fault lines [] [] statements most 0 statements found.0 refl (omega arith) found.1 in
-    flat_source frames choices fault lines (all_valued [] (flow_of statements)) m (valued_fits [] (flow_of statements) (flow_fits statements fit))
-    (ap meant (valued_alike frames fault lines [] [] (flow_of statements) found.0 refl flows) ∙ ap (λ (all : Meaning). Ok all) (sym found.2))
+    let source : Alike frames fault lines [] statements found.0 = record { steps_are = found.1; fits = all_fit_to frames [] statements fit } in
+    let flows = flow_alike frames fault lines [] [] statements (outside statements) 1000000 0 statements found.0 refl (omega arith) source in
+    let values = valued_alike frames fault lines [] [] (carried_out statements) found.0 refl flows in
+    let counts = all_kept frames choices fault lines [] (all_valued [] (carried_out statements)) found.0 refl values in
+    ap meant (up_to_end frames fault lines [] (all_stated [] (kept choices (all_valued [] (carried_out statements)))) found.0
+    (stated_alike frames fault lines [] [] (kept choices (all_valued [] (carried_out statements))) found.0 refl counts))
+    ∙ ap (λ (all : Meaning). Ok all) (sym found.2)

@@ -12,8 +12,9 @@ use Rattle.program_lowering.proofs.ReadBackLemmas.{HasShortLine, acts_back, read
 use Rattle.program_lowering.proofs.RunLemmas.{ended_append}
 use Rattle.program_lowering.specs.Inches.{all_stated}
 use Rattle.program_lowering.proofs.ValuedLemmas.{valued_line}
-use Rattle.program_flow.specs.Flow.{carried, flow_of, most, to}
-use Rattle.program_flow.proofs.Comes.{comes_all}
+use Rattle.program_flow.specs.Calls.{carried_out}
+use Rattle.program_flow.specs.Flow.{carried}
+use Rattle.program_flow.proofs.Comes.{all_carried_out}
 use Rattle.program_lowering.specs.Valued.{all_valued}
 use Rattle.program_lowering.specs.Lowering.{counted_at, kept_above, valued_statements}
 use Rattle.program_lowering.specs.StoredFrames.{is_used}
@@ -48,9 +49,9 @@ valued_short above (s ∷ statements) h =
     (subst (λ (n : ℕ). n < 2 ^ 64) (sym (valued_line above s)) h.0, valued_short (carried above s) statements h.1)
 
 -- and so are those of what comes out
-flow_short : (statements : List Statement) → AllByRecursion HasShortLine statements → AllByRecursion HasShortLine (flow_of statements)
-flow_short statements h = comes_all HasShortLine (λ s a short is line. subst (λ (n : ℕ). n < 2 ^ 64) (sym line) short) (λ s short. short) most statements
-    (to 0 []) [] h
+flow_short : (statements : List Statement) → AllByRecursion HasShortLine statements → AllByRecursion HasShortLine (carried_out statements)
+flow_short statements h = all_carried_out HasShortLine (λ s a short is line. subst (λ (n : ℕ). n < 2 ^ 64) (sym line) short)
+    (λ s a short line. subst (λ (n : ℕ). n < 2 ^ 64) (sym line) short) statements h
 
 pub programs_read_back : (frames : List (List ℕ × Point)) (choices : Choices) (text : List ℕ) (heads : List (List ℕ)) (m : Meaning)
     → length text < 2 ^ 64 → AllByRecursion IsComment heads → lowered_meaning frames choices text ≡ Ok m
@@ -60,7 +61,7 @@ programs_read_back frames choices text heads m few comments h =
     let short = numbers_short 1 (1 + length (lines text)) (text_reading text).statements (omega (arith, few, lines_few text)) (numbered_is 1 (lines text)).0 in
     ap (λ (t : List ℕ). program_of frames t) (sym (ended_append heads (flat_lines (all_stated [] (kept choices (valued_statements text))))))
     ∙ reads_back frames (text_reading text).fault (length (lines text)) (all_stated [] (kept choices (valued_statements text))) heads m
-    (stated_short [] (kept choices (valued_statements text)) (kept_short choices [] (valued_statements text) (valued_short [] (flow_of (text_reading text).statements) (flow_short (text_reading text).statements short)))) comments h
+    (stated_short [] (kept choices (valued_statements text)) (kept_short choices [] (valued_statements text) (valued_short [] (carried_out (text_reading text).statements) (flow_short (text_reading text).statements short)))) comments h
 
 pub texts_stay : (frames : List (List ℕ × Point)) (choices : Choices) (text : List ℕ) (heads : List (List ℕ)) (m : Meaning)
     → length text < 2 ^ 64 → AllByRecursion IsComment heads → lowered_meaning frames choices text ≡ Ok m
@@ -71,7 +72,7 @@ texts_stay frames choices text heads m few comments h =
     let short = numbers_short 1 (1 + length (lines text)) (text_reading text).statements (omega (arith, few, lines_few text)) (numbered_is 1 (lines text)).0 in
     ap (λ (t : List ℕ). acts_of frames (text_reading t).statements) (sym (ended_append heads (flat_lines (all_stated [] (kept choices (valued_statements text))))))
     ∙ acts_back frames (text_reading text).fault (length (lines text)) (all_stated [] (kept choices (valued_statements text))) heads m
-    (stated_short [] (kept choices (valued_statements text)) (kept_short choices [] (valued_statements text) (valued_short [] (flow_of (text_reading text).statements) (flow_short (text_reading text).statements short)))) comments h
+    (stated_short [] (kept choices (valued_statements text)) (kept_short choices [] (valued_statements text) (valued_short [] (carried_out (text_reading text).statements) (flow_short (text_reading text).statements short)))) comments h
 
 pub sources_keep : (frames : List (List ℕ × Point)) (choices : Choices) (text : List ℕ) (m : Meaning) → TextsFit text → program_of frames text ≡ Ok m
     → lowered_meaning frames choices text ≡ Ok m

@@ -17,7 +17,7 @@ use Rattle.program_lowering.specs.Flats.{Flat, flat_line, note_line}
 use Rattle.program_lowering.specs.StoredFrames.{by_frame, frame_notes, if_stored, is_used}
 use Rattle.program_review.specs.Texts.{is_operator_text}
 use Rattle.program_lowering.specs.Inches.{all_stated}
-use Rattle.program_flow.specs.Flow.{flow_of, flow_reading}
+use Rattle.program_flow.specs.Calls.{carried_out, flow_reading}
 use Rattle.program_lowering.specs.Valued.{all_valued, valued_reading}
 use Rattle.program_lowering.specs.OperatorTexts.{flat_meant, up_to_refused}
 use Rattle.program_lowering.specs.Reasons.{detail, reason_text}
@@ -60,7 +60,7 @@ kept_reading choices reading = up_to_refused reading.fault (all_stated [] (kept 
 
 -- the statements of a text as they are carried out, with their values
 abbrev pub valued_statements : List ℕ → List Statement
-valued_statements text = all_valued [] (flow_of (text_reading text).statements)
+valued_statements text = all_valued [] (carried_out (text_reading text).statements)
 
 -- what the text means with its values and without those that are left out, or its first refusal with its line
 abbrev pub lowered_meaning : List (List ℕ × Point) → Choices → List ℕ → Result Meaning (Refusal × ℕ)

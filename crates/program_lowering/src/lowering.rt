@@ -369,7 +369,9 @@ fn lines_of(
     let Ok((all, end)) = read_all(alloc, &mut statements) else {
         return Err(ProgramFault::Memory);
     };
-    let mut flow = Flow::new(alloc, all);
+    let Ok(mut flow) = Flow::new(alloc, all) else {
+        return Err(ProgramFault::Memory);
+    };
     let mut lowering = Lowering::new(alloc);
     let mut values = Values::new(alloc);
     loop {
@@ -379,11 +381,11 @@ fn lines_of(
         let Some(given) = next else {
             return Err(lowering.missing_end(end, statements.lines()));
         };
-        let all = flow.statements();
-        match take_given(&mut lowering, &mut values, choices, frames, all, &given) {
+        let outside = flow.outside();
+        match take_given(&mut lowering, &mut values, choices, frames, outside, &given) {
             Ok(true) => return lowering.finish(choices),
             Ok(false) => {}
-            Err(fault) => return Err(fault_at(fault, line_of(all, &given))),
+            Err(fault) => return Err(fault_at(fault, line_of(outside, &given))),
         }
     }
 }

@@ -52,7 +52,7 @@ pub record IsSine (f d : Fraction) : Type 0 where
   pub within : IsWithin (times (unsigned_abs f.over) f.under (partial_sum (unsigned_abs f.over) f.under (2 * pairs + 1) 2))
       (times (unsigned_abs f.over) f.under (partial_sum (unsigned_abs f.over) f.under (2 * pairs) 2)) (balance (turned_with f d))
 
--- pi is between these, in units of 10 ^ -20
+-- pi is 3.14159265358979323846264338.., so between these, in units of 10 ^ -20
 abbrev pub pi_lower : ℕ
 pi_lower = 314159265358979323846
 

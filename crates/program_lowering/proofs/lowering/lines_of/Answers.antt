@@ -19,19 +19,19 @@ pub take_given-requires : goal.take_given-requires
 take_given-requires c =
     let known = c.loop-next.invariant in
     let next = rw c.in-Some.is at (c.in-Ok-next.ensures.given known.0 known.1.holds) in
-    (next.0, subst (λ (ss : List Statement). IsGiven ss c.in-Some.given next.0) (sym (c.statements-all.ensures ∙ c.next.ensures.statements)) next.1)
+    (next.0, subst (λ (ss : List Statement). IsGiven ss c.in-Some.given next.0) (sym (c.outside-outside.ensures ∙ c.next.ensures.outside)) next.1)
 
 pub line_of-requires : goal.line_of-requires
 line_of-requires c =
     let known = c.loop-next.invariant in
     let next = rw c.in-Some.is at (c.in-Ok-next.ensures.given known.0 known.1.holds) in
-    (next.0, subst (λ (ss : List Statement). IsGiven ss c.in-Some.given next.0) (sym (c.statements-all.ensures ∙ c.next.ensures.statements)) next.1)
+    (next.0, subst (λ (ss : List Statement). IsGiven ss c.in-Some.given next.0) (sym (c.outside-outside.ensures ∙ c.next.ensures.outside)) next.1)
 
 pub returns-in-Ok-true : goal.returns-in-Ok-true
 returns-in-Ok-true c =
     let known = c.loop-next.invariant in
     let next = rw c.in-Some.is at (c.in-Ok-next.ensures.given known.0 known.1.holds) in
-    let of = subst (λ (ss : List Statement). IsGiven ss c.in-Some.given next.0) (sym (c.statements-all.ensures ∙ c.next.ensures.statements)) next.1 in
+    let of = subst (λ (ss : List Statement). IsGiven ss c.in-Some.given next.0) (sym (c.outside-outside.ensures ∙ c.next.ensures.outside)) next.1 in
     let given = rw c.in-Ok-true.field-0-test at (c.in-Ok-true.ensures known.0 next.0 of known.1).0 in
     let closed = closes_at c.args.frames.now c.args.choices (text_reading c.args.bytes.now).fault (length (lines c.args.bytes.now))
     (valued known.0 next.0) (all_valued known.0 (left_of c.loop-next.flow known.0))
@@ -44,7 +44,7 @@ pub returns-in-Err : goal.returns-in-Err
 returns-in-Err c =
     let known = c.loop-next.invariant in
     let next = rw c.in-Some.is at (c.in-Ok-next.ensures.given known.0 known.1.holds) in
-    let of = subst (λ (ss : List Statement). IsGiven ss c.in-Some.given next.0) (sym (c.statements-all.ensures ∙ c.next.ensures.statements)) next.1 in
+    let of = subst (λ (ss : List Statement). IsGiven ss c.in-Some.given next.0) (sym (c.outside-outside.ensures ∙ c.next.ensures.outside)) next.1 in
     rw c.fault_at.ensures (subst (λ (n : ℕ). GivesLines c.args.frames.now c.args.choices c.args.bytes.now (Err (fault_at c.in-Err.fault n)))
     (valued_line known.0 next.0 ∙ sym (c.line_of.ensures next.0 of)) (at_statement c.args.frames.now c.args.choices c.args.bytes.now c.in-Err.fault
     (valued known.0 next.0) (text_reading c.args.bytes.now).fault (length (lines c.args.bytes.now))
@@ -55,7 +55,7 @@ pub loop-next-preserved-in-Ok-false : goal.loop-next-preserved-in-Ok-false
 loop-next-preserved-in-Ok-false c =
     let known = c.loop-next.invariant in
     let next = rw c.in-Some.is at (c.in-Ok-next.ensures.given known.0 known.1.holds) in
-    let of = subst (λ (ss : List Statement). IsGiven ss c.in-Some.given next.0) (sym (c.statements-all.ensures ∙ c.next.ensures.statements)) next.1 in
+    let of = subst (λ (ss : List Statement). IsGiven ss c.in-Some.given next.0) (sym (c.outside-outside.ensures ∙ c.next.ensures.outside)) next.1 in
     let taken = c.in-Ok-false.ensures known.0 next.0 of known.1 in
     let given = rw c.in-Ok-false.field-0-test at taken.0 in
     let rest = goes_past c.args.frames.now c.args.choices (text_reading c.args.bytes.now).fault (length (lines c.args.bytes.now))
@@ -68,7 +68,7 @@ pub loop-next-preserved : goal.loop-next-preserved
 loop-next-preserved c =
     let known = c.loop-next.invariant in
     let next = rw c.in-Some.is at (c.in-Ok-next.ensures.given known.0 known.1.holds) in
-    let of = subst (λ (ss : List Statement). IsGiven ss c.in-Some.given next.0) (sym (c.statements-all.ensures ∙ c.next.ensures.statements)) next.1 in
+    let of = subst (λ (ss : List Statement). IsGiven ss c.in-Some.given next.0) (sym (c.outside-outside.ensures ∙ c.next.ensures.outside)) next.1 in
     let taken = c.in-Ok-false.ensures known.0 next.0 of known.1 in
     let given = rw c.in-Ok-false.field-0-test at taken.0 in
     let rest = goes_past c.args.frames.now c.args.choices (text_reading c.args.bytes.now).fault (length (lines c.args.bytes.now))
