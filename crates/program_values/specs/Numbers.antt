@@ -1,5 +1,5 @@
 -- Exact numbers: fractions in lowest terms within a bound (this profile), and their arithmetic.
-use Rattle.std.specs.Prelude.{ℕ, zero, suc, ◌*◌, ◌/◌, ◌%◌, ◌<◌, ◌≤◌, Bool, ◌&&◌, nat_le, ◌==◌, ℤ, pos, neg_ℤ, ◌*ℤ◌, ◌+ℤ◌}
+use Rattle.std.specs.Prelude.{ℕ, zero, suc, ◌*◌, ◌/◌, ◌%◌, ◌^◌, ◌<◌, ◌≤◌, Bool, ◌&&◌, nat_le, ◌==◌, ℤ, pos, neg_ℤ, ◌*ℤ◌, ◌+ℤ◌}
 use Rattle.std.specs.Prelude.{unsigned_abs, int_lt, List, Result, Ok, Err, if◌then◌else◌}
 use Rattle.std.specs.Fmt.{signed_decimal}
 use Rattle.fixed_um.specs.Computed.{rounded}
@@ -91,6 +91,16 @@ power f g = if (g.under == 1) && nat_le (unsigned_abs g.over) 64 then power_with
 -- the millionths nearest to a number; of two those farther from zero
 abbrev pub millionths : Fraction → ℤ
 millionths f = signed (int_lt f.over (pos 0)) (rounded (unsigned_abs f.over * 1000000) f.under)
+
+-- the product to the nearest millionth: that of the numerators may be up to 10 ^ 32
+abbrev pub in_millionths : Bool → ℕ → ℕ → Result Fraction ValueFault
+in_millionths negative n m = reduced (signed negative (rounded (n * 1000000) m)) 1000000
+
+unfoldable pub nearest_millionth : ℤ → ℕ → Result Fraction ValueFault
+nearest_millionth a b = if nat_le (unsigned_abs a) (10 ^ 32) then in_millionths (int_lt a (pos 0)) (unsigned_abs a) b else Err PastBound
+
+abbrev pub rounded_product : Fraction → Fraction → Result Fraction ValueFault
+rounded_product f g = nearest_millionth (f.over *ℤ g.over) (f.under * g.under)
 
 -- as a numeral: a whole number without a point, another in millionths
 abbrev pub numeral : Fraction → List ℕ

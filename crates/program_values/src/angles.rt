@@ -58,7 +58,7 @@ fn series(over: u128, under: u128, terms: u64, first: u64) -> (u128, u128)
 
 /// The cosine of a number of radians up to 7, or `PastBound`.
 #[tactic(auto, unfolding(crate::specs::Angles::cosine))]
-pub(crate) fn cosine(number: Number) -> Result<Number, ValueFault>
+pub fn cosine(number: Number) -> Result<Number, ValueFault>
     ensures { result ≡ spec.cosine number }
 {
     let (_, over, under) = number.split();
@@ -71,7 +71,7 @@ pub(crate) fn cosine(number: Number) -> Result<Number, ValueFault>
 
 /// The sine of a number of radians up to 7, or `PastBound`.
 #[tactic(auto, unfolding(crate::specs::Angles::sine))]
-pub(crate) fn sine(number: Number) -> Result<Number, ValueFault>
+pub fn sine(number: Number) -> Result<Number, ValueFault>
     ensures { result ≡ spec.sine number }
 {
     let (negative, over, under) = number.split();
@@ -89,7 +89,7 @@ pub(crate) fn sine(number: Number) -> Result<Number, ValueFault>
 
 /// Degrees up to 10^6 in radians, or `PastBound`.
 #[tactic(auto, unfolding(crate::specs::Angles::in_radians))]
-pub(crate) fn in_radians(number: Number) -> Result<Number, ValueFault>
+pub fn in_radians(number: Number) -> Result<Number, ValueFault>
     ensures { result ≡ spec.in_radians number }
 {
     let (negative, over, under) = number.split();

@@ -2,7 +2,7 @@
 
 ghost use Rattle.std.specs.Prelude.{◌≡◌, ◌≤◌, ◌*◌, ◌/◌, ◌^◌, ◌∷◌, ◌++◌, ℕ, Err, IsOk, List, None, Ok, Some, codes, decimal, false, int_lt, true, pos, negsuc, unsigned_abs};
 ghost use Rattle.std.specs.Int.{IsGcd};
-ghost use Rattle.program_values.specs.Numbers.{Fraction, IsBounded, gcd, numeral};
+ghost use Rattle.program_values.specs.Numbers.{Fraction, IsBounded, gcd, numeral, rounded_product};
 ghost use Rattle.program_values.specs.Examples.{Gives, Fails, a_is_seven, assigning, declaring, refusal, start};
 ghost use Rattle.program_values.specs.LookBack.{Holds, is_declaration, value_said};
 ghost use Rattle.program_values.specs.Nearness.{IsCosine, IsInDegrees, IsInRadians, IsSine};
@@ -137,6 +137,24 @@ pub fn angles_are_decimals()
     ensures past_radians { Fails (codes "DTOR(1E6+1)") fault.PastBound }
     ensures past_degrees { Fails (codes "RTOD(-1E6-1)") fault.PastBound }
     ensures past_places { Fails (codes "RTOD(1E6)") fault.PastBound }
+{}
+
+/// Products are rounded to the nearest millionth, also where the exact one is past the bound.
+#[tactic(auto, unfolding(crate::specs::Numbers::reduced, crate::specs::Numbers::gcd_within, crate::specs::Numbers::nearest_millionth))]
+pub fn products_are_rounded()
+    ensures third { rounded_product (record { over = negsuc 0; under = 3 }) (whole_number (pos 2))
+        ≡ Ok (record { over = negsuc 666666; under = 1000000 }) }
+    ensures half { rounded_product (record { over = negsuc 0; under = 2000000 })
+        (whole_number (negsuc 0)) ≡ Ok (record { over = pos 1; under = 1000000 }) }
+    ensures wide { rounded_product (record { over = pos 123456789; under = 1000 })
+        (record { over = pos 707106781187; under = 1000000000000 })
+        ≡ Ok (record { over = pos 17459426537; under = 200000 }) }
+    ensures most { rounded_product (whole_number (pos 10000000000000000))
+        (record { over = pos 10000000000000000; under = 1000000000000000000 })
+        ≡ Ok (whole_number (pos 100000000000000)) }
+    ensures past { rounded_product (whole_number (pos 10000000000000000))
+        (record { over = pos 10000000000000001; under = 1000000000000000000 })
+        ≡ Err fault.PastBound }
 {}
 
 /// What has no value, and why.

@@ -18,6 +18,7 @@ mod texts;
 mod values;
 mod variables;
 
+pub use angles::{cosine, in_radians, sine};
 pub use faults::ValueFault;
 pub use numbers::Number;
 pub use texts::expanded;

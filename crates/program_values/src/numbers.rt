@@ -1,6 +1,6 @@
 // Exact numbers and their arithmetic.
 
-ghost use Rattle.std.specs.Prelude.{◌≡◌, ◌<◌, ◌≤◌, ◌++◌, ◌∷◌, [], ◌*◌, ◌*ℤ◌, ◌+ℤ◌, OnOk, Ok, int_lt, pos, unsigned_abs};
+ghost use Rattle.std.specs.Prelude.{◌≡◌, ◌<◌, ◌≤◌, ◌++◌, ◌∷◌, [], ◌*◌, ◌^◌, ◌*ℤ◌, ◌+ℤ◌, OnOk, Ok, int_lt, pos, unsigned_abs};
 ghost use Rattle.program_values.specs.Numbers as spec;
 ghost use Rattle.program_values.specs.Numbers.{IsBounded, bound};
 ghost use Rattle.program_values.specs.Texts.{whole_of};
@@ -14,6 +14,9 @@ use std::marker::Model;
 
 /// The greatest numerator and denominator.
 const BOUND: u128 = 1_000_000_000_000_000_000;
+
+/// The greatest numerator of a product that is rounded.
+const MOST: u128 = 100_000_000_000_000_000_000_000_000_000_000;
 
 /// An exact number: a fraction in lowest terms, with numerator and denominator up to 10^18.
 #[derive(Clone, Copy, Debug, PartialEq, Eq)]
@@ -95,6 +98,31 @@ fn sum_over(left: i128, right: i128, under: u128) -> Result<Number, ValueFault>
     reduced(left + right, under)
 }
 
+/// A fraction to the nearest millionth.
+fn in_millionths(negative: bool, over: u128, under: u128) -> Result<Number, ValueFault>
+    requires over { over ≤ 10 ^ 32 }
+    requires some { 0 < under }
+    requires under { under ≤ bound * bound }
+    ensures { result ≡ spec.in_millionths negative over under }
+{
+    let rounded = ((2 * (over * 1_000_000) + under) / (2 * under)) as i128;
+    reduced(if negative { -rounded } else { rounded }, 1_000_000)
+}
+
+/// Likewise, or `PastBound`.
+#[tactic(auto, unfolding(crate::specs::Numbers::nearest_millionth))]
+fn nearest_millionth(over: i128, under: u128) -> Result<Number, ValueFault>
+    requires some { 0 < under }
+    requires under { under ≤ bound * bound }
+    ensures { result ≡ spec.nearest_millionth over under }
+{
+    let magnitude = over.unsigned_abs();
+    if magnitude > MOST {
+        return Err(ValueFault::PastBound);
+    }
+    in_millionths(over < 0, magnitude, under)
+}
+
 impl Number {
     /// Whether it is below zero, its numerator without the sign, and its denominator.
     pub(crate) fn split(self) -> (bool, u128, u128)
@@ -134,6 +162,14 @@ impl Number {
     {
         let over = i128::from(self.over) * i128::from(other.over);
         reduced(over, u128::from(self.under) * u128::from(other.under))
+    }
+
+    /// The product of two numbers to the nearest millionth, or `PastBound` if that of the numerators is past 10^32.
+    pub fn rounded_product(self, other: Number) -> Result<Number, ValueFault>
+        ensures { result ≡ spec.rounded_product self other }
+    {
+        let over = i128::from(self.over) * i128::from(other.over);
+        nearest_millionth(over, u128::from(self.under) * u128::from(other.under))
     }
 
     /// The number with its sign turned.
