@@ -1,7 +1,7 @@
 """Programs with variables, branches, selections, loops, jumps and macros, made at random and lowered.
 
 Each is carried out here, too, by a second reading: of the tree that its text is written from, with exact fractions, and with power series for
-the functions. The moves, their lines and their order have to be those of `dme lower`; or the line of the first statement that cannot be
+the functions. The moves, their lines, their order and where each decision leads have to be those of `dme lower`; or the line of the first statement that cannot be
 carried out that of its refusal. Some of the programs are flat already. What is lowered is lowered again, and stays.
 
 `run` calls this with a few programs; by itself: tests/lowered.py [COUNT], 3000 by default.
@@ -93,7 +93,7 @@ class Macro:
     """Its name, its parameters and its parts; a parameter may have the name of a variable, and is not assigned to."""
 
     def __init__(self, name, params):
-        self.name, self.params, self.parts = name, params, None
+        self.name, self.params, self.parts, self.line = name, params, None, None
 
 
 class Scope:
@@ -118,7 +118,7 @@ class Made:
     """A program: its lines, and what they mean, as a list of parts, each with its line."""
 
     def __init__(self, seed):
-        self.random, self.lines, self.loops, self.labels = random.Random(seed), [], [], 0
+        self.random, self.lines, self.loops, self.labels = random.Random(seed), [], [], {}
         # A macro calls those before it; now and then itself, one that is not there, or one with an argument too many.
         self.macros = [Macro(f"A{n}", self.random.sample(WHOLE + ("X", "N"), self.random.randint(0, 2))) for n in range(self.random.randint(0, 3))]
         self.called, self.params = list(self.macros), []
@@ -213,14 +213,20 @@ class Made:
 
     def branch(self, depth, targets):
         condition = self.condition()
-        self.add(f"IF/({condition[0]})")
+        line = self.add(f"IF/({condition[0]})")
         first = self.block(depth - 1, targets)
-        second = []
+        second, other = [], None
         if self.random.random() < 0.5:
-            self.add("ELSE")
+            other = self.add("ELSE")
             second = self.block(depth - 1, targets)
-        self.add("ENDIF")
-        return lambda flow: flow.block(first if condition[2](flow.values) else second)
+        end = self.add("ENDIF")
+
+        def carry_out(flow):
+            holds = condition[2](flow.values)
+            flow.lead(line, "IF", (line if holds else other or end) + 1)
+            flow.block(first if holds else second)
+
+        return carry_out
 
     def selection(self, depth, targets):
         """Branches by the value of an expression: each has a list of texts, or none if it is for all other values. Some programs have a
@@ -230,16 +236,18 @@ class Made:
         kinds = self.random.choices(("case", "other", "move"), (14, 1, 1), k=self.random.randint(0, 3))
         kinds += ["other"] * (self.random.random() < 0.5)
         branches = [getattr(self, f"branch_of_{it}")(depth, targets, wanted) for it in kinds]
-        self.add("ENDSEL")
+        end = self.add("ENDSEL")
 
         def carry_out(flow):
             value = wanted[2](flow.values)
-            for index, (texts, inner) in enumerate(branches):
+            for index, (texts, inner, head) in enumerate(branches):
                 if inner is None or texts is None and index + 1 < len(branches):
                     raise Refused(line)
                 if texts is None or any(it[2](flow.values) == value for it in texts):
+                    flow.lead(line, "SELECT", head + 1)
                     flow.block(inner)
-                    break
+                    return
+            flow.lead(line, "SELECT", end + 1)
 
         return carry_out
 
@@ -250,20 +258,20 @@ class Made:
             number = self.random.randint(2, 7)
             same = f"({wanted[0]})*{number}/{number}", 1, wanted[2]
             texts.insert(self.random.randint(0, len(texts)), same)
-        self.add(f"CASE/{','.join(it[0] for it in texts)}")
+        head = self.add(f"CASE/{','.join(it[0] for it in texts)}")
         inner = self.block(depth - 1, targets)
         self.add("ENDCAS")
-        return texts, inner
+        return texts, inner, head
 
     def branch_of_other(self, depth, targets, _wanted):
-        self.add("DFTCAS")
+        head = self.add("DFTCAS")
         inner = self.block(depth - 1, targets)
         self.add("ENDCAS")
-        return None, inner
+        return None, inner, head
 
     def branch_of_move(self, _depth, _targets, _wanted):
         self.move()
-        return None, None
+        return None, None, None
 
     def loop(self, depth, targets):
         free = [it for it in WHOLE if it not in self.loops]
@@ -305,7 +313,7 @@ class Made:
 
     def body(self, macro, index):
         """The lines of a macro, and its parts."""
-        self.add(f"M({macro.name})=MACRO" + "/" * bool(macro.params) + ",".join(macro.params))
+        macro.line = self.add(f"M({macro.name})=MACRO" + "/" * bool(macro.params) + ",".join(macro.params))
         self.called, self.params = self.macros[:index] + [macro] * (self.random.random() < 0.05), macro.params
         self.loops += macro.params
         macro.parts = self.block(2, [])
@@ -316,9 +324,10 @@ class Made:
         if not targets:
             return self.move()
         name = self.random.choice(targets)
-        self.add(f"JUMPTO/({name})")
+        line = self.add(f"JUMPTO/({name})")
 
         def carry_out(flow):
+            flow.lead(line, "JUMPTO", self.labels[name])
             raise Jumped(name)
 
         return carry_out
@@ -334,11 +343,11 @@ class Made:
         """Some parts, and perhaps a label below them, to which those above may jump; each part with the label that stands above it."""
         label = None
         if self.random.random() < 0.4:
-            self.labels += 1
-            label = f"L{self.labels}"
+            label = f"L{len(self.labels)}"
+            self.labels[label] = None
         parts = [(None, self.part(depth, targets + [label] * (label is not None))) for _ in range(self.random.randint(1, 4))]
         if label is not None:
-            self.add(f"({label})")
+            self.labels[label] = self.add(f"({label})")
             parts.append((label, self.part(depth, targets)))
         return parts
 
@@ -346,8 +355,15 @@ class Made:
 class Flow:
     """A program as it is carried out."""
 
-    def __init__(self):
-        self.values, self.out, self.open, self.turns = Scope({}, {}), [], [], 0
+    def __init__(self, lines):
+        self.lines, self.values, self.out, self.leads, self.open, self.calls, self.turns = lines, Scope({}, {}), [], [], [], [], 0
+
+    def lead(self, line, word, target):
+        """A decision: what follows is the statement on a line, or below it, if it ends a macro or begins one."""
+        calls = list(self.calls)
+        while "MACRO" in self.lines[target - 1] or self.lines[target - 1] == "ENDMAC" and calls:
+            target = calls.pop() + 1 if self.lines[target - 1] == "ENDMAC" else self.lines.index("ENDMAC", target) + 2
+        self.leads.append(f"dme: line {line}: {word} is left out: it leads to line {target}")
 
     def move(self, line, values):
         self.out.append(f"GOTO/CART,{','.join(written(it) for it in values)} $$ line {line}")
@@ -369,9 +385,12 @@ class Flow:
     def call(self, line, macro, arguments):
         if macro.parts is None or macro in self.open or len(arguments) != len(macro.params):
             raise Refused(line)
+        self.lead(line, "CALL", macro.line + 1)
         scope, self.values = self.values, Scope(self.values.variables, {it: (value, self.values) for it, value in zip(macro.params, arguments)})
         self.open.append(macro)
+        self.calls.append(line)
         self.block(macro.parts)
+        self.calls.pop()
         self.open.pop()
         self.values = scope
 
@@ -396,11 +415,11 @@ def written(micrometres):
 
 
 def made(seed, again=0):
-    """The text of a program, and what comes out: its statements, or the line that is refused."""
+    """The text of a program, and what comes out: its statements and decisions, or the line that is refused."""
     program = Made(f"{seed} {again}")
     program.add("DMISMN/'MADE',05.2")
     selected = program.add("SNSLCT/S(P1)")
-    flow, parts, below = Flow(), [], []
+    flow, parts, below = Flow(program.lines), [], []
     if seed % 10 == 0:
         parts = [(None, flat_move(program)) for _ in range(program.random.randint(1, 9))]
     else:
@@ -425,7 +444,7 @@ def made(seed, again=0):
         return text, refused.args[0]
     except TooMuch:
         return made(seed, again + 1)
-    return text, ["DMISMN $$ line 1", f"SNSLCT/S(P1) $$ line {selected}", *flow.out, f"ENDFIL $$ line {last}"]
+    return text, (["DMISMN $$ line 1", f"SNSLCT/S(P1) $$ line {selected}", *flow.out, f"ENDFIL $$ line {last}"], flow.leads)
 
 
 def flat_move(program):
@@ -451,7 +470,8 @@ def check_one(seed):
         must(status == 1 and errors.endswith(f" at line {expected}\n"), seed, expected, errors, text)
         return True
     statements = [it for it in out.splitlines() if not it.startswith("$$")]
-    must(status == 0 and statements == expected, seed, status, errors, text, out, expected)
+    leads = [it for it in errors.splitlines() if ": it leads to line " in it]
+    must(status == 0 and (statements, leads) == expected, seed, status, errors, text, out, expected)
     status, again, errors = lowered(out)
     must(status == 0 and without_lines([it for it in again.splitlines() if not it.startswith("$$")]) == without_lines(statements), seed, "again", errors)
     return False

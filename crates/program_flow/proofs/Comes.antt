@@ -310,6 +310,42 @@ module _ (Q : Statement → Type 0) (assigned : (s a : Statement) → Q s → by
         go [] g = left_comes outer h.1
         go (s ∷ below) g = by (is_call s) (begins_macro s || ends_macro s) s g.0
 
+    -- what a statement decides
+    up_line_comes : (line : ℕ) (text : List ℕ) (s : Statement) → s.line ≡ line → Q s → OneComes (said_by line text)
+    unfolding said_by
+    up_line_comes line text s e q = subst (λ (n : ℕ). OneComes (only_statement n (text_reading text).statements (text_reading text).fault)) e
+        (only_comes s (text_reading text).statements (text_reading text).fault q)
+
+    told_comes : (s : Statement) (due : Step) → Q s → StepComes due → StepComes (calls.told s.line s.word due)
+    told_comes s calls.Step.Ends q h = tt
+    told_comes s (calls.Step.Gives t next) q h = h
+    told_comes s (calls.Step.Passes next) q h = go (said_by s.line (calls.lead_text s.word (given_up_in next)))
+        (up_line_comes s.line (calls.lead_text s.word (given_up_in next)) s refl q)
+      where
+        go : (o : Option Statement) → OneComes o → StepComes (calls.leads o next)
+        go None one = h
+        go (Some t) one = (one, h)
+    told_comes s (calls.Step.Stops t) q h = go (said_by s.line s.word) (up_line_comes s.line s.word s refl q)
+      where
+        go : (o : Option Statement) → OneComes o → Q (calls.bare o t)
+        go None one = h
+        go (Some u) one = one
+
+    told_step_comes : (text : List Statement) (values : Valuation) (frames : List Frame) → AllByRecursion Q text → AllIn frames
+        → StepComes (calls.told_step text values frames)
+    told_step_comes text values [] all h = step_comes text values [] all h
+    told_step_comes text values (f ∷ outer) all h =
+        go (drop f.control.place f.statements) (dropped f.control.place f.statements h.0) (step_comes text values (f ∷ outer) all h)
+      where
+        by : (b : Bool) (s : Statement) (due : Step) → Q s → StepComes due → StepComes (calls.told_as (cond b (Some (s.line, s.word)) None) due)
+        by true s due q d = told_comes s due q d
+        by false s due q d = d
+
+        go : (below : List Statement) → AllByRecursion Q below → StepComes (step text values (f ∷ outer))
+            → StepComes (calls.told_as (calls.decision_at below) (step text values (f ∷ outer)))
+        go [] g d = d
+        go (s ∷ below) g d = by (is_call s || calls.decides (part_of s)) s (step text values (f ∷ outer)) g.0 d
+
     traced_all : (rest : List Frame → List Statement → List Statement) (above : List Statement) (t : Step)
         → ((next : List Frame) (more : List Statement) → AllIn next → AllByRecursion Q (rest next more)) → StepComes t
         → AllByRecursion Q (calls.traced rest above t)
@@ -331,8 +367,8 @@ module _ (Q : Statement → Type 0) (assigned : (s a : Statement) → Q s → by
         → AllByRecursion Q (calls.trace n text frames above)
     comes_all zero text frames above all h = subst (AllByRecursion Q) (sym (call-done zero text frames above refl)) (up_all frames h)
     comes_all (suc n) text frames above all h = subst (AllByRecursion Q) (sym (call-step n (suc n) text frames above refl))
-        (traced_all (calls.trace n text) above (step text (value_said above) frames) (λ next more g. comes_all n text next more all g)
-        (step_comes text (value_said above) frames all h))
+        (traced_all (calls.trace n text) above (calls.told_step text (value_said above) frames) (λ next more g. comes_all n text next more all g)
+        (told_step_comes text (value_said above) frames all h))
 
     pub all_carried_out : (text : List Statement) → AllByRecursion Q text → AllByRecursion Q (calls.trace 1000000 text (calls.begun text) [])
     all_carried_out text h = comes_all 1000000 text (calls.begun text) [] h (outside_comes false text h, tt)

@@ -1,21 +1,19 @@
--- A text without macros and calls is carried out as if there were none.
-use Rattle.std.proofs.Common.{◌≡◌, ℕ, zero, suc, ◌+◌, Bool, true, false, List, [], ◌∷◌, drop, refl, ap, sym, ◌∙◌}
+-- What is carried out of a text without the words of control flow, macros and calls.
+use Rattle.std.proofs.Common.{◌≡◌, ℕ, zero, suc, ◌+◌, ◌<◌, Bool, true, false, List, [], ◌∷◌, arith, drop, length, refl, ap, sym, ◌∙◌}
 use Rattle.std.specs.Prelude.{◌||◌, not}
 use Rattle.std.specs.List.{AllByRecursion}
 use Rattle.dmis_text.specs.declared.elements.Statement.{Statement}
 use Rattle.program_values.specs.LookBack.{value_said}
-use Rattle.program_flow.specs.Calls.{Frame, Step, begun, call_of, is_call, is_plain, lifted, step, step_at, step_of}
+use Rattle.program_flow.specs.Calls.{Frame, Step, begun, decision_at, is_call, is_plain, lifted, next_of, step, told_as}
 use Rattle.program_flow.specs.Calls as calls
-use Rattle.program_flow.specs.Flow as flow
-use Rattle.program_flow.specs.Flow.{Control, Turn, Valuation, carried, given_up, to, turn, turn_at}
+use Rattle.program_flow.specs.Flow.{Control, Turn, Valuation, carried, to}
 use Rattle.program_flow.specs.Macros.{begins_macro, ends_macro, outside_after}
 use Rattle.program_flow.specs.Blocks.{part_of}
 use Rattle.program_flow.specs.declared.blocks.Block.{Block}
 use Rattle.program_flow.specs.declared.blocks.Part.TheVariants.{Other}
-use Rattle.program_flow.proofs.Frames.{call-step}
-use Rattle.program_flow.proofs.Leads.{step-here, step-turned}
-use Rattle.program_flow.proofs.Straight.{turn-other}
-use Rattle.program_flow.proofs.Steps.{trace-done, trace-step, turn-end}
+use Rattle.program_flow.proofs.Frames.{call-step, told-ends, told-gives}
+use Rattle.program_flow.proofs.Leads.{step-here, step-past, step-turned}
+use Rattle.program_flow.proofs.Straight.{drop-next, turn-other}
 
 -- the only frame of such a text
 abbrev pub only : List Statement → Control → Frame
@@ -27,52 +25,12 @@ not_all true b c h = absurd cc
 not_all false true c h = absurd cc
 not_all false false true h = absurd cc
 
-outside_same : (text : List Statement) → AllByRecursion (λ (s : Statement). is_plain s ≡ true) text → outside_after false text ≡ text
+outside_same : (text : List Statement) → AllByRecursion (λ (s : Statement). (is_plain s ≡ true) × (part_of s ≡ Other)) text → outside_after false text ≡ text
 unfolding outside_after
 outside_same [] h = refl
 outside_same (s ∷ below) h =
-    let plain = not_all (is_call s) (begins_macro s) (ends_macro s) h.0 in
+    let plain = not_all (is_call s) (begins_macro s) (ends_macro s) h.0.0 in
     rw plain.1.0 (ap (λ (ss : List Statement). s ∷ ss) (outside_same below h.1))
-
-dropped : (place : ℕ) (text : List Statement) → AllByRecursion (λ (s : Statement). is_plain s ≡ true) text
-    → AllByRecursion (λ (s : Statement). is_plain s ≡ true) (drop place text)
-dropped zero text h = h
-dropped (suc place) [] h = h
-dropped (suc place) (s ∷ text) h = dropped place text h.1
-
-step_is : (text : List Statement) (values : Valuation) (c : Control) → AllByRecursion (λ (s : Statement). is_plain s ≡ true) text
-    → step text values (only text c ∷ []) ≡ lifted (only text c) [] (turn text values c)
-unfolding step
-step_is text values c h = go (drop c.place text) (dropped c.place text h) refl
-  where
-    go : (below : List Statement) → AllByRecursion (λ (s : Statement). is_plain s ≡ true) below → drop c.place text ≡ below
-        → step_at text values (only text c) [] below ≡ lifted (only text c) [] (turn text values c)
-    go [] h e = sym (ap (λ (t : Turn). lifted (only text c) [] t) (turn-end text values c e))
-    go (s ∷ below) h e = let plain = not_all (is_call s) (begins_macro s) (ends_macro s) h.0 in rw (plain.0, plain.1.0, plain.1.1) refl
-
-trace_is : (n : ℕ) (text : List Statement) (c : Control) (above : List Statement) → AllByRecursion (λ (s : Statement). is_plain s ≡ true) text
-    → calls.trace n text (only text c ∷ []) above ≡ flow.trace n text c above
-unfolding calls.trace
-trace_is zero text c above h = go (drop c.place text) ∙ sym (trace-done zero text c above refl)
-  where
-    go : (below : List Statement) → calls.ended_by below [] ≡ given_up below
-    go [] = refl
-    go (s ∷ below) = refl
-trace_is (suc n) text c above h =
-    ap (λ (s : Step). calls.traced (calls.trace n text) above s) (step_is text (value_said above) c h)
-    ∙ (go (turn text (value_said above) c) (λ next more. trace_is n text next more h) ∙ sym (trace-step n (suc n) text c above refl))
-  where
-    go : (t : Turn) → ((next : Control) (more : List Statement) → calls.trace n text (only text next ∷ []) more ≡ flow.trace n text next more)
-        → calls.traced (calls.trace n text) above (lifted (only text c) [] t) ≡ flow.traced (flow.trace n text) above t
-    go flow.Turn.Ends same = refl
-    go (flow.Turn.Stops s) same = refl
-    go (flow.Turn.Passes next) same = same next above
-    go (flow.Turn.Gives s next) same = ap (λ (ss : List Statement). s ∷ ss) (same next (carried above s))
-
-pub plain_text : (text : List Statement) → AllByRecursion (λ (s : Statement). is_plain s ≡ true) text
-    → calls.trace 1000000 text (begun text) [] ≡ flow.trace 1000000 text (to 0 []) []
-plain_text text h = ap (λ (ss : List Statement). calls.trace 1000000 text (only ss (to 0 []) ∷ []) []) (outside_same text h)
-    ∙ trace_is 1000000 text (to 0 []) [] h
 
 -- another statement than those of control flow, macros and calls comes out, and the next one follows
 pub step-other : (text : List Statement) (values : Valuation) (name : List ℕ) (all : List Statement) (place : ℕ) (blocks : List Block)
@@ -89,7 +47,27 @@ pub call-other : (n place : ℕ) (text all above : List Statement) (s : Statemen
     → is_plain s ≡ true → part_of s ≡ Other
     → calls.trace (suc n) text (only all (to place []) ∷ []) above ≡ s ∷ calls.trace n text (only all (to (place + 1) []) ∷ []) (carried above s)
 call-other n place text all above s below d p o = call-step n (suc n) text (only all (to place []) ∷ []) above refl
-    ∙ ap (λ (t : Step). calls.traced (calls.trace n text) above t) (step-other text (value_said above) [] all place [] [] s below d p o)
+    ∙ ap (λ (t : Step). calls.traced (calls.trace n text) above t)
+    (ap (λ (t : Step). told_as (decision_at (next_of (only all (to place []) ∷ []))) t) (step-other text (value_said above) [] all place [] [] s below d p o)
+    ∙ told-gives (decision_at (next_of (only all (to place []) ∷ []))) s (only all (to (place + 1) []) ∷ []))
+
+abbrev pub IsStraight : Statement → Type 0
+IsStraight s = (is_plain s ≡ true) × (part_of s ≡ Other)
+
+straight : (n place : ℕ) (text all above below : List Statement) → drop place all ≡ below → AllByRecursion IsStraight below → length below < n
+    → calls.trace n text (only all (to place []) ∷ []) above ≡ below
+straight zero place text all above below d h few = absurd (omega (arith, few))
+straight (suc n) place text all above [] d h few = call-step n (suc n) text (only all (to place []) ∷ []) above refl
+    ∙ ap (λ (t : Step). calls.traced (calls.trace n text) above (told_as (decision_at (next_of (only all (to place []) ∷ []))) t))
+    (step-past text (value_said above) (only all (to place [])) [] d) ∙ ap (λ (t : Step). calls.traced (calls.trace n text) above t)
+    (told-ends (decision_at (next_of (only all (to place []) ∷ []))))
+straight (suc n) place text all above (s ∷ below) d h few = call-other n place text all above s below d h.0.0 h.0.1
+    ∙ ap (λ (ss : List Statement). s ∷ ss) (straight n (place + 1) text all (carried above s) below (drop-next place all s below d) h.1 (omega (arith, few)))
+
+pub straight_text : (text : List Statement) → AllByRecursion IsStraight text → length text < 1000000
+    → calls.trace 1000000 text (begun text) [] ≡ text
+straight_text text h few = ap (λ (ss : List Statement). calls.trace 1000000 text (only ss (to 0 []) ∷ []) []) (outside_same text h)
+    ∙ straight 1000000 0 text text [] text refl h few
 
 -- and is outside macros
 pub outside-other : (s : Statement) (below : List Statement) → is_plain s ≡ true → outside_after false (s ∷ below) ≡ s ∷ outside_after false below

@@ -4,16 +4,16 @@ use Rattle.std.specs.Prelude.{Result, Err, List}
 use Rattle.program_values.specs.Numbers.{Fraction}
 use Rattle.program_values.specs.declared.faults.ValueFault.{ValueFault}
 use Rattle.program_values.specs.declared.faults.ValueFault.TheVariants.{TooDeep}
-use Rattle.std.proofs.Common.{[], ◌∷◌, ◌+◌, ◌≤◌, Bool, cond, false, length, true}
+use Rattle.std.proofs.Common.{[], ◌∷◌, ◌≤◌, Bool, cond, false, length, true}
 use Rattle.std.specs.Prelude.{bytes_eq, codes, drop, get_or, is_some, None, Option, Some}
 use Rattle.dmis_text.specs.Reading.{Reading, text_reading}
 use Rattle.dmis_text.specs.declared.reading.TextFault.{TextFault}
 use Rattle.dmis_text.specs.declared.elements.Statement.{Statement}
-use Rattle.program_values.specs.LookBack.{Holds, value_said}
-use Rattle.program_values.specs.Variables.{Entry, entry_value}
+use Rattle.std.specs.Fmt.{digits}
+use Rattle.std.specs.Prelude.{decimal}
+use Rattle.program_flow.specs.Calls.{line_digits}
 use Rattle.program_flow.specs.Conditions.{Parts, holds_within, parts_hold, parts_of}
-use Rattle.program_flow.specs.Flow.{Control, Turn, Valuation, assignment, only_assignment, given_up, trace, traced, turn, turn_at}
-use Rattle.program_flow.specs.Flow.Turn.{Ends}
+use Rattle.program_flow.specs.Flow.{assignment, only_assignment}
 
 pub holds_within-done : (values : List ℕ → Result Fraction ValueFault) (n : ℕ) (text : List ℕ) → n ≡ 0 → Err TooDeep ≡ holds_within values n text
 unfolding holds_within
@@ -29,36 +29,6 @@ pub holds_within-by : (values : List ℕ → Result Fraction ValueFault) (n : �
     → parts_hold values (holds_within values (n - 1)) parts ≡ holds_within values n text
 holds_within-by values n text parts some e = ap (λ p. parts_hold values (holds_within values (n - 1)) p) e
     ∙ holds_within-step values (n - 1) n text (omega (arith, some))
-
--- ---- one turn of a trace
-
-pub trace-done : (n : ℕ) (statements : List Statement) (c : Control) (above : List Statement) → n ≡ 0
-    → trace n statements c above ≡ given_up (drop c.place statements)
-unfolding trace
-trace-done zero statements c above e = refl
-trace-done (suc n) statements c above e = absurd (omega (arith, e))
-
-pub trace-step : (m n : ℕ) (statements : List Statement) (c : Control) (above : List Statement) → suc m ≡ n
-    → trace n statements c above ≡ traced (trace m statements) above (turn statements (value_said above) c)
-unfolding trace
-trace-step m n statements c above e = rw (sym e) refl
-
--- by what the table of variables says
-pub trace-by : (n : ℕ) (statements : List Statement) (c : Control) (above : List Statement) (entries : List Entry) (t : Turn) → Holds above entries
-    → turn statements (entry_value entries) c ≡ t → trace (n + 1) statements c above ≡ traced (trace n statements) above t
-trace-by n statements c above entries t h e = trace-step n (n + 1) statements c above (omega arith)
-    ∙ ap (λ (u : Turn). traced (trace n statements) above u) (ap (λ (v : Valuation). turn statements v c) (sym h.values) ∙ e)
-
--- nothing comes out where no statement is left
-pub turn-end : (statements : List Statement) (values : Valuation) (c : Control) → drop c.place statements ≡ [] → turn statements values c ≡ Ends
-unfolding turn
-turn-end statements values c e = ap (turn_at statements values c) e
-
-pub trace-end : (n : ℕ) (statements : List Statement) (c : Control) (above : List Statement) → drop c.place statements ≡ []
-    → trace n statements c above ≡ []
-trace-end zero statements c above e = trace-done zero statements c above refl ∙ ap given_up e
-trace-end (suc n) statements c above e = trace-step n (suc n) statements c above refl
-    ∙ ap (λ (u : Turn). traced (trace n statements) above u) (turn-end statements (value_said above) c e)
 
 -- the first of some statements, and none
 pub first_item : {A : Type 0} (ss : List A) (s : A) → 1 ≤ length ss → s ≡ get_or ss 0 s → ss ≡ s ∷ drop 1 ss
@@ -134,3 +104,8 @@ ended = record { line = 1; label = None; word = codes "ENDDO"; params = [] }
 
 pub ended_read : text_reading (codes "ENDDO") ≡ record { statements = ended ∷ []; fault = None }
 ended_read = refl
+
+-- the digits of a line's number
+pub line_digits_are : (line : ℕ) → decimal line ≡ line_digits line
+unfolding digits line_digits
+line_digits_are line = refl

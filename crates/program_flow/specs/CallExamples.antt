@@ -1,7 +1,6 @@
 -- What the examples of macros and calls speak of.
-use Rattle.std.specs.Prelude.{ℕ, List, [], ◌∷◌, ◌++◌, map, codes, Some}
+use Rattle.std.specs.Prelude.{ℕ, List, [], ◌∷◌, ◌++◌, codes, Some}
 use Rattle.dmis_text.specs.declared.elements.Statement.{Statement}
-use Rattle.program_flow.specs.Calls.{carried_out}
 use Rattle.program_flow.specs.Examples.{alone, on, with_one}
 
 abbrev pub labelled : ℕ → List ℕ → List ℕ → List (List ℕ) → Statement
@@ -18,20 +17,16 @@ macro_on line end name params inner = macro_head line name params ∷ (inner ++ 
 abbrev pub call_on : ℕ → List ℕ → List (List ℕ) → Statement
 call_on line name arguments = on line (codes "CALL") (name ∷ arguments)
 
--- the lines of what is carried out
-abbrev pub lines_called : List Statement → List ℕ
-lines_called text = map (λ (s : Statement). s.line) (carried_out text)
-
 -- a macro of N and TO, that is called on line 6 with these arguments, and a statement of N outside
 abbrev pub calling : List (List ℕ) → List Statement
 calling arguments = macro_on 1 4 (codes "M(A)") (codes "N" ∷ (codes "TO" ∷ [])) (on 2 (codes "GOTO") (codes "N*2+TO" ∷ (codes "N2" ∷ (codes "TON" ∷ [])))
     ∷ (labelled 3 (codes "F(N)") (codes "TEXT") (codes "'N'" ∷ (codes "P@N" ∷ [])) ∷ []))
     ++ (alone 5 (codes "N") ∷ (call_on 6 (codes "M(A)") arguments ∷ (with_one 7 (codes "B") (codes "N") ∷ [])))
 
--- what comes out of it, if N is 7 and TO is I
+-- what comes out of it, if N is 7 and TO is I; the CALL leads to line 2
 abbrev pub called : List Statement
-called = alone 5 (codes "N") ∷ (on 2 (codes "GOTO") (codes "7*2+I" ∷ (codes "N2" ∷ (codes "TON" ∷ [])))
-    ∷ (labelled 3 (codes "F(7)") (codes "TEXT") (codes "'N'" ∷ (codes "P@7" ∷ [])) ∷ (with_one 7 (codes "B") (codes "N") ∷ [])))
+called = alone 5 (codes "N") ∷ (with_one 6 (codes "CALL") (codes "2") ∷ (on 2 (codes "GOTO") (codes "7*2+I" ∷ (codes "N2" ∷ (codes "TON" ∷ [])))
+    ∷ (labelled 3 (codes "F(7)") (codes "TEXT") (codes "'N'" ∷ (codes "P@7" ∷ [])) ∷ (with_one 7 (codes "B") (codes "N") ∷ []))))
 
 -- a macro of N that calls another of N with one more
 abbrev pub calling_twice : List Statement

@@ -1,16 +1,20 @@
 -- Which statements are carried out where macros are called (ISO 22093, CALL). Each macro that is open, and the text outside macros, has
 -- statements of its own, and blocks and labels are those of these statements: so a jump finds no label of another. What is below is left,
 -- when no statement of a macro is left, for what called it.
-use Rattle.std.specs.Prelude.{ℕ, zero, suc, ◌+◌, Bool, false, not, ◌&&◌, ◌||◌, ◌==◌, List, [], ◌∷◌, length, drop, codes, bytes_eq}
-use Rattle.std.specs.Prelude.{is_none, Option, Some, None, if◌then◌else◌}
+use Rattle.std.specs.Prelude.{ℕ, zero, suc, ◌+◌, Bool, true, false, not, ◌&&◌, ◌||◌, ◌==◌, List, [], ◌∷◌, ◌++◌, length, drop, codes, bytes_eq}
+use Rattle.std.specs.Prelude.{is_none, is_some, Option, Some, None, if◌then◌else◌}
+use Rattle.std.specs.Fmt.{digits_onto}
 use Rattle.std.specs.List.{list_all}
 use Rattle.dmis_text.specs.Reading.{Reading}
 use Rattle.dmis_text.specs.declared.elements.Statement.{Statement}
 use Rattle.program_values.specs.LookBack.{value_said}
 use Rattle.program_values.specs.Values.{is_variable}
+use Rattle.program_flow.specs.Blocks.{part_of}
+use Rattle.program_flow.specs.declared.blocks.Part.{Part}
+use Rattle.program_flow.specs.declared.blocks.Part.TheVariants.{If, Select, Jump}
 use Rattle.program_flow.specs.Flow as flow
 use Rattle.program_flow.specs.Flow.{Control, Turn, Valuation, carried, given_up, most, to, turn}
-use Rattle.program_flow.specs.Macros.{Macro, begins_macro, ends_macro, all_with_arguments, macro_named, outside, pairs_of, without_parameters}
+use Rattle.program_flow.specs.Macros.{Macro, begins_macro, ends_macro, all_with_arguments, macro_named, outside, pairs_of, said_by, without_parameters}
 
 -- the statements of a macro, with its arguments in their places, or those outside macros, whose name is empty; and where the flow is there
 pub record Frame : Type 0 where
@@ -87,6 +91,58 @@ abbrev pub given_up_in : List Frame → List Statement
 given_up_in [] = []
 given_up_in (f ∷ outer) = ended_by (drop f.control.place f.statements) (given_up_in outer)
 
+-- ---- what a statement decides: it comes out, too, with the line of the next statement for its parameters, and with none where it cannot be followed
+
+abbrev pub next_of : List Frame → List Statement
+next_of [] = []
+next_of (f ∷ outer) = drop f.control.place f.statements
+
+abbrev pub decides : Part → Bool
+decides If = true
+decides Select = true
+decides Jump = true
+decides _ = false
+
+-- the line and the word of a statement that decides what follows
+abbrev pub decision : Statement → Option (ℕ × List ℕ)
+decision s = if is_call s || decides (part_of s) then Some (s.line, s.word) else None
+
+-- it comes out with a parameter
+abbrev pub is_lead : Statement → Bool
+is_lead s = is_some (decision s) && not (without_parameters s.params)
+
+abbrev pub decision_at : List Statement → Option (ℕ × List ℕ)
+decision_at [] = None
+decision_at (s ∷ below) = decision s
+
+-- what `decimal` gives, in a form that examples compute
+unfoldable pub line_digits : ℕ → List ℕ
+line_digits line = digits_onto 64 10 false line []
+
+abbrev pub lead_text : List ℕ → List Statement → List ℕ
+lead_text word [] = []
+lead_text word (s ∷ others) = word ++ (codes "/" ++ line_digits s.line)
+
+abbrev pub leads : Option Statement → List Frame → Step
+leads None next = Passes next
+leads (Some s) next = Gives s next
+
+abbrev pub bare : Option Statement → Statement → Statement
+bare None s = s
+bare (Some t) s = t
+
+abbrev pub told : ℕ → List ℕ → Step → Step
+told line word (Passes next) = leads (said_by line (lead_text word (given_up_in next))) next
+told line word (Stops s) = Stops (bare (said_by line word) s)
+told line word due = due
+
+abbrev pub told_as : Option (ℕ × List ℕ) → Step → Step
+told_as None due = due
+told_as (Some of) due = told of.0 of.1 due
+
+abbrev pub told_step : List Statement → Valuation → List Frame → Step
+told_step text values frames = told_as (decision_at (next_of frames)) (step text values frames)
+
 abbrev pub traced : (List Frame → List Statement → List Statement) → List Statement → Step → List Statement
 traced rest above Ends = []
 traced rest above (Stops s) = s ∷ []
@@ -96,7 +152,7 @@ traced rest above (Gives s next) = s ∷ rest next (carried above s)
 -- the statements that come out from here on, in that many turns
 unfoldable pub trace : ℕ → List Statement → List Frame → List Statement → List Statement
 trace zero text frames above = given_up_in frames
-trace (suc n) text frames above = traced (trace n text) above (step text (value_said above) frames)
+trace (suc n) text frames above = traced (trace n text) above (told_step text (value_said above) frames)
 
 abbrev pub begun : List Statement → List Frame
 begun text = record { name = []; statements = outside text; control = to 0 [] } ∷ []

@@ -1,7 +1,7 @@
 -- What the examples of this crate speak of.
-use Rattle.std.specs.Prelude.{ℕ, ◌+◌, List, [], ◌∷◌, ◌++◌, map, codes, Some, None}
+use Rattle.std.specs.Prelude.{ℕ, ◌+◌, List, [], ◌∷◌, ◌++◌, map, codes, Some, None, if◌then◌else◌}
 use Rattle.dmis_text.specs.declared.elements.Statement.{Statement}
-use Rattle.program_flow.specs.Flow.{flow_of}
+use Rattle.program_flow.specs.Calls.{carried_out, is_lead}
 
 -- a statement on a line, with these parameters or with none
 abbrev pub on : ℕ → List ℕ → List (List ℕ) → Statement
@@ -20,9 +20,20 @@ declared = on 1 (codes "DECL") (codes "GLOBAL" ∷ (codes "INTGR" ∷ (codes "I"
 abbrev pub assigned : ℕ → List ℕ → List ℕ → Statement
 assigned line name text = record { line = line; label = Some name; word = codes "ASSIGN"; params = text ∷ [] }
 
--- the lines of what comes out
+-- what comes out of some statements but decisions, and these
+abbrev pub but_leads : List Statement → List Statement
+but_leads [] = []
+but_leads (s ∷ below) = if is_lead s then but_leads below else s ∷ but_leads below
+
+abbrev pub only_leads : List Statement → List Statement
+only_leads [] = []
+only_leads (s ∷ below) = if is_lead s then s ∷ only_leads below else only_leads below
+
 abbrev pub lines_of : List Statement → List ℕ
-lines_of statements = map (λ (s : Statement). s.line) (flow_of statements)
+lines_of statements = map (λ (s : Statement). s.line) (but_leads (carried_out statements))
+
+abbrev pub leads_of : List Statement → List Statement
+leads_of statements = only_leads (carried_out statements)
 
 -- an IF with both branches, by a condition
 abbrev pub branching : List ℕ → List Statement

@@ -1,6 +1,6 @@
 -- Which statements are carried out, in their order (ISO 22093, IF, SELECT, DO and JUMPTO): what follows from where the flow is and from the values
 -- that what was carried out says, newest statement first. A DO and an ENDDO stand for the assignment to the index.
-use Rattle.std.specs.Prelude.{ℕ, zero, suc, ◌+◌, ◌-◌, Bool, true, false, not, ◌&&◌, ◌==◌, List, [], ◌∷◌, ◌++◌, take, drop, codes, bytes_eq, is_none}
+use Rattle.std.specs.Prelude.{ℕ, ◌+◌, ◌-◌, Bool, true, false, not, ◌&&◌, ◌==◌, List, [], ◌∷◌, ◌++◌, take, drop, codes, bytes_eq, is_none}
 use Rattle.std.specs.Prelude.{Option, Some, None, Result, ℤ, pos, ◌+ℤ◌, int_lt, int_le, unsigned_abs, if◌then◌else◌}
 use Rattle.std.specs.Ordering.{int_eq}
 use Rattle.std.specs.Result.{result_ok}
@@ -237,20 +237,6 @@ abbrev pub given_up : List Statement → List Statement
 given_up [] = []
 given_up (s ∷ below) = record { line = s.line; label = None; word = codes "ENDDO"; params = [] } ∷ []
 
-abbrev pub traced : (Control → List Statement → List Statement) → List Statement → Turn → List Statement
-traced rest above Ends = []
-traced rest above (Stops s) = s ∷ []
-traced rest above (Passes next) = rest next above
-traced rest above (Gives s next) = s ∷ rest next (carried above s)
-
--- the statements that come out from here on, in that many turns
-unfoldable pub trace : ℕ → List Statement → Control → List Statement → List Statement
-trace zero statements c above = given_up (drop c.place statements)
-trace (suc n) statements c above = traced (trace n statements) above (turn statements (value_said above) c)
-
 -- how many turns there are
 abbrev pub most : ℕ
 most = 1000000
-
-abbrev pub flow_of : List Statement → List Statement
-flow_of statements = trace most statements (to 0 []) []

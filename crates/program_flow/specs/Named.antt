@@ -1,7 +1,7 @@
 -- How the code holds parameters, macros and calls: no public clause cites it.
-use Rattle.std.specs.Prelude.{◌≡◌, ℕ, ◌+◌, Bool, true, false, not, ◌&&◌, ◌||◌, ◌-◌, nat_lt, List, [], ◌∷◌, drop, if◌then◌else◌}
+use Rattle.std.specs.Prelude.{◌≡◌, ℕ, ◌+◌, Bool, true, false, not, ◌&&◌, ◌||◌, ◌-◌, nat_lt, List, [], ◌∷◌, if◌then◌else◌}
 use Rattle.dmis_text.specs.declared.elements.Statement.{Statement}
-use Rattle.program_flow.specs.Calls.{Frame}
+use Rattle.program_flow.specs.Calls.{Frame, next_of}
 use Rattle.program_flow.specs.Flow.{Control, to}
 use Rattle.program_flow.specs.Macros.{Macro, Pair, begins_macro, ends_macro, has_end}
 use Rattle.program_flow.specs.Turns.{moved}
@@ -54,10 +54,6 @@ ends_below ends true = ends - 1
 ends_below ends false = ends
 
 -- ---- what follows at the next statement of the innermost frame
-
-abbrev pub next_of : List Frame → List Statement
-next_of [] = []
-next_of (f ∷ outer) = drop f.control.place f.statements
 
 abbrev pub IsNext : List Frame → Statement → Type 0
 IsNext frames s = (below : List Statement) × (next_of frames ≡ s ∷ below)

@@ -1,5 +1,5 @@
 -- One turn, as the code takes it: no public clause cites it.
-use Rattle.std.specs.Prelude.{◌≡◌, ◌⊎◌, ℕ, List, [], ◌∷◌, codes, drop, Option, Some, None}
+use Rattle.std.specs.Prelude.{◌≡◌, ℕ, List, [], ◌∷◌, codes, drop, Option, Some, None}
 use Rattle.dmis_text.specs.declared.elements.Statement.{Statement}
 use Rattle.program_flow.specs.Calls.{Frame, Step}
 use Rattle.program_flow.specs.Calls.Step.{Ends, Stops, Passes, Gives}
@@ -35,4 +35,5 @@ abbrev pub Steps : Stepped → Left → Step → Type 0
 Steps code.Ends new due = due ≡ Ends
 Steps code.Passes new due = due ≡ Passes (frames_of new)
 Steps (code.Gives given) new due = (s : Statement) × IsGiven new.outside given s
-    × ((due ≡ Gives s (frames_of new)) ⊎ ((due ≡ Stops s) × HasEnded new))
+    × (due ≡ Gives s (frames_of new))
+Steps (code.Stops given) new due = (s : Statement) × IsGiven new.outside given s × (due ≡ Stops s) × HasEnded new

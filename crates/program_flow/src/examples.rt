@@ -5,8 +5,9 @@ ghost use Rattle.std.specs.List.{AllByRecursion};
 ghost use Rattle.dmis_text.specs.declared.elements.Statement.{Statement};
 ghost use Rattle.program_flow.specs.Conditions.{holds};
 ghost use Rattle.program_flow.specs.Blocks.{part_of};
-ghost use Rattle.program_flow.specs.Examples.{alone, assigned, branching, case_of, case_on, changing, default_on, jumping, jumping_in_select, lines_of, looping, nested, on, select_around, select_in_case, selecting, with_one};
-ghost use Rattle.program_flow.specs.Flow.{assignment, flow_of, to, trace};
+ghost use Rattle.program_flow.specs.Examples.{alone, assigned, branching, case_of, case_on, changing, declared, default_on, jumping, jumping_in_select, leads_of, lines_of, looping, nested, on, select_around, select_in_case, selecting, with_one};
+ghost use Rattle.program_flow.specs.Calls.{begun, carried_out, is_plain, trace};
+ghost use Rattle.program_flow.specs.Flow.{assignment};
 ghost use Rattle.program_flow.specs.declared.blocks.Part.TheVariants.{Other};
 ghost use Rattle.program_values.specs.Examples.{a_is_seven};
 ghost use Rattle.program_values.specs.declared.faults.ValueFault.TheVariants as fault;
@@ -31,24 +32,32 @@ pub fn conditions_hold_or_not()
     ensures unknown { holds a_is_seven (codes "C .LT. 1") ≡ Err fault.UnknownName }
 {}
 
-/// A text without the words of control flow comes out as it is.
+/// A text without the words of control flow, macros and calls comes out as it is.
 pub fn straight_texts_come_out()
     ensures { (statements : List Statement)
-        → AllByRecursion (λ (s : Statement). part_of s ≡ Other) statements
-        → length statements < 1000000 → flow_of statements ≡ statements }
+        → AllByRecursion (λ (s : Statement). (is_plain s ≡ true) × (part_of s ≡ Other)) statements
+        → length statements < 1000000 → carried_out statements ≡ statements }
 {}
 
-/// An IF has one branch or the other, and its own words do not come out.
-#[tactic(auto, unfolding(crate::specs::Flow::trace, crate::specs::Flow::turn, crate::specs::Flow::assignment, crate::specs::Blocks::part_of, crate::specs::Blocks::end_of, crate::specs::Conditions::holds_within, crate::specs::Conditions::parts_of, program_values::specs::Values::value_within, program_values::specs::Values::numeral_value, program_values::specs::Parts::parts_of, program_values::specs::Numbers::reduced, program_values::specs::Numbers::gcd_within))]
+/// An IF has one branch or the other, and says the line where it leads.
+#[tactic(auto, unfolding(crate::specs::Calls::line_digits, crate::specs::Calls::trace, crate::specs::Calls::step, crate::specs::Macros::outside_after, crate::specs::Macros::said_by, crate::specs::Flow::turn, crate::specs::Flow::assignment, crate::specs::Blocks::part_of, crate::specs::Blocks::end_of, crate::specs::Conditions::holds_within, crate::specs::Conditions::parts_of, program_values::specs::Values::value_within, program_values::specs::Values::numeral_value, program_values::specs::Parts::parts_of, program_values::specs::Numbers::reduced, program_values::specs::Numbers::gcd_within))]
 pub fn branches_are_carried_out()
     ensures first { lines_of (branching (codes "(I .LT. 6)")) ≡ 1 ∷ (2 ∷ (4 ∷ (8 ∷ []))) }
     ensures second { lines_of (branching (codes "(I .LT. 5)")) ≡ 1 ∷ (2 ∷ (6 ∷ (8 ∷ []))) }
     ensures unassigned { lines_of (branching (codes "(J .LT. 5)")) ≡ 1 ∷ (2 ∷ (3 ∷ [])) }
     ensures number { lines_of (branching (codes "(I)")) ≡ 1 ∷ (2 ∷ (3 ∷ [])) }
+    ensures to_first { leads_of (branching (codes "(I .LT. 6)"))
+        ≡ with_one 3 (codes "IF") (codes "4") ∷ [] }
+    ensures to_second { leads_of (branching (codes "(I .LT. 5)"))
+        ≡ with_one 3 (codes "IF") (codes "6") ∷ [] }
+    ensures not_followed { carried_out (branching (codes "(J .LT. 5)"))
+        ≡ declared ∷ (assigned 2 (codes "I") (codes "5") ∷ (alone 3 (codes "IF") ∷ [])) }
+    ensures to_the_end { carried_out (with_one 1 (codes "IF") (codes "(1 .LT. 0)")
+        ∷ (alone 2 (codes "ENDIF") ∷ [])) ≡ [] }
 {}
 
 /// A DO has its rounds: up or down, with a step, in another DO, or none.
-#[tactic(auto, unfolding(crate::specs::Flow::trace, crate::specs::Flow::turn, crate::specs::Flow::is_kept, crate::specs::Flow::assignment, crate::specs::Blocks::part_of, crate::specs::Blocks::end_of, program_values::specs::Values::value_within, program_values::specs::Values::numeral_value, program_values::specs::Parts::parts_of, program_values::specs::Numbers::reduced, program_values::specs::Numbers::gcd_within))]
+#[tactic(auto, unfolding(crate::specs::Calls::line_digits, crate::specs::Calls::trace, crate::specs::Calls::step, crate::specs::Macros::outside_after, crate::specs::Macros::said_by, crate::specs::Flow::turn, crate::specs::Flow::is_kept, crate::specs::Flow::assignment, crate::specs::Blocks::part_of, crate::specs::Blocks::end_of, program_values::specs::Values::value_within, program_values::specs::Values::numeral_value, program_values::specs::Parts::parts_of, program_values::specs::Numbers::reduced, program_values::specs::Numbers::gcd_within))]
 pub fn loops_have_their_rounds()
     ensures three { lines_of (looping (codes "I" ∷ (codes "1" ∷ (codes "3" ∷ []))))
         ≡ 1 ∷ (2 ∷ (3 ∷ (4 ∷ (3 ∷ (4 ∷ (3 ∷ (4 ∷ (5 ∷ [])))))))) }
@@ -70,9 +79,11 @@ pub fn loops_have_their_rounds()
 {}
 
 /// A jump leaves a loop and enters none; what has no beginning or no end comes out as it is.
-#[tactic(auto, unfolding(crate::specs::Flow::trace, crate::specs::Flow::turn, crate::specs::Flow::assignment, crate::specs::Blocks::part_of, crate::specs::Blocks::end_of, crate::specs::Blocks::is_level, crate::specs::Blocks::label_place, crate::specs::Conditions::holds_within, crate::specs::Conditions::parts_of, program_values::specs::Values::value_within, program_values::specs::Values::numeral_value, program_values::specs::Parts::parts_of, program_values::specs::Numbers::reduced, program_values::specs::Numbers::gcd_within))]
+#[tactic(auto, unfolding(crate::specs::Calls::line_digits, crate::specs::Calls::trace, crate::specs::Calls::step, crate::specs::Macros::outside_after, crate::specs::Macros::said_by, crate::specs::Flow::turn, crate::specs::Flow::assignment, crate::specs::Blocks::part_of, crate::specs::Blocks::end_of, crate::specs::Blocks::is_level, crate::specs::Blocks::label_place, crate::specs::Conditions::holds_within, crate::specs::Conditions::parts_of, program_values::specs::Values::value_within, program_values::specs::Values::numeral_value, program_values::specs::Parts::parts_of, program_values::specs::Numbers::reduced, program_values::specs::Numbers::gcd_within))]
 pub fn jumps_enter_no_block()
     ensures out { lines_of (jumping (codes "(OUT)")) ≡ 1 ∷ (2 ∷ (9 ∷ [])) }
+    ensures lead { leads_of (jumping (codes "(OUT)"))
+        ≡ with_one 3 (codes "JUMPTO") (codes "8") ∷ [] }
     ensures into { lines_of (jumping (codes "(IN)")) ≡ 1 ∷ (2 ∷ (3 ∷ [])) }
     ensures unknown { lines_of (jumping (codes "(X)")) ≡ 1 ∷ (2 ∷ (3 ∷ [])) }
     ensures no_end { lines_of (with_one 1 (codes "IF") (codes "(1 .LT. 2)")
@@ -83,16 +94,19 @@ pub fn jumps_enter_no_block()
         ∷ (alone 2 (codes "ENDIF") ∷ (alone 3 (codes "B") ∷ []))) ≡ 1 ∷ (2 ∷ []) }
     ensures no_if { lines_of (alone 1 (codes "ELSE") ∷ (alone 2 (codes "ENDIF") ∷ [])) ≡ 1 ∷ [] }
     ensures no_do { lines_of (alone 1 (codes "ENDDO") ∷ []) ≡ 1 ∷ [] }
-    ensures given_up { trace 0 (alone 7 (codes "A") ∷ []) (to 0 []) [] ≡ alone 7 (codes "ENDDO") ∷ [] }
+    ensures given_up { trace 0 [] (begun (alone 7 (codes "A") ∷ [])) []
+        ≡ alone 7 (codes "ENDDO") ∷ [] }
 {}
 
-/// A SELECT has the first CASE of its value, or else its DFTCAS, and its own words do not come out.
-#[tactic(auto, unfolding(crate::specs::Flow::trace, crate::specs::Flow::turn, crate::specs::Flow::assignment, crate::specs::Selections::chosen, crate::specs::Selections::one_equals, crate::specs::Blocks::part_of, crate::specs::Blocks::end_of, program_values::specs::Values::value_within, program_values::specs::Values::numeral_value, program_values::specs::Parts::parts_of, program_values::specs::Numbers::reduced, program_values::specs::Numbers::gcd_within))]
+/// A SELECT has the first CASE of its value, or else its DFTCAS, and says the line where it leads.
+#[tactic(auto, unfolding(crate::specs::Calls::line_digits, crate::specs::Calls::trace, crate::specs::Calls::step, crate::specs::Macros::outside_after, crate::specs::Macros::said_by, crate::specs::Flow::turn, crate::specs::Flow::assignment, crate::specs::Selections::chosen, crate::specs::Selections::one_equals, crate::specs::Blocks::part_of, crate::specs::Blocks::end_of, program_values::specs::Values::value_within, program_values::specs::Values::numeral_value, program_values::specs::Parts::parts_of, program_values::specs::Numbers::reduced, program_values::specs::Numbers::gcd_within))]
 pub fn one_branch_of_a_select_is_carried_out()
     ensures first { lines_of (selecting (codes "1")) ≡ 1 ∷ (2 ∷ (5 ∷ (14 ∷ []))) }
     ensures one_of_two { lines_of (selecting (codes "3")) ≡ 1 ∷ (2 ∷ (8 ∷ (14 ∷ []))) }
     ensures other_of_two { lines_of (selecting (codes "10/2")) ≡ 1 ∷ (2 ∷ (8 ∷ (14 ∷ []))) }
     ensures default { lines_of (selecting (codes "2")) ≡ 1 ∷ (2 ∷ (11 ∷ (14 ∷ []))) }
+    ensures lead { leads_of (selecting (codes "3"))
+        ≡ with_one 3 (codes "SELECT") (codes "8") ∷ [] }
     ensures unassigned { lines_of (selecting (codes "J")) ≡ 1 ∷ (2 ∷ (3 ∷ [])) }
     ensures two_values { lines_of (on 1 (codes "SELECT") (codes "2"
         ∷ (codes "2" ∷ [])) ∷ (case_of 2 (codes "2") ++ (alone 5 (codes "ENDSEL") ∷ []))) ≡ 1 ∷ [] }
@@ -102,7 +116,7 @@ pub fn one_branch_of_a_select_is_carried_out()
 {}
 
 /// What stands below the branch that is chosen, or to the right of its value, is not judged; what stands above, is.
-#[tactic(auto, unfolding(crate::specs::Flow::trace, crate::specs::Flow::turn, crate::specs::Flow::assignment, crate::specs::Selections::chosen, crate::specs::Selections::one_equals, crate::specs::Blocks::part_of, crate::specs::Blocks::end_of, program_values::specs::Values::value_within, program_values::specs::Values::numeral_value, program_values::specs::Parts::parts_of, program_values::specs::Numbers::reduced, program_values::specs::Numbers::gcd_within))]
+#[tactic(auto, unfolding(crate::specs::Calls::line_digits, crate::specs::Calls::trace, crate::specs::Calls::step, crate::specs::Macros::outside_after, crate::specs::Macros::said_by, crate::specs::Flow::turn, crate::specs::Flow::assignment, crate::specs::Selections::chosen, crate::specs::Selections::one_equals, crate::specs::Blocks::part_of, crate::specs::Blocks::end_of, program_values::specs::Values::value_within, program_values::specs::Values::numeral_value, program_values::specs::Parts::parts_of, program_values::specs::Numbers::reduced, program_values::specs::Numbers::gcd_within))]
 pub fn branches_are_looked_at_in_their_order()
     ensures value_after { lines_of (select_around (case_on 2 (codes "2" ∷ (codes "X" ∷ []))))
         ≡ 3 ∷ (21 ∷ []) }
@@ -125,7 +139,7 @@ pub fn branches_are_looked_at_in_their_order()
 {}
 
 /// A branch has its own blocks; what has no beginning or no end comes out as it is.
-#[tactic(auto, unfolding(crate::specs::Flow::trace, crate::specs::Flow::turn, crate::specs::Flow::assignment, crate::specs::Selections::chosen, crate::specs::Selections::one_equals, crate::specs::Blocks::part_of, crate::specs::Blocks::end_of, crate::specs::Conditions::holds_within, crate::specs::Conditions::parts_of, program_values::specs::Values::value_within, program_values::specs::Values::numeral_value, program_values::specs::Parts::parts_of, program_values::specs::Numbers::reduced, program_values::specs::Numbers::gcd_within))]
+#[tactic(auto, unfolding(crate::specs::Calls::line_digits, crate::specs::Calls::trace, crate::specs::Calls::step, crate::specs::Macros::outside_after, crate::specs::Macros::said_by, crate::specs::Flow::turn, crate::specs::Flow::assignment, crate::specs::Selections::chosen, crate::specs::Selections::one_equals, crate::specs::Blocks::part_of, crate::specs::Blocks::end_of, crate::specs::Conditions::holds_within, crate::specs::Conditions::parts_of, program_values::specs::Values::value_within, program_values::specs::Values::numeral_value, program_values::specs::Parts::parts_of, program_values::specs::Numbers::reduced, program_values::specs::Numbers::gcd_within))]
 pub fn branches_end_with_their_own_ends()
     ensures select_in_it { lines_of (select_around (select_in_case (codes "2")))
         ≡ 5 ∷ (11 ∷ (21 ∷ [])) }
@@ -153,7 +167,7 @@ pub fn branches_end_with_their_own_ends()
 {}
 
 /// A jump leaves a branch, and enters none, nor the space between two.
-#[tactic(auto, unfolding(crate::specs::Flow::trace, crate::specs::Flow::turn, crate::specs::Flow::assignment, crate::specs::Selections::chosen, crate::specs::Selections::one_equals, crate::specs::Blocks::part_of, crate::specs::Blocks::end_of, crate::specs::Blocks::is_level, crate::specs::Blocks::label_place, program_values::specs::Values::value_within, program_values::specs::Values::numeral_value, program_values::specs::Parts::parts_of, program_values::specs::Numbers::reduced, program_values::specs::Numbers::gcd_within))]
+#[tactic(auto, unfolding(crate::specs::Calls::line_digits, crate::specs::Calls::trace, crate::specs::Calls::step, crate::specs::Macros::outside_after, crate::specs::Macros::said_by, crate::specs::Flow::turn, crate::specs::Flow::assignment, crate::specs::Selections::chosen, crate::specs::Selections::one_equals, crate::specs::Blocks::part_of, crate::specs::Blocks::end_of, crate::specs::Blocks::is_level, crate::specs::Blocks::label_place, program_values::specs::Values::value_within, program_values::specs::Values::numeral_value, program_values::specs::Parts::parts_of, program_values::specs::Numbers::reduced, program_values::specs::Numbers::gcd_within))]
 pub fn jumps_enter_no_select()
     ensures within { lines_of (jumping_in_select (codes "(IN)")) ≡ 6 ∷ (13 ∷ (15 ∷ [])) }
     ensures out { lines_of (jumping_in_select (codes "(OUT)")) ≡ 15 ∷ [] }

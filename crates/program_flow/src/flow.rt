@@ -4,17 +4,21 @@ ghost use Rattle.std.specs.Prelude.{◌≡◌, ◌<◌, ◌∷◌, ◌++◌, [],
 ghost use Rattle.dmis_text.specs.declared.elements.Statement.{Statement};
 ghost use Rattle.program_values.specs.LookBack.{Holds};
 ghost use Rattle.program_values.specs.Variables.{entry_value};
-ghost use Rattle.program_flow.specs.Calls.{Frame, Step, carried_out, given_up_in, step};
+ghost use Rattle.std.specs.Option.{option_map};
+ghost use Rattle.program_flow.specs.Calls.{Frame, Step, carried_out, decides, decision, decision_at, given_up_in, is_lead, lead_text, line_digits, next_of, step, told, told_step};
+ghost use Rattle.program_flow.specs.Macros.{said_by};
 ghost use Rattle.program_flow.specs.Flow.{given_up};
 ghost use Rattle.program_flow.specs.Left.{GivesNext, IsGiven, frames_of, left_of, size};
 ghost use Rattle.program_flow.specs.Named.{IsNext, seen_call, top_to};
 ghost use Rattle.program_flow.specs.Stepped.{HasEnded, Leads, Steps, ended_on};
 
-use crate::blocks::{Move, from};
+use crate::blocks::{Move, Part, from, part_of};
 use crate::calls::{Call, Outcome, outcome_at, outcome_in};
-use crate::macros::split;
+use crate::lines::Line;
+use crate::macros::{is_call, split};
 use crate::positions::Position;
 use dmis_text::Statement;
+use itoa::Buffer;
 use program_values::Variables;
 use std::alloc::{AllocError, Global};
 use std::marker::Model;
@@ -37,6 +41,8 @@ pub enum Stepped {
     Ends,
     Passes,
     Gives(Given),
+    /// What cannot be followed, the last.
+    Stops(Given),
 }
 
 /// The statements of a text in the order in which they are carried out.
@@ -57,6 +63,41 @@ impl<'a> Model for Flow<'a> {
     ghost Value = { Left };
 
     ghost view = { λ f. record { macros = f.macros.items; calls = map seen_call f.calls.items; outside = f.outside.items; control = seen_position f.position; turns = f.turns } };
+}
+
+/// Appends the digits of a line's number.
+#[tactic(auto, using(crate::proofs::Steps::line_digits_are))]
+fn push_digits(out: &mut Vec<u8>, line: u64) -> Result<(), AllocError>
+    ensures { OnOk result (out.new.items ≡ out.old.items ++ line_digits line) }
+{
+    let mut digits = Buffer::new();
+    out.extend_from_slice(digits.format(line).as_bytes())
+}
+
+/// Whether a part decides what follows.
+fn decides(part: Part) -> bool
+    ensures { result ≡ decides part }
+{
+    matches!(part, Part::If | Part::Select | Part::Jump)
+}
+
+/// The line and the word of a statement, if it decides what follows.
+fn decision_of(alloc: Global, statement: &Statement) -> Result<Option<(u64, Vec<u8>)>, AllocError>
+    ensures { IfOk result (λ made. option_map (λ d. (d.0, d.1.items)) made
+        ≡ decision statement.now) }
+{
+    if !is_call(statement) && !decides(part_of(statement)) {
+        return Ok(None);
+    }
+    Ok(Some((statement.line, Vec::from_slice(alloc, &statement.word)?)))
+}
+
+/// Whether a statement that comes out says only what was decided: an `IF`, a `SELECT`, a `JUMPTO` or a `CALL` with a parameter, the line of the next
+/// statement.
+pub fn is_lead(statement: &Statement) -> bool
+    ensures { result ≡ is_lead statement.now }
+{
+    (is_call(statement) || decides(part_of(statement))) && !statement.params.is_empty()
 }
 
 impl<'a> Flow<'a> {
@@ -168,7 +209,7 @@ impl<'a> Flow<'a> {
             Outcome::Stops => {
                 let given = self.here(alloc)?;
                 self.end();
-                Ok(Stepped::Gives(given))
+                Ok(Stepped::Stops(given))
             }
             Outcome::Passes(target) => {
                 self.go(target)?;
@@ -191,16 +232,79 @@ impl<'a> Flow<'a> {
         }
     }
 
+    /// The line and the word of the next statement, if it decides what follows.
+    fn decision(&self, alloc: Global) -> Result<Option<(u64, Vec<u8>)>, AllocError>
+        ensures { IfOk result (λ made. option_map (λ d. (d.0, d.1.items)) made
+            ≡ decision_at (next_of (frames_of self.now))) }
+    {
+        let Some(call) = self.calls.first() else {
+            return match from(self.position.place, &self.outside) {
+                [statement, ..] => decision_of(alloc, statement),
+                [] => Ok(None),
+            };
+        };
+        if call.position.place >= call.lines.len() {
+            return Ok(None);
+        }
+        let statement = call.lines[call.position.place].read(alloc)?;
+        decision_of(alloc, &statement)
+    }
+
+    /// What a statement on this line, with this word, has decided: the line of the next statement.
+    fn lead(&self, alloc: Global, line: u64, mut text: Vec<u8>) -> Result<Option<Line>, AllocError>
+        ensures { IfOk result (λ lead. lead
+            ≡ said_by line (lead_text text.items (given_up_in (frames_of self.now)))) }
+    {
+        let Some(target) = self.next_line() else {
+            return Line::new(alloc, line, Vec::new(alloc));
+        };
+        text.push(b'/')?;
+        push_digits(&mut text, target)?;
+        Line::new(alloc, line, text)
+    }
+
+    /// What a turn gives at a statement that decides, on this line and with this word.
+    fn tell(
+        &self,
+        alloc: Global,
+        line: u64,
+        word: Vec<u8>,
+        stepped: Stepped,
+    ) -> Result<Stepped, AllocError>
+        ensures { (due : Step) → Steps stepped self.now due
+            → IfOk result (λ it. Steps it self.now (told line word.items due)) }
+    {
+        match stepped {
+            Stepped::Passes => match self.lead(alloc, line, word)? {
+                Some(lead) => Ok(Stepped::Gives(lead.given(alloc)?)),
+                None => Ok(Stepped::Passes),
+            },
+            Stepped::Stops(given) => match Line::new(alloc, line, word)? {
+                Some(bare) => Ok(Stepped::Stops(bare.given(alloc)?)),
+                None => Ok(Stepped::Stops(given)),
+            },
+            stepped => Ok(stepped),
+        }
+    }
+
     /// One turn.
     fn take_turn(&mut self, alloc: Global, variables: &Variables) -> Result<Stepped, AllocError>
         ensures step { IfOk result (λ stepped. Steps stepped self.new
-            (step self.old.macros (entry_value variables.now) (frames_of self.old))) }
+            (told_step self.old.macros (entry_value variables.now) (frames_of self.old))) }
         ensures outside { self.new.outside ≡ self.old.outside }
         ensures macros { self.new.macros ≡ self.old.macros }
         ensures turns { self.new.turns ≡ self.old.turns }
     {
         let outcome = self.outcome(alloc, variables)?;
-        self.follow(alloc, outcome)
+        if let Outcome::Gives(_) | Outcome::Assigns(_, _, _) | Outcome::Ends = outcome {
+            return self.follow(alloc, outcome);
+        }
+        let decision = self.decision(alloc)?;
+        let stepped = self.follow(alloc, outcome)?;
+        match decision {
+            Some((line, word)) => self.tell(alloc, line, word, stepped),
+            None => Ok(stepped),
+        }
     }
 
     /// The line of the next statement, here or below a CALL.
@@ -252,6 +356,7 @@ impl<'a> Flow<'a> {
                 Stepped::Ends => return Ok(None),
                 Stepped::Passes => {}
                 Stepped::Gives(given) => return Ok(Some(given)),
+                Stepped::Stops(given) => return Ok(Some(given)),
             }
         }
         self.give_up(alloc)

@@ -20,4 +20,4 @@ mod positions;
 mod selections;
 mod turns;
 
-pub use flow::{Flow, Given};
+pub use flow::{Flow, Given, is_lead};

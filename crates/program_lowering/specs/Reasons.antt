@@ -2,7 +2,7 @@
 use Rattle.std.specs.Prelude.{List, [], ◌∷◌, ◌++◌, ℕ, codes}
 use Rattle.program_lowering.specs.declared.words.Reason.{Reason}
 use Rattle.program_lowering.specs.declared.words.Reason.TheVariants.{Printing, Naming, Evaluating, Motion, Clearing, Uncompensated}
-use Rattle.program_lowering.specs.declared.words.Reason.TheVariants.{Compensated, Manual, Passed, Stored, Declared, Assigned}
+use Rattle.program_lowering.specs.declared.words.Reason.TheVariants.{Compensated, Manual, Passed, Stored, Declared, Assigned, Leads}
 
 abbrev pub reason_text : Reason → List ℕ
 reason_text Printing = codes "it says what is printed or shown, and where"
@@ -17,12 +17,18 @@ reason_text Stored = codes "the frames are the setup's"
 reason_text Passed = codes "it commands nothing"
 reason_text Declared = codes "it declares variables"
 reason_text Assigned = codes "from here on "
+reason_text Leads = codes "it leads to line "
 
--- and what follows: the name of a variable with its value
+-- and what follows: the name of a variable with its value, or a line
 abbrev pub assigned_text : List (List ℕ) → List ℕ
 assigned_text (name ∷ (value ∷ [])) = name ++ (codes " is " ++ value)
 assigned_text _ = []
 
+abbrev pub first_param : List (List ℕ) → List ℕ
+first_param [] = []
+first_param (line ∷ others) = line
+
 abbrev pub detail : Reason → List (List ℕ) → List ℕ
 detail Assigned params = assigned_text params
+detail Leads params = first_param params
 detail _ params = []

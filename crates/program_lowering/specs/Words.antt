@@ -8,6 +8,7 @@ use Rattle.dmis_program.specs.Keywords.{keyword_of, is_among}
 use Rattle.dmis_program.specs.declared.keywords.Keyword.{Keyword}
 use Rattle.dmis_program.specs.declared.keywords.Keyword.TheVariants as word
 use Rattle.dmis_program.specs.Parameters.{begins}
+use Rattle.program_flow.specs.Calls.{is_lead}
 use Rattle.program_values.specs.LookBack.{is_declaration}
 use Rattle.program_lowering.specs.declared.words.Choices.{Choices}
 use Rattle.program_lowering.specs.declared.words.Reason.{Reason}
@@ -75,7 +76,8 @@ is_assigned s = bytes_eq s.word (codes "ASSIGN") && (is_none s.label && is_pair 
 -- likewise of a statement with its values
 abbrev pub reason_for : Choices → Statement → Option Reason
 reason_for choices s = if is_declaration s then Some reason.Declared else
-    if is_assigned s then Some reason.Assigned else reason_of choices s.word s.params
+    if is_assigned s then Some reason.Assigned else
+    if is_lead s then Some reason.Leads else reason_of choices s.word s.params
 
 -- why a statement is left out: its word is no flat program's, and its texts are closed
 abbrev pub left_out : Choices → Statement → Option Reason

@@ -76,7 +76,7 @@ pub fn examples_of_units()
 {}
 
 /// Examples: expressions and names with values; what has none stays, or leaves its statement without parameters.
-#[tactic(auto, unfolding(program_values::specs::Values::value_within, program_values::specs::Values::numeral_value, program_values::specs::Parts::parts_of, program_values::specs::Numbers::reduced, program_values::specs::Numbers::gcd_within, program_values::specs::Numbers::multiplied, program_values::specs::Texts::expanded_within, dmis_program::specs::Keywords::keyword_of))]
+#[tactic(auto, unfolding(program_values::specs::Values::value_within, program_values::specs::Values::numeral_value, program_values::specs::Parts::parts_of, program_values::specs::Numbers::reduced, program_values::specs::Numbers::gcd_within, program_values::specs::Numbers::multiplied, program_values::specs::Texts::expanded_within, program_flow::specs::Blocks::part_of, dmis_program::specs::Keywords::keyword_of))]
 pub fn examples_of_values()
     ensures moved { new_params x_is_five
         (bare (codes "GOTO") (codes "X+10" ∷ (codes "1E1" ∷ (codes "Y" ∷ []))))
@@ -102,6 +102,10 @@ pub fn examples_of_values()
         ≡ Some reason.Assigned }
     ensures refused { left_out plain_choices (bare (codes "ASSIGN") []) ≡ None }
     ensures noted { detail reason.Assigned (codes "X" ∷ (codes "5" ∷ [])) ≡ codes "X is 5" }
+    ensures leads { left_out plain_choices (bare (codes "IF") (codes "9" ∷ []))
+        ≡ Some reason.Leads }
+    ensures not_followed { left_out plain_choices (bare (codes "IF") []) ≡ None }
+    ensures leads_there { detail reason.Leads (codes "9" ∷ []) ≡ codes "9" }
 {}
 
 /// Where the operator would measure, no touch stays, if it is asked for; elsewhere a statement is left out for itself alone.

@@ -2,11 +2,12 @@
 
 ghost use Rattle.std.specs.Prelude.{◌≡◌, ◌++◌, OnOk};
 ghost use Rattle.dmis_program.specs.Keywords.{is_among, keyword_of};
-ghost use Rattle.program_lowering.specs.Reasons.{detail, reason_text};
+ghost use Rattle.program_lowering.specs.Reasons.{assigned_text, detail, reason_text};
 ghost use Rattle.program_lowering.specs.Words.{clearing, compensation, left_out, naming, is_assigned, passed_motion, passed_reason, printing, reason_for, reason_of, is_of_setup, saves_frame};
 
 use dmis_program::Keyword;
 use dmis_text::{Statement, Text};
+use program_flow::is_lead;
 use program_review::{is_among, is_text};
 use program_values::is_declaration;
 use std::alloc::AllocError;
@@ -51,6 +52,8 @@ pub enum Reason {
     Declared,
     /// It assigns to a variable.
     Assigned,
+    /// It decides what follows.
+    Leads,
 }
 
 /// How results are printed, and where.
@@ -170,6 +173,9 @@ fn reason_for(choices: Choices, statement: &Statement) -> Option<Reason>
     if is_assigned(statement) {
         return Some(Reason::Assigned);
     }
+    if is_lead(statement) {
+        return Some(Reason::Leads);
+    }
     reason_of(choices, &statement.word, &statement.params)
 }
 
@@ -219,10 +225,23 @@ pub(crate) fn reason_text(reason: Reason) -> &'static [u8]
         Reason::Passed => b"it commands nothing",
         Reason::Declared => b"it declares variables",
         Reason::Assigned => b"from here on ",
+        Reason::Leads => b"it leads to line ",
     }
 }
 
-/// Appends what follows a reason: of an `ASSIGN` the variable with its value.
+/// Appends the name of a variable, and its value.
+fn push_assigned(out: &mut Vec<u8>, params: &[Text]) -> Result<(), AllocError>
+    ensures { OnOk result (out.new.items ≡ out.old.items ++ assigned_text params.now) }
+{
+    let [name, value] = params else {
+        return Ok(());
+    };
+    out.extend_from_slice(name)?;
+    out.extend_from_slice(b" is ")?;
+    out.extend_from_slice(value)
+}
+
+/// Appends what follows a reason: of an `ASSIGN` the variable with its value, of what decides the line where it leads.
 pub(crate) fn push_detail(
     out: &mut Vec<u8>,
     reason: Reason,
@@ -230,13 +249,12 @@ pub(crate) fn push_detail(
 ) -> Result<(), AllocError>
     ensures { OnOk result (out.new.items ≡ out.old.items ++ detail reason params.now) }
 {
-    let Reason::Assigned = reason else {
-        return Ok(());
-    };
-    let [name, value] = params else {
-        return Ok(());
-    };
-    out.extend_from_slice(name)?;
-    out.extend_from_slice(b" is ")?;
-    out.extend_from_slice(value)
+    match reason {
+        Reason::Assigned => push_assigned(out, params),
+        Reason::Leads => match params {
+            [line, ..] => out.extend_from_slice(line),
+            [] => Ok(()),
+        },
+        _ => Ok(()),
+    }
 }

@@ -1,4 +1,4 @@
-use Rattle.program_flow.proofs.Straight.{straight_text}
+use Rattle.program_flow.proofs.Plain.{straight_text}
 use Rattle.program_flow.proofs.examples.straight_texts_come_out.Goals as goal
 
 pub returns : goal.returns
