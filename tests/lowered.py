@@ -1,8 +1,9 @@
 """Programs with variables, branches, selections, loops, jumps and macros, made at random and lowered.
 
 Each is carried out here, too, by a second reading: of the tree that its text is written from, with exact fractions, and with power series for
-the functions. The moves, their lines, their order and where each decision leads have to be those of `dme lower`; or the line of the first statement that cannot be
-carried out that of its refusal. Some of the programs are flat already. What is lowered is lowered again, and stays.
+the functions. The moves, in Cartesian coordinates, their lines, their order and where each decision leads have to be those of `dme lower`; or
+the line of the first statement that cannot be carried out that of its refusal. Some of the programs are flat already. What is lowered is
+lowered again, and stays.
 
 `run` calls this with a few programs; by itself: tests/lowered.py [COUNT], 3000 by default.
 """
@@ -19,6 +20,11 @@ from growths import PROGRAM, Wrong, must
 WHOLE, REAL = ("I", "J", "K"), ("X", "Y")
 COMPARISONS = {".LT.": "__lt__", ".LE.": "__le__", ".EQ.": "__eq__", ".NE.": "__ne__", ".GE.": "__ge__", ".GT.": "__gt__"}
 MOST = 3_000
+
+# A working plane by the places of its two axes and of the height, none if it is not taken; and components of directions, of which the last is
+# not taken, since its length is not 1.
+PLANES = {"XYPLAN": (0, 1, 2), "YZPLAN": (1, 2, 0), "ZXPLAN": (2, 0, 1), "XZPLAN": None}
+DIRECTIONS = (("0", "0", "1"), ("-1", "0", "0"), ("0.6", "0", "-.8"), ("0.7071", "-0.7071", "0"), ("0.5", "0.5", "0.5"))
 
 
 class NoValue(Exception):
@@ -176,26 +182,59 @@ class Made:
         ])
 
     def move(self):
+        """In Cartesian coordinates, mostly; also in polar ones, or by a distance."""
+        return self.random.choice((self.move_to, self.move_to, self.move_around, self.move_by))()
+
+    def move_to(self):
         texts = [self.number() for _ in range(3)]
-        line = self.add(f"GOTO/{','.join(it[0] for it in texts)}")
+        line = self.add(f"GOTO/{self.random.choice(('', 'CART,'))}{','.join(it[0] for it in texts)}")
+        return lambda flow: flow.move(line, flow.decimals(line, texts))
 
-        def carry_out(flow):
-            flow.move(line, flow.micrometres(line, texts))
+    def move_around(self):
+        texts = [self.number() for _ in range(3)]
+        line = self.add(f"GOTO/POL,{','.join(it[0] for it in texts)}")
+        return lambda flow: flow.move(line, flow.around(line, texts))
 
-        return carry_out
+    def move_by(self):
+        distance, direction = self.number(), self.random.choice(DIRECTIONS)
+        line = self.add(f"GOTO/INCR,{distance[0]},{','.join(direction)}")
+        return lambda flow: flow.move(line, flow.moved(line, distance, [fractions.Fraction(it) for it in direction]))
 
     def touch(self):
         """A block of one touch, whose label ends with a whole number."""
         name, texts = self.random.choice([it for it in WHOLE if it not in self.params]), [self.number() for _ in range(3)]
+        form = self.random.choice(("CART", "CART", "POL"))
         first = self.add(f"MEAS/POINT,F(P@{name}),1")
-        line = self.add(f"PTMEAS/CART,{','.join(it[0] for it in texts)},0,0,1")
+        line = self.add(f"PTMEAS/{form},{','.join(it[0] for it in texts)},0,0,1")
         last = self.add("ENDMES")
 
         def carry_out(flow):
             flow.out.append(f"MEAS/POINT,F(P{flow.values[name]}),1 $$ line {first}")
-            values = ",".join(map(written, flow.micrometres(line, texts)))
+            values = flow.around(line, texts) if form == "POL" else flow.decimals(line, texts)
+            values = ",".join(map(written, flow.micrometres(line, values)))
             flow.out.append(f"PTMEAS/CART,{values},0.000000,0.000000,1.000000 $$ line {line}")
             flow.out.append(f"ENDMES $$ line {last}")
+            flow.place = None
+
+        return carry_out
+
+    def plane(self):
+        name = self.random.choices(list(PLANES), (4, 4, 4, 1))[0]
+        self.add(f"WKPLAN/{name}")
+
+        def carry_out(flow):
+            flow.plane = PLANES[name]
+
+        return carry_out
+
+    def unit(self):
+        """From here on there is no place that a distance is from."""
+        name = self.random.choices(("ANGDEC", "ANGRAD", "ANGDMS"), (4, 4, 1))[0]
+        line = self.add(f"UNITS/MM,{name}")
+
+        def carry_out(flow):
+            flow.out.append(f"UNITS/MM $$ line {line}")
+            flow.unit, flow.place = {"ANGDEC": PI / 180, "ANGRAD": 1, "ANGDMS": None}[name], None
 
         return carry_out
 
@@ -333,7 +372,8 @@ class Made:
         return carry_out
 
     def part(self, depth, targets):
-        kinds = ["move", "move", "touch", "assignment"] + (["branch", "selection", "loop", "jump"] if depth else []) + ["call"] * bool(self.called)
+        kinds = ["move"] * 6 + ["touch"] * 3 + ["assignment"] * 3 + ["plane", "unit"]
+        kinds += 3 * ((["branch", "selection", "loop", "jump"] if depth else []) + ["call"] * bool(self.called))
         kind = self.random.choice(kinds)
         if kind in ("branch", "selection", "loop"):
             return getattr(self, kind)(depth, targets)
@@ -357,6 +397,7 @@ class Flow:
 
     def __init__(self, lines):
         self.lines, self.values, self.out, self.leads, self.open, self.calls, self.turns = lines, Scope({}, {}), [], [], [], [], 0
+        self.plane, self.unit, self.place = PLANES["XYPLAN"], PI / 180, None
 
     def lead(self, line, word, target):
         """A decision: what follows is the statement on a line, or below it, if it ends a macro or begins one."""
@@ -366,17 +407,39 @@ class Flow:
         self.leads.append(f"dme: line {line}: {word} is left out: it leads to line {target}")
 
     def move(self, line, values):
-        self.out.append(f"GOTO/CART,{','.join(written(it) for it in values)} $$ line {line}")
+        self.out.append(f"GOTO/CART,{','.join(map(written, self.micrometres(line, values)))} $$ line {line}")
+        self.place = values
 
-    def micrometres(self, line, texts):
-        """Values of coordinates up to a kilometre: one that is not whole is written with six decimals, and read to a micrometre."""
+    def decimals(self, line, texts):
+        """Values of coordinates: one that is not whole is written with six decimals."""
         try:
-            values = [int(rounded(rounded(it[1](self.values), 6), 3) * 1000) for it in texts]
+            return [rounded(it[1](self.values), 6) for it in texts]
         except NoValue:
             raise Refused(line) from None
-        if any(abs(it) > 1_000_000_000 for it in values):
+
+    def around(self, line, texts):
+        radius, angle, height = self.decimals(line, texts)
+        if self.plane is None or self.unit is None:
             raise Refused(line)
-        return values
+        try:
+            turn = angle if self.unit == 1 else turned(angle, self.unit)
+            values = radius * wave(turn, 0), radius * wave(turn, 1), height
+        except NoValue:
+            raise Refused(line) from None
+        return [rounded(value, 6) for _, value in sorted(zip(self.plane, values))]
+
+    def moved(self, line, distance, direction):
+        [length] = self.decimals(line, [distance])
+        if self.place is None or abs(sum(it * it for it in direction) - 1) > fractions.Fraction(2, 10**5):
+            raise Refused(line)
+        return [at + rounded(length * it, 6) for at, it in zip(self.place, direction)]
+
+    def micrometres(self, line, values):
+        """Up to a kilometre, read to a micrometre."""
+        lengths = [int(rounded(it, 3) * 1000) for it in values]
+        if any(abs(it) > 1_000_000_000 for it in lengths):
+            raise Refused(line)
+        return lengths
 
     def assign(self, line, name, value):
         whole = abs(value.numerator) // value.denominator * (1 if value >= 0 else -1)
@@ -450,7 +513,7 @@ def made(seed, again=0):
 def flat_move(program):
     values = [program.random.randint(-9_999, 9_999) for _ in range(3)]
     line = program.add(f"GOTO/{','.join(written(it) for it in values)}")
-    return lambda flow: flow.move(line, values)
+    return lambda flow: flow.move(line, [fractions.Fraction(it, 1000) for it in values])
 
 
 def lowered(text):

@@ -41,6 +41,9 @@ use Rattle.program_flow.proofs.Straight.{drop-next}
 use Rattle.std.specs.List.{position}
 use Rattle.std.specs.Prelude.{is_some}
 use Rattle.program_lowering.proofs.Names.{subst, ◌+◌, ◌≤◌, and_parts, arith, drop, eqb-true, nat_tests, suc, zero}
+use Rattle.program_lowering.specs.Cartesian.{all_cartesian, cartesian, no_reference, reference_after}
+use Rattle.program_lowering.specs.declared.cartesian.Reference.{Reference}
+use Rattle.program_lowering.proofs.CartesianLemmas.{accepted_already}
 use Rattle.program_lowering.specs.Valued.{all_valued, assigned_params, commanding, has_variables, held_or_none, valued, valued_params, with_params}
 
 -- the steps of some statements, of which one line can hold each text for the operator up to the statement that closes the program
@@ -327,6 +330,20 @@ valued_alike frames fault lines aboves above (s ∷ below) steps none h =
       behind = λ more g. valued_alike frames fault lines (s ∷ aboves) (carried above s) below more (none_then above s plain none) g;
     }) h
 
+-- and its coordinates are Cartesian
+cartesian_alike : (frames : List (List ℕ × Point)) (fault : Option TextFault) (lines : ℕ) (ref : Reference) (aboves below : List Statement)
+    (steps : List Step) → Alike frames fault lines aboves below steps → Alike frames fault lines aboves (all_cartesian ref below) steps
+cartesian_alike frames fault lines ref aboves [] steps h = h
+cartesian_alike frames fault lines ref aboves (s ∷ below) steps h =
+    alike_next frames fault lines aboves s below (all_cartesian ref (s ∷ below)) steps (λ m e.
+    let known = (accepted_if frames (context_at frames aboves) s m e).known in
+    let tests = by_tests (length aboves) (bound_count (nearest bound_said aboves)) (keyword_of s.word) s.params known in
+    let after = reference_after ref (cartesian ref s) in record {
+      other = all_cartesian after below;
+      is = ap (λ (t : Statement). t ∷ all_cartesian after below) (accepted_already (length aboves == 0) ref s tests.second);
+      behind = λ more g. cartesian_alike frames fault lines after (s ∷ aboves) below more g;
+    }) h
+
 -- nor has it a word of control flow, so each statement comes out in its place
 label_unknown : (word : List ℕ) → is_label word ≡ true → is_unknown (keyword_of word) ≡ true
 unfolding keyword_of
@@ -453,13 +470,15 @@ flow_alike frames fault lines aboves above text all n place (s ∷ below) steps 
 
 pub valued_source : (frames : List (List ℕ × Point)) (choices : Choices) (fault : Option TextFault) (lines : ℕ) (statements : List Statement)
     (m : Meaning) → AllByRecursion (λ (s : Statement). text_refusal s ≡ None) statements → meant (steps_from frames fault lines [] statements) ≡ Ok m
-    → meant (steps_up_to frames fault lines [] (all_stated [] (kept choices (all_valued [] (carried_out statements))))) ≡ Ok m
+    → meant (steps_up_to frames fault lines [] (all_stated [] (kept choices (all_cartesian no_reference (all_valued [] (carried_out statements)))))) ≡ Ok m
 valued_source frames choices fault lines statements m fit h =
     let found = meant_steps m (steps_from frames fault lines [] statements) h in
     let source : Alike frames fault lines [] statements found.0 = record { steps_are = found.1; fits = all_fit_to frames [] statements fit } in
     let flows = flow_alike frames fault lines [] [] statements (outside statements) 1000000 0 statements found.0 refl (omega arith) source in
     let values = valued_alike frames fault lines [] [] (carried_out statements) found.0 refl flows in
-    let counts = all_kept frames choices fault lines [] (all_valued [] (carried_out statements)) found.0 refl values in
-    ap meant (up_to_end frames fault lines [] (all_stated [] (kept choices (all_valued [] (carried_out statements)))) found.0
-    (stated_alike frames fault lines [] [] (kept choices (all_valued [] (carried_out statements))) found.0 refl counts))
+    let all = all_cartesian no_reference (all_valued [] (carried_out statements)) in
+    let places = cartesian_alike frames fault lines no_reference [] (all_valued [] (carried_out statements)) found.0 values in
+    let counts = all_kept frames choices fault lines [] all found.0 refl places in
+    ap meant (up_to_end frames fault lines [] (all_stated [] (kept choices all)) found.0
+    (stated_alike frames fault lines [] [] (kept choices all) found.0 refl counts))
     ∙ ap (λ (all : Meaning). Ok all) (sym found.2)

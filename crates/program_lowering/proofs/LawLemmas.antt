@@ -11,11 +11,13 @@ use Rattle.program_lowering.proofs.LineCounts.{lines_few}
 use Rattle.program_lowering.proofs.ReadBackLemmas.{HasShortLine, acts_back, reads_back}
 use Rattle.program_lowering.proofs.RunLemmas.{ended_append}
 use Rattle.program_lowering.specs.Inches.{all_stated}
-use Rattle.program_lowering.proofs.ValuedLemmas.{valued_line}
+use Rattle.program_lowering.proofs.ValuedLemmas.{same_place}
+use Rattle.program_lowering.specs.Cartesian.{all_cartesian, cartesian, made_cartesian, no_reference, reference_after}
+use Rattle.program_lowering.specs.declared.cartesian.Reference.{Reference}
 use Rattle.program_flow.specs.Calls.{carried_out}
 use Rattle.program_flow.specs.Flow.{carried}
 use Rattle.program_flow.proofs.Comes.{all_carried_out}
-use Rattle.program_lowering.specs.Valued.{all_valued}
+use Rattle.program_lowering.specs.Valued.{all_valued, new_params}
 use Rattle.program_lowering.specs.Lowering.{counted_at, kept_above, valued_statements}
 use Rattle.program_lowering.specs.StoredFrames.{is_used}
 use Rattle.program_lowering.proofs.FrameLemmas.{same_line}
@@ -46,22 +48,37 @@ stated_short sources (s ∷ statements) h = (h.0, stated_short (s ∷ sources) s
 valued_short : (above statements : List Statement) → AllByRecursion HasShortLine statements → AllByRecursion HasShortLine (all_valued above statements)
 valued_short above [] h = tt
 valued_short above (s ∷ statements) h =
-    (subst (λ (n : ℕ). n < 2 ^ 64) (sym (valued_line above s)) h.0, valued_short (carried above s) statements h.1)
+    (subst (λ (n : ℕ). n < 2 ^ 64) (sym (same_place s (new_params above s))) h.0, valued_short (carried above s) statements h.1)
+
+cartesian_short : (ref : Reference) (statements : List Statement) → AllByRecursion HasShortLine statements
+    → AllByRecursion HasShortLine (all_cartesian ref statements)
+cartesian_short ref [] h = tt
+cartesian_short ref (s ∷ statements) h = (
+  subst (λ (n : ℕ). n < 2 ^ 64) (sym (same_place s (made_cartesian ref s))) h.0,
+  cartesian_short (reference_after ref (cartesian ref s)) statements h.1,
+)
 
 -- and so are those of what comes out
 flow_short : (statements : List Statement) → AllByRecursion HasShortLine statements → AllByRecursion HasShortLine (carried_out statements)
 flow_short statements h = all_carried_out HasShortLine (λ s a short is line. subst (λ (n : ℕ). n < 2 ^ 64) (sym line) short)
     (λ s a short line. subst (λ (n : ℕ). n < 2 ^ 64) (sym line) short) statements h
 
+text_short : (choices : Choices) (text : List ℕ) → length text < 2 ^ 64
+    → AllByRecursion HasShortLine (all_stated [] (kept choices (valued_statements text)))
+text_short choices text few =
+    let short = numbers_short 1 (1 + length (lines text)) (text_reading text).statements (omega (arith, few, lines_few text)) (numbered_is 1 (lines text)).0 in
+    let valued = valued_short [] (carried_out (text_reading text).statements) (flow_short (text_reading text).statements short) in
+    stated_short [] (kept choices (valued_statements text)) (kept_short choices [] (valued_statements text)
+    (cartesian_short no_reference (all_valued [] (carried_out (text_reading text).statements)) valued))
+
 pub programs_read_back : (frames : List (List ℕ × Point)) (choices : Choices) (text : List ℕ) (heads : List (List ℕ)) (m : Meaning)
     → length text < 2 ^ 64 → AllByRecursion IsComment heads → lowered_meaning frames choices text ≡ Ok m
     → program_of frames (ended_lines heads ++ flat_program choices text) ≡ Ok m
 unfolding meaning_of
 programs_read_back frames choices text heads m few comments h =
-    let short = numbers_short 1 (1 + length (lines text)) (text_reading text).statements (omega (arith, few, lines_few text)) (numbered_is 1 (lines text)).0 in
     ap (λ (t : List ℕ). program_of frames t) (sym (ended_append heads (flat_lines (all_stated [] (kept choices (valued_statements text))))))
     ∙ reads_back frames (text_reading text).fault (length (lines text)) (all_stated [] (kept choices (valued_statements text))) heads m
-    (stated_short [] (kept choices (valued_statements text)) (kept_short choices [] (valued_statements text) (valued_short [] (carried_out (text_reading text).statements) (flow_short (text_reading text).statements short)))) comments h
+    (text_short choices text few) comments h
 
 pub texts_stay : (frames : List (List ℕ × Point)) (choices : Choices) (text : List ℕ) (heads : List (List ℕ)) (m : Meaning)
     → length text < 2 ^ 64 → AllByRecursion IsComment heads → lowered_meaning frames choices text ≡ Ok m
@@ -69,10 +86,9 @@ pub texts_stay : (frames : List (List ℕ × Point)) (choices : Choices) (text :
     ≡ acts_of frames (all_stated [] (kept choices (valued_statements text)))
 unfolding meaning_of
 texts_stay frames choices text heads m few comments h =
-    let short = numbers_short 1 (1 + length (lines text)) (text_reading text).statements (omega (arith, few, lines_few text)) (numbered_is 1 (lines text)).0 in
     ap (λ (t : List ℕ). acts_of frames (text_reading t).statements) (sym (ended_append heads (flat_lines (all_stated [] (kept choices (valued_statements text))))))
     ∙ acts_back frames (text_reading text).fault (length (lines text)) (all_stated [] (kept choices (valued_statements text))) heads m
-    (stated_short [] (kept choices (valued_statements text)) (kept_short choices [] (valued_statements text) (valued_short [] (carried_out (text_reading text).statements) (flow_short (text_reading text).statements short)))) comments h
+    (text_short choices text few) comments h
 
 pub sources_keep : (frames : List (List ℕ × Point)) (choices : Choices) (text : List ℕ) (m : Meaning) → TextsFit text → program_of frames text ≡ Ok m
     → lowered_meaning frames choices text ≡ Ok m

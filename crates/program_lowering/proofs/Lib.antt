@@ -24,4 +24,5 @@ pub mod LineCounts
 pub mod Takes
 pub mod LineParts
 pub mod ValuedLemmas
+pub mod CartesianLemmas
 pub mod ExampleLemmas

@@ -109,16 +109,16 @@ assign_good word e =
     let is = (bytes_eq-Decides word (codes "ASSIGN")).0 e in
     rw is record { solid = refl; some = omega arith; short = omega arith }
 
-among_good : (word : List ℕ) (words : List (List ℕ)) → AllByRecursion GoodWord words → is_among word words ≡ true → GoodWord word
-among_good word [] h e = absurd cc
-among_good word (x ∷ xs) h e = go (bytes_eq word x) refl e (among_good word xs h.1)
+pub among_all : (P : List ℕ → Type 0) (word : List ℕ) (words : List (List ℕ)) → AllByRecursion P words → is_among word words ≡ true → P word
+among_all P word [] h e = absurd cc
+among_all P word (x ∷ xs) h e = go (bytes_eq word x) refl e (among_all P word xs h.1)
   where
-    go : (b : Bool) → bytes_eq word x ≡ b → (b || is_among word xs) ≡ true → (is_among word xs ≡ true → GoodWord word) → GoodWord word
-    go true is e rest = subst GoodWord (sym ((bytes_eq-Decides word x).0 is)) h.0
+    go : (b : Bool) → bytes_eq word x ≡ b → (b || is_among word xs) ≡ true → (is_among word xs ≡ true → P word) → P word
+    go true is e rest = subst P (sym ((bytes_eq-Decides word x).0 is)) h.0
     go false is e rest = rest e
 
 pub commanding_good : (word : List ℕ) → is_among word commanding ≡ true → GoodWord word
-commanding_good word e = among_good word commanding all e
+commanding_good word e = among_all GoodWord word commanding all e
   where
     all : AllByRecursion GoodWord commanding
     all = (
@@ -242,12 +242,9 @@ pub gives_none : (above : List Statement) (s : Statement) (entries : List Entry)
 gives_none above s entries declared other none k = rw (other, sym k.some, none) refl
 
 -- a statement keeps its line
-pub valued_line : (above : List Statement) (s : Statement) → (valued above s).line ≡ s.line
-valued_line above s = go (new_params above s)
-  where
-    go : (o : Option (Result (List (List ℕ)) ValueFault)) → (with_params s o).line ≡ s.line
-    go None = refl
-    go (Some made) = refl
+pub same_place : (s : Statement) (made : Option (Result (List (List ℕ)) ValueFault)) → (with_params s made).line ≡ s.line
+same_place s None = refl
+same_place s (Some made) = refl
 
 -- the statement that is read of a line, on its own line
 pub read_again : (v : Statement) (n : ℕ) → v.line ≡ n → ◌≡◌ {A = Statement} (record (record v { line = 1 }) { line = n }) v

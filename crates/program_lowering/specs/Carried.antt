@@ -17,6 +17,7 @@ use Rattle.dmis_program.specs.declared.sayings.StatementMeaning.{StatementMeanin
 use Rattle.dmis_program.specs.declared.sayings.StatementMeaning.TheVariants as said
 use Rattle.dmis_text.specs.Reading.{text_reading}
 use Rattle.std.specs.List.{list_all}
+use Rattle.std.specs.Option.{option_map}
 use Rattle.program_values.specs.LookBack.{Holds}
 use Rattle.program_values.specs.Numbers.{Fraction, and_then, numeral}
 use Rattle.program_values.specs.Variables.{Entry}
@@ -24,7 +25,9 @@ use Rattle.program_values.specs.declared.faults.ValueFault.{ValueFault}
 use Rattle.program_values.specs.declared.faults.ValueFault.TheVariants as value
 use Rattle.program_lowering.specs.Flats.{flat, flat_line}
 use Rattle.program_flow.specs.Flow.{carried}
-use Rattle.program_lowering.specs.Valued.{has_variables, held_or_none}
+use Rattle.program_lowering.specs.Cartesian.{cartesian, reference_after}
+use Rattle.program_lowering.specs.Valued.{has_variables, held_or_none, valued}
+use Rattle.program_lowering.specs.declared.cartesian.Reference.{Reference}
 use Rattle.program_lowering.specs.Manual.{manual_after}
 use Rattle.program_lowering.specs.Inches.{inches_after, said_stated}
 use Rattle.program_lowering.specs.OperatorTexts.{flat_meant, is_plain, marked, text_refusal}
@@ -202,6 +205,9 @@ pair_of true values (Some name) = and_then (values name) (λ f. Ok (name ∷ (nu
 abbrev pub line_with : List ℕ → Result (List (List ℕ)) ValueFault → List ℕ
 line_with word made = ended (flat_line (flat word (held_or_none word made)) 1)
 
+abbrev pub line_if : List ℕ → Option (Result (List (List ℕ)) ValueFault) → Option (List ℕ)
+line_if word made = option_map (line_with word) made
+
 -- a line gives one statement, as if it were the first; or there is none, and a statement stays as it is
 pub record IsRead (line : List ℕ) (s : Statement) : Type 0 where
   pub only : text_reading line ≡ record { statements = s ∷ []; fault = None }
@@ -210,9 +216,16 @@ abbrev pub GivesLine : Option (List ℕ) → Statement → Statement → Type 0
 GivesLine None s v = v ≡ s
 GivesLine (Some line) s v = IsRead line (record v { line = 1 }) × (v.line ≡ s.line)
 
--- likewise for a statement with its values, which is then carried out, unless memory ran out
-abbrev pub TakesValued : Result Bool StatementFault → Carried → List Entry → Bool → List Statement → Statement → Result (Bool × Carried) Refusal → Type 0
-TakesValued result new entries declared above s due = GivesStep result new due × OnOk result (Knows (carried above s) entries declared)
+-- what a call gives and leaves by a step, unless memory ran out: for a statement with Cartesian coordinates, to which the next ones refer;
+-- and for one that has its values before, and is carried out
+abbrev pub TakesCartesian : Result Bool StatementFault → Carried → Reference → Reference → Statement → (Statement → Result (Bool × Carried) Refusal) → Type 0
+TakesCartesian result new before after s due =
+    GivesStep result new (due (cartesian before s)) × OnOk result (after ≡ reference_after before (cartesian before s))
+
+abbrev pub TakesValued : Result Bool StatementFault → Carried → Reference → Reference → List Entry → Bool → List Statement → Statement
+    → (Statement → Result (Bool × Carried) Refusal) → Type 0
+TakesValued result new before after entries declared above s due =
+    TakesCartesian result new before after (valued above s) due × OnOk result (Knows (carried above s) entries declared)
 
 -- the lines of the flat program of a text, and what was decided; or why there are none
 pub record AreLines (frames : List (List ℕ × Point)) (choices : Choices) (source text notes : List ℕ) : Type 0 where

@@ -1,7 +1,10 @@
 -- What the examples of this crate speak of.
-use Rattle.std.specs.Prelude.{ℕ, List, [], ◌∷◌, ◌++◌, codes, true, false, None, Some}
+use Rattle.std.specs.Prelude.{ℕ, List, [], ◌∷◌, ◌++◌, codes, true, false, Option, None, Some, Result, Ok}
 use Rattle.dmis_text.specs.declared.elements.Statement.{Statement}
+use Rattle.program_values.specs.declared.faults.ValueFault.{ValueFault}
+use Rattle.program_lowering.specs.Cartesian.{no_reference, reference_after}
 use Rattle.program_lowering.specs.StoredFrames.{by_frame, is_used}
+use Rattle.program_lowering.specs.declared.cartesian.Reference.{Reference}
 use Rattle.program_lowering.specs.declared.words.Choices.{Choices}
 
 -- nothing is left out besides what measures and moves nothing; and all that may be
@@ -87,3 +90,20 @@ assign name text = record { line = 1; label = Some name; word = codes "ASSIGN"; 
 
 abbrev pub x_is_five : List Statement
 x_is_five = assign (codes "X") (codes "5") ∷ declare_x ∷ []
+
+-- a move to a place, in polar coordinates and by 10, the parameters of a Cartesian one, and what follows statements refers to
+abbrev pub a_move : Statement
+a_move = bare (codes "GOTO") (codes "CART" ∷ codes "1" ∷ codes "2.5" ∷ codes "3" ∷ [])
+
+abbrev pub around : List ℕ → List ℕ → List ℕ → Statement
+around r a h = bare (codes "GOTO") (codes "POL" ∷ r ∷ a ∷ h ∷ [])
+
+abbrev pub by_ten : List ℕ → List ℕ → List ℕ → Statement
+by_ten i j k = bare (codes "GOTO") (codes "INCR" ∷ codes "10" ∷ i ∷ j ∷ k ∷ [])
+
+abbrev pub placed : List ℕ → List ℕ → List ℕ → Option (Result (List (List ℕ)) ValueFault)
+placed x y z = Some (Ok (codes "CART" ∷ x ∷ y ∷ z ∷ []))
+
+abbrev pub below : List Statement → Reference
+below [] = no_reference
+below (s ∷ above) = reference_after (below above) s

@@ -6,6 +6,7 @@ pub mod Flats
 pub mod OperatorTexts
 pub mod Inches
 pub mod Valued
+pub mod Cartesian
 pub mod Acts
 pub mod Lowering
 pub mod Heads

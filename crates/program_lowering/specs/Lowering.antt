@@ -2,7 +2,7 @@
 use Rattle.std.specs.Prelude.{ℕ, Bool, false, List, [], ◌∷◌, ◌++◌, length, codes, flat_map, Option, Some, None}
 use Rattle.std.specs.Prelude.{Result, Ok, Err, ◌&&◌, if◌then◌else◌}
 use Rattle.std.specs.Str.Lines.{lines}
-use Rattle.dmis_text.specs.Reading.{Reading, text_reading}
+use Rattle.dmis_text.specs.Reading.{text_reading}
 use Rattle.dmis_text.specs.declared.elements.Statement.{Statement}
 use Rattle.fixed_um.specs.declared.lengths.Point.{Point}
 use Rattle.dmis_program.specs.Keywords.{keyword_of}
@@ -17,8 +17,9 @@ use Rattle.program_lowering.specs.Flats.{Flat, flat_line, note_line}
 use Rattle.program_lowering.specs.StoredFrames.{by_frame, frame_notes, if_stored, is_used}
 use Rattle.program_review.specs.Texts.{is_operator_text}
 use Rattle.program_lowering.specs.Inches.{all_stated}
-use Rattle.program_flow.specs.Calls.{carried_out, flow_reading}
-use Rattle.program_lowering.specs.Valued.{all_valued, valued_reading}
+use Rattle.program_flow.specs.Calls.{carried_out}
+use Rattle.program_lowering.specs.Cartesian.{all_cartesian, no_reference}
+use Rattle.program_lowering.specs.Valued.{all_valued}
 use Rattle.program_lowering.specs.OperatorTexts.{flat_meant, up_to_refused}
 use Rattle.program_lowering.specs.Reasons.{detail, reason_text}
 use Rattle.program_lowering.specs.declared.words.Choices.{Choices}
@@ -54,17 +55,14 @@ kept_below choices above (s ∷ statements) = unless_left_out (left_out_at choic
 abbrev pub kept : Choices → List Statement → List Statement
 kept choices statements = kept_below choices [] statements
 
--- each in millimetres, up to a text for the operator that one line cannot hold
-abbrev pub kept_reading : Choices → Reading → Reading
-kept_reading choices reading = up_to_refused reading.fault (all_stated [] (kept choices reading.statements))
-
--- the statements of a text as they are carried out, with their values
+-- the statements of a text as they are carried out, with their values and in Cartesian coordinates
 abbrev pub valued_statements : List ℕ → List Statement
-valued_statements text = all_valued [] (carried_out (text_reading text).statements)
+valued_statements text = all_cartesian no_reference (all_valued [] (carried_out (text_reading text).statements))
 
--- what the text means with its values and without those that are left out, or its first refusal with its line
+-- what those that count mean in millimetres, up to a text for the operator that one line cannot hold, or the first refusal with its line
 abbrev pub lowered_meaning : List (List ℕ × Point) → Choices → List ℕ → Result Meaning (Refusal × ℕ)
-lowered_meaning frames choices text = meaning_of frames (kept_reading choices (valued_reading (flow_reading (text_reading text)))) (length (lines text))
+lowered_meaning frames choices text =
+    meaning_of frames (up_to_refused (text_reading text).fault (all_stated [] (kept choices (valued_statements text)))) (length (lines text))
 
 -- a statement that closes the program
 abbrev pub is_closing : Result StatementMeaning Refusal → Bool

@@ -4,7 +4,6 @@
 use Rattle.std.specs.Prelude.{ℕ, Bool, false, ◌&&◌, ◌||◌, List, [], ◌∷◌, length, nat_le, codes, bytes_eq, Option, Some, None}
 use Rattle.std.specs.Prelude.{is_none, Result, Ok, Err, if◌then◌else◌}
 use Rattle.std.specs.List.{list_all}
-use Rattle.dmis_text.specs.Reading.{Reading}
 use Rattle.dmis_text.specs.declared.elements.Statement.{Statement}
 use Rattle.dmis_program.specs.Keywords.{is_among}
 use Rattle.program_flow.specs.Flow.{carried}
@@ -64,7 +63,3 @@ valued above s = with_params s (new_params above s)
 abbrev pub all_valued : List Statement → List Statement → List Statement
 all_valued above [] = []
 all_valued above (s ∷ statements) = valued above s ∷ all_valued (carried above s) statements
-
--- a text with its values
-abbrev pub valued_reading : Reading → Reading
-valued_reading reading = record { statements = all_valued [] reading.statements; fault = reading.fault }

@@ -52,7 +52,7 @@ fn position(x: &[u8], y: &[u8], z: &[u8]) -> Result<Point, Refusal>
 }
 
 /// The direction that three numerals write: it has no unit.
-fn direction(i: &[u8], j: &[u8], k: &[u8]) -> Result<Dir, Refusal>
+pub(crate) fn direction(i: &[u8], j: &[u8], k: &[u8]) -> Result<Dir, Refusal>
     ensures { result ≡ direction_of i.now j.now k.now }
 {
     match read_dir(i, j, k) {

@@ -16,8 +16,13 @@ ghost use Rattle.fixed_um.specs.Limits.{component_limit};
 ghost use Rattle.fixed_um.specs.Numerals.{IsRounded, signed};
 ghost use Rattle.fixed_um.specs.declared.lengths.Point.{Point};
 ghost use Rattle.program_review.specs.Texts.{is_operator_text};
+ghost use Rattle.dmis_program.specs.Parameters.{is_other_coordinates};
+ghost use Rattle.program_lowering.specs.Cartesian.{cartesian, made_cartesian, no_reference, plane_named, unit_named};
+ghost use Rattle.program_lowering.specs.declared.cartesian.AngleUnit.TheVariants.{Degrees, Radians};
+ghost use Rattle.program_lowering.specs.declared.cartesian.Plane.TheVariants.{Xy, Yz, Zx};
+ghost use Rattle.program_lowering.specs.declared.cartesian.Reference.{Reference};
 ghost use Rattle.program_lowering.specs.Acts.{acts_of};
-ghost use Rattle.program_lowering.specs.Examples.{all_choices, assign, bare, declare_x, first_by_hand, manual_front, measured, mode_man, mode_prog, plain_choices, start, to_operator, a_touch, make_a, make_a_on_7, make_b, recall_a, naming_a, naming_none, of_setup, saving, two_frames, labelled, x_is_five};
+ghost use Rattle.program_lowering.specs.Examples.{all_choices, assign, bare, declare_x, first_by_hand, manual_front, measured, mode_man, mode_prog, plain_choices, start, to_operator, a_touch, make_a, make_a_on_7, make_b, recall_a, naming_a, naming_none, of_setup, saving, two_frames, labelled, x_is_five, a_move, around, below, by_ten, placed};
 ghost use Rattle.program_lowering.specs.Flats.{flat, flat_text};
 ghost use Rattle.program_lowering.specs.Heads.{IsComment, Names, head_lines};
 ghost use Rattle.program_lowering.specs.Inches.{all_stated, in_inches, in_millimetres, inch_length, stated};
@@ -106,6 +111,86 @@ pub fn examples_of_values()
         ≡ Some reason.Leads }
     ensures not_followed { left_out plain_choices (bare (codes "IF") []) ≡ None }
     ensures leads_there { detail reason.Leads (codes "9" ∷ []) ≡ codes "9" }
+{}
+
+/// A statement without polar or incremental coordinates stays as it is.
+pub fn cartesian_statements_stay()
+    ensures { (ref : Reference) (s : Statement) → is_other_coordinates s.params ≡ false
+        → cartesian ref s ≡ s }
+{}
+
+/// Examples: polar coordinates, by plane and unit.
+#[tactic(auto, unfolding(program_values::specs::Values::value_within, program_values::specs::Values::numeral_value, program_values::specs::Parts::parts_of, program_values::specs::Numbers::reduced, program_values::specs::Numbers::gcd_within, program_values::specs::Numbers::nearest_millionth, program_values::specs::Angles::cosine, program_values::specs::Angles::sine, program_values::specs::Angles::in_radians, program_values::specs::Angles::series, fixed_um::specs::Written::written_component))]
+pub fn examples_of_polar_coordinates()
+    ensures zero { made_cartesian no_reference (around (codes "10") (codes "0") (codes "5"))
+        ≡ placed (decimal 10) (decimal 0) (decimal 5) }
+    ensures thirty { made_cartesian no_reference (around (codes "10") (codes "30") (codes "-5"))
+        ≡ placed (decimal 8 ++ codes ".660254") (decimal 5) (codes "-" ++ decimal 5) }
+    ensures negative { made_cartesian no_reference (around (codes "12.345") (codes "-90") (codes "5"))
+        ≡ placed (decimal 0) (codes "-" ++ (decimal 12 ++ codes ".345000")) (decimal 5) }
+    ensures second_plane { made_cartesian (record no_reference { plane = Some Yz })
+        (around (codes "10") (codes "30") (codes "7"))
+        ≡ placed (decimal 7) (decimal 8 ++ codes ".660254") (decimal 5) }
+    ensures third_plane { made_cartesian (record no_reference { plane = Some Zx })
+        (around (codes "10") (codes "30") (codes "7"))
+        ≡ placed (decimal 5) (decimal 7) (decimal 8 ++ codes ".660254") }
+    ensures radians { made_cartesian (record no_reference { unit = Some Radians })
+        (around (codes "10") (codes ".5") (codes "0"))
+        ≡ placed (decimal 8 ++ codes ".775826") (decimal 4 ++ codes ".794255") (decimal 0) }
+    ensures no_unit { made_cartesian (record no_reference { unit = None })
+        (around (codes "10") (codes "0") (codes "5")) ≡ None }
+    ensures no_plane { made_cartesian (record no_reference { plane = None })
+        (around (codes "10") (codes "0") (codes "5")) ≡ None }
+    ensures touch { made_cartesian no_reference (bare (codes "PTMEAS") (codes "POL" ∷ (codes "10"
+        ∷ (codes "90" ∷ (codes "5" ∷ (codes "0" ∷ (codes "-1" ∷ (codes "0" ∷ []))))))))
+        ≡ Some (Ok (codes "CART" ∷ (decimal 0 ∷ (decimal 10 ∷ (decimal 5 ∷ (codes "0"
+        ∷ (codes "-1" ∷ (codes "0" ∷ [])))))))) }
+    ensures labelled { made_cartesian no_reference (record (around (codes "10") (codes "0")
+        (codes "5")) { label = Some (codes "A") }) ≡ None }
+    ensures feature { made_cartesian no_reference (record (around (codes "10") (codes "0")
+        (codes "5")) { word = codes "MEAS" }) ≡ None }
+{}
+
+/// Examples: a move by a distance, from where a `GOTO` ends.
+#[tactic(auto, unfolding(program_values::specs::Values::value_within, program_values::specs::Values::numeral_value, program_values::specs::Parts::parts_of, program_values::specs::Numbers::reduced, program_values::specs::Numbers::gcd_within, program_values::specs::Numbers::nearest_millionth, dmis_program::specs::Positions::direction_of, dmis_program::specs::Positions::component_of, fixed_um::specs::Scan::exponent_of, fixed_um::specs::Scan::numeral_of, fixed_um::specs::Written::written_component))]
+pub fn examples_of_moves_by_distances()
+    ensures along { made_cartesian (below (a_move ∷ [])) (by_ten (codes "0") (codes "-1") (codes "0"))
+        ≡ placed (decimal 1) (codes "-" ++ (decimal 7 ++ codes ".500000")) (decimal 3) }
+    ensures across { made_cartesian (below (a_move ∷ [])) (by_ten (codes ".6") (codes "0") (codes ".8"))
+        ≡ placed (decimal 7) (decimal 2 ++ codes ".500000") (decimal 11) }
+    ensures four_places { made_cartesian (below (a_move ∷ []))
+        (by_ten (codes ".7071") (codes ".7071") (codes "0"))
+        ≡ placed (decimal 8 ++ codes ".071000") (decimal 9 ++ codes ".571000") (decimal 3) }
+    ensures short { made_cartesian (below (a_move ∷ []))
+        (by_ten (codes ".707") (codes ".707") (codes "0")) ≡ None }
+    ensures long { made_cartesian (below (a_move ∷ []))
+        (by_ten (codes "0") (codes "1.0001") (codes "0")) ≡ None }
+    ensures touch { made_cartesian (below (a_move ∷ []))
+        (record (by_ten (codes "0") (codes "1") (codes "0")) { word = codes "PTMEAS" }) ≡ None }
+    ensures touched { made_cartesian (below (a_touch ∷ (a_move ∷ [])))
+        (by_ten (codes "0") (codes "1") (codes "0")) ≡ None }
+{}
+
+/// Examples: what coordinates refer to, by the statements above, the nearest first.
+#[tactic(auto, unfolding(program_values::specs::Values::value_within, program_values::specs::Values::numeral_value, program_values::specs::Parts::parts_of, program_values::specs::Numbers::reduced, program_values::specs::Numbers::gcd_within))]
+pub fn examples_of_references()
+    ensures bare_move { (below (bare (codes "GOTO") (codes "1" ∷ (codes "2.5" ∷ (codes "3" ∷ [])))
+        ∷ [])).place ≡ (below (a_move ∷ [])).place }
+    ensures still { (below (bare (codes "FEDRAT") [] ∷ (bare (codes "MEAS") []
+        ∷ (bare (codes "ENDMES") [] ∷ (declare_x ∷ (bare (codes "FLY") [] ∷ (a_move ∷ []))))))).place
+        ≡ (below (a_move ∷ [])).place }
+    ensures moved { map (λ s. (below (s ∷ (a_move ∷ []))).place) (a_touch ∷ (recall_a ∷ (make_a
+        ∷ (mode_man ∷ (bare (codes "SNSLCT") [] ∷ (bare (codes "UNITS") []
+        ∷ (bare (codes "GOHOME") [] ∷ (bare (codes "GOTO") (codes "X" ∷ []) ∷ []))))))))
+        ≡ None ∷ (None ∷ (None ∷ (None ∷ (None ∷ (None ∷ (None ∷ (None ∷ []))))))) }
+    ensures plane { (below (a_move ∷ (bare (codes "WKPLAN") (codes "ZXPLAN" ∷ [])
+        ∷ (bare (codes "WKPLAN") (codes "YZPLAN" ∷ []) ∷ [])))).plane ≡ Some Zx }
+    ensures planes { map plane_named ((codes "XYPLAN" ∷ []) ∷ ((codes "YZPLAN" ∷ [])
+        ∷ ((codes "XZPLAN" ∷ []) ∷ []))) ≡ Some Xy ∷ (Some Yz ∷ (None ∷ [])) }
+    ensures unit { (below (a_move ∷ (bare (codes "UNITS") (codes "MM" ∷ (codes "ANGRAD" ∷ []))
+        ∷ []))).unit ≡ Some Radians }
+    ensures units { map unit_named ((codes "MM" ∷ (codes "ANGDMS" ∷ [])) ∷ ((codes "MM"
+        ∷ (codes "ANGDEC" ∷ [])) ∷ [])) ≡ None ∷ (Some Degrees ∷ []) }
 {}
 
 /// Where the operator would measure, no touch stays, if it is asked for; elsewhere a statement is left out for itself alone.

@@ -6,7 +6,7 @@
 //! - `inches`: what a statement says whose lengths are in inches
 //! - `manual`: what is left to the operator
 //! - `stored`: frames of the setup in place of alignments
-//! - `values`: statements with the values of variables
+//! - `values`: statements with the values of variables; `cartesian`: and with Cartesian coordinates
 //! - `heads`: the comments before a flat program
 //! - `above`: what the statements above leave for the one that is judged
 //! - `lowering`: `lower`, the flat program of a text, or its first refusal; `laws`: what follows from the definitions
@@ -16,6 +16,7 @@
 #![tactic(auto)]
 
 mod above;
+mod cartesian;
 mod flats;
 mod heads;
 mod inches;

@@ -51,11 +51,15 @@ pub(crate) fn is_plain(param: &[u8]) -> bool
     !inside
 }
 
-/// Appends parameters, each after its mark.
-fn push_params(out: &mut Vec<u8>, params: &[Text]) -> Result<(), AllocError>
-    ensures { OnOk result (out.new.items ≡ out.old.items ++ spec.marked 47 params.now) }
+/// Appends parameters, each after its mark: the first after this one, the others after a comma.
+pub(crate) fn push_params(
+    out: &mut Vec<u8>,
+    first_mark: u8,
+    params: &[Text],
+) -> Result<(), AllocError>
+    ensures { OnOk result (out.new.items ≡ out.old.items ++ spec.marked first_mark params.now) }
 {
-    let mut mark = b'/';
+    let mut mark = first_mark;
     for param in params {
         out.push(mark)?;
         out.extend_from_slice(param)?;
@@ -71,11 +75,11 @@ fn push_as_read(out: &mut Vec<u8>, statement: &Statement) -> Result<(), AllocErr
         ≡ out.old.items ++ flat_text (spec.as_read statement.now)) }
 {
     out.extend_from_slice(&statement.word)?;
-    push_params(out, &statement.params)
+    push_params(out, b'/', &statement.params)
 }
 
 /// Whether each of these parameters is read back as it is written.
-fn are_plain(params: &[Text]) -> bool
+pub(crate) fn are_plain(params: &[Text]) -> bool
     ensures { result ≡ list_all (spec.is_plain false) params.now }
 {
     params.iter().all(|param| is_plain(param))

@@ -6,8 +6,7 @@ ghost use Rattle.dmis_program.specs.Meaning.{closes, ended};
 ghost use Rattle.dmis_program.specs.Outcomes.{fault_at, refused_at, Gives};
 ghost use Rattle.dmis_text.specs.declared.elements.Statement.{Statement};
 ghost use Rattle.program_flow.specs.Left.{IsGiven};
-ghost use Rattle.program_lowering.specs.Valued.{valued};
-ghost use Rattle.program_lowering.specs.Carried.{GivesLines, GivesStep, Knows, TakesValued, followed, left_out_after, nothing_carried, step, frames_closed, judged_next};
+ghost use Rattle.program_lowering.specs.Carried.{GivesLines, GivesStep, Knows, TakesCartesian, TakesValued, followed, left_out_after, nothing_carried, step, frames_closed, judged_next};
 ghost use Rattle.program_lowering.specs.Heads.{names_of};
 ghost use Rattle.program_lowering.specs.Lowered.{GivesLowered};
 ghost use Rattle.program_lowering.specs.Lowering.{note_for, note_start, passed_over};
@@ -16,6 +15,7 @@ ghost use Rattle.program_lowering.specs.Carried.{Carried};
 ghost use Rattle.tool_rack.specs.Setups.{has_name};
 
 use crate::above::Above;
+use crate::cartesian::Reference;
 use crate::flats::push_note_line;
 use crate::heads::{SourceNames, with_head};
 use crate::inches::inches_after;
@@ -311,28 +311,51 @@ impl Lowering {
     }
 }
 
-/// Takes the next statement of a text, with its values. True at the end of the program.
+/// Takes the next statement of a text, with Cartesian coordinates. True at the end of the program.
+fn take_cartesian(
+    lowering: &mut Lowering,
+    reference: &mut Reference,
+    choices: Choices,
+    frames: &Frames,
+    statement: &Statement,
+) -> Result<bool, StatementFault>
+    ensures { TakesCartesian result lowering.new reference.old reference.new statement.now
+        (step frames.now choices lowering.old) }
+{
+    let alloc = lowering.alloc;
+    let Some(line) = reference.line(alloc, statement)? else {
+        *reference = reference.after(alloc, statement);
+        return lowering.take(choices, frames, statement);
+    };
+    let made = read_back(alloc, statement.line, &line)?;
+    *reference = reference.after(alloc, &made);
+    lowering.take(choices, frames, &made)
+}
+
+/// Likewise with its values.
 fn take_valued(
     lowering: &mut Lowering,
+    reference: &mut Reference,
     values: &mut Values,
     choices: Choices,
     frames: &Frames,
     statement: &Statement,
 ) -> Result<bool, StatementFault>
     ensures { (above : List Statement) → Knows above values.old.variables values.old.declared
-        → TakesValued result lowering.new values.new.variables values.new.declared above
-        statement.now (step frames.now choices lowering.old (valued above statement.now)) }
+        → TakesValued result lowering.new reference.old reference.new values.new.variables
+        values.new.declared above statement.now (step frames.now choices lowering.old) }
 {
     let Some(line) = values.take(lowering.alloc, statement)? else {
-        return lowering.take(choices, frames, statement);
+        return take_cartesian(lowering, reference, choices, frames, statement);
     };
     let valued = read_back(lowering.alloc, statement.line, &line)?;
-    lowering.take(choices, frames, &valued)
+    take_cartesian(lowering, reference, choices, frames, &valued)
 }
 
 /// Likewise the next statement that comes out of a text.
 fn take_given(
     lowering: &mut Lowering,
+    reference: &mut Reference,
     values: &mut Values,
     choices: Choices,
     frames: &Frames,
@@ -342,16 +365,17 @@ fn take_given(
     requires { (s : Statement) × IsGiven statements.now given.now s }
     ensures { (above : List Statement) (s : Statement) → IsGiven statements.now given.now s
         → Knows above values.old.variables values.old.declared
-        → TakesValued result lowering.new values.new.variables values.new.declared above s
-        (step frames.now choices lowering.old (valued above s)) }
+        → TakesValued result lowering.new reference.old reference.new values.new.variables
+        values.new.declared above s (step frames.now choices lowering.old) }
 {
     match given {
         Given::Stated(place) => {
-            take_valued(lowering, values, choices, frames, &statements[*place])
+            let statement = &statements[*place];
+            take_valued(lowering, reference, values, choices, frames, statement)
         }
         Given::Made(line, text) => {
             let made = read_back(lowering.alloc, *line, text)?;
-            take_valued(lowering, values, choices, frames, &made)
+            take_valued(lowering, reference, values, choices, frames, &made)
         }
     }
 }
@@ -373,6 +397,7 @@ fn lines_of(
         return Err(ProgramFault::Memory);
     };
     let mut lowering = Lowering::new(alloc);
+    let mut reference = Reference::none();
     let mut values = Values::new(alloc);
     loop {
         let Ok(next) = flow.next(alloc, &values.variables) else {
@@ -382,7 +407,15 @@ fn lines_of(
             return Err(lowering.missing_end(end, statements.lines()));
         };
         let outside = flow.outside();
-        match take_given(&mut lowering, &mut values, choices, frames, outside, &given) {
+        match take_given(
+            &mut lowering,
+            &mut reference,
+            &mut values,
+            choices,
+            frames,
+            outside,
+            &given,
+        ) {
             Ok(true) => return lowering.finish(choices),
             Ok(false) => {}
             Err(fault) => return Err(fault_at(fault, line_of(outside, &given))),

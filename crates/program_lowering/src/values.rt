@@ -73,23 +73,37 @@ fn push_params(
     }
 }
 
+/// Appends a number after a comma. Whether it is read back as it is written.
+pub(crate) fn push_number(out: &mut Vec<u8>, number: Number) -> Result<bool, AllocError>
+    ensures { IfOk result (λ plain. (out.new.items ≡ out.old.items ++ 44 ∷ numeral number)
+        × (plain ≡ is_plain false (numeral number))) }
+{
+    let mut text = Vec::new(*out.allocator());
+    number.write(&mut text)?;
+    out.push(b',')?;
+    out.extend_from_slice(&text)?;
+    Ok(is_plain(&text))
+}
+
 /// Appends the name of a variable and its value. Whether both are read back as they are written.
 fn push_pair(out: &mut Vec<u8>, name: &[u8], number: Number) -> Result<bool, AllocError>
     ensures { IfOk result (λ plain. (out.new.items ≡ out.old.items
         ++ marked 47 (name.now ∷ (numeral number ∷ [])))
         × (plain ≡ list_all (is_plain false) (name.now ∷ (numeral number ∷ [])))) }
 {
-    let mut value = Vec::new(*out.allocator());
-    number.write(&mut value)?;
     out.push(b'/')?;
     out.extend_from_slice(name)?;
-    out.push(b',')?;
-    out.extend_from_slice(&value)?;
-    Ok(is_plain(name) && is_plain(&value))
+    let plain = push_number(out, number)?;
+    Ok(is_plain(name) && plain)
 }
 
 /// The line of a word with these parameters, of which each is read back or not; without them if it is too long or they are not.
-fn line_of(alloc: Global, word: &[u8], text: Vec<u8>, plain: bool) -> Result<Vec<u8>, AllocError>
+pub(crate) fn line_of(
+    alloc: Global,
+    word: &[u8],
+    text: Vec<u8>,
+    plain: bool,
+) -> Result<Vec<u8>, AllocError>
     ensures { (params : List (List ℕ)) → text.items ≡ word.now ++ marked 47 params
         → plain ≡ list_all (is_plain false) params → IfOk result (λ line. line.items
         ≡ ended (flat_line (flat word.now (spec.held word.now params)) 1)) }

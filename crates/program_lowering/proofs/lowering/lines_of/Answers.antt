@@ -1,9 +1,10 @@
 use Rattle.program_lowering.proofs.Names.{◌∙◌, ap, Err, fault_at, GivesLines, length, lines, List, Statement, subst, sym, text_reading, ℕ}
 use Rattle.program_flow.specs.Flow.{carried}
 use Rattle.program_flow.specs.Left.{IsGiven, left_of}
-use Rattle.program_lowering.specs.Valued.{all_valued, valued}
+use Rattle.program_lowering.specs.Cartesian.{all_cartesian, cartesian, made_cartesian, reference_after}
+use Rattle.program_lowering.specs.Valued.{all_valued, new_params, valued}
 use Rattle.program_lowering.proofs.EndLemmas.{at_end, at_statement, closes_at, finished, goes_past, written_of}
-use Rattle.program_lowering.proofs.ValuedLemmas.{valued_line}
+use Rattle.program_lowering.proofs.ValuedLemmas.{same_place}
 use Rattle.program_lowering.proofs.lowering.lines_of.Goals as goal
 
 pub returns-in_default-next-2 : goal.returns-in_default-next-2
@@ -13,7 +14,8 @@ returns-in_default-next-2 c =
     let end = c.in-Ok.ensures.end ∙ c.new-statements.ensures.fault in
     let count = c.lines.ensures ∙ (c.in-Ok.ensures.lines ∙ c.new-statements.ensures.lines) in
     rw (c.missing_end.ensures, end, count) (at_end c.args.frames.now c.args.choices c.args.bytes.now
-    (all_valued known.0 (left_of c.loop-next.flow known.0)) c.loop-next.lowering (ap (all_valued known.0) none) known.2)
+    (all_cartesian c.loop-next.reference (all_valued known.0 (left_of c.loop-next.flow known.0))) c.loop-next.lowering
+    (ap (λ (ss : List Statement). all_cartesian c.loop-next.reference (all_valued known.0 ss)) none) known.2)
 
 pub take_given-requires : goal.take_given-requires
 take_given-requires c =
@@ -32,11 +34,13 @@ returns-in-Ok-true c =
     let known = c.loop-next.invariant in
     let next = rw c.in-Some.is at (c.in-Ok-next.ensures.given known.0 known.1.holds) in
     let of = subst (λ (ss : List Statement). IsGiven ss c.in-Some.given next.0) (sym (c.outside-outside.ensures ∙ c.next.ensures.outside)) next.1 in
-    let given = rw c.in-Ok-true.field-0-test at (c.in-Ok-true.ensures known.0 next.0 of known.1).0 in
+    let given = rw c.in-Ok-true.field-0-test at (c.in-Ok-true.ensures known.0 next.0 of known.1).0.0 in
+    let ref = c.loop-next.reference in
+    let s = cartesian ref (valued known.0 next.0) in
     let closed = closes_at c.args.frames.now c.args.choices (text_reading c.args.bytes.now).fault (length (lines c.args.bytes.now))
-    (valued known.0 next.0) (all_valued known.0 (left_of c.loop-next.flow known.0))
-    (all_valued (carried known.0 next.0) (left_of c.next.new.self (carried known.0 next.0))) c.loop-next.lowering
-    c.take_given.new.lowering (ap (all_valued known.0) next.2) given in
+    s (all_cartesian ref (all_valued known.0 (left_of c.loop-next.flow known.0)))
+    (all_cartesian (reference_after ref s) (all_valued (carried known.0 next.0) (left_of c.next.new.self (carried known.0 next.0)))) c.loop-next.lowering
+    c.take_given.new.lowering (ap (λ (ss : List Statement). all_cartesian ref (all_valued known.0 ss)) next.2) given in
     let w = written_of c.args.frames.now c.args.choices c.args.bytes.now _ (sym known.2 ∙ closed) in
     finished c.args.frames.now c.args.choices c.args.bytes.now _ _ c.finish.result w c.finish.ensures.text c.finish.ensures.notes c.finish.ensures.err
 
@@ -45,11 +49,17 @@ returns-in-Err c =
     let known = c.loop-next.invariant in
     let next = rw c.in-Some.is at (c.in-Ok-next.ensures.given known.0 known.1.holds) in
     let of = subst (λ (ss : List Statement). IsGiven ss c.in-Some.given next.0) (sym (c.outside-outside.ensures ∙ c.next.ensures.outside)) next.1 in
+    let ref = c.loop-next.reference in
+    let v = valued known.0 next.0 in
+    let s = cartesian ref v in
+    let line = same_place v (made_cartesian ref v) ∙ same_place next.0 (new_params known.0 next.0) in
     rw c.fault_at.ensures (subst (λ (n : ℕ). GivesLines c.args.frames.now c.args.choices c.args.bytes.now (Err (fault_at c.in-Err.fault n)))
-    (valued_line known.0 next.0 ∙ sym (c.line_of.ensures next.0 of)) (at_statement c.args.frames.now c.args.choices c.args.bytes.now c.in-Err.fault
-    (valued known.0 next.0) (text_reading c.args.bytes.now).fault (length (lines c.args.bytes.now))
-    (all_valued known.0 (left_of c.loop-next.flow known.0)) (all_valued (carried known.0 next.0) (left_of c.next.new.self (carried known.0 next.0)))
-    c.loop-next.lowering c.take_given.new.lowering (ap (all_valued known.0) next.2) (c.in-Err.ensures known.0 next.0 of known.1).0 known.2))
+    (line ∙ sym (c.line_of.ensures next.0 of)) (at_statement c.args.frames.now c.args.choices c.args.bytes.now c.in-Err.fault
+    s (text_reading c.args.bytes.now).fault (length (lines c.args.bytes.now))
+    (all_cartesian ref (all_valued known.0 (left_of c.loop-next.flow known.0)))
+    (all_cartesian (reference_after ref s) (all_valued (carried known.0 next.0) (left_of c.next.new.self (carried known.0 next.0))))
+    c.loop-next.lowering c.take_given.new.lowering (ap (λ (ss : List Statement). all_cartesian ref (all_valued known.0 ss)) next.2)
+    (c.in-Err.ensures known.0 next.0 of known.1).0.0 known.2))
 
 pub loop-next-preserved-in-Ok-false : goal.loop-next-preserved-in-Ok-false
 loop-next-preserved-in-Ok-false c =
@@ -57,12 +67,14 @@ loop-next-preserved-in-Ok-false c =
     let next = rw c.in-Some.is at (c.in-Ok-next.ensures.given known.0 known.1.holds) in
     let of = subst (λ (ss : List Statement). IsGiven ss c.in-Some.given next.0) (sym (c.outside-outside.ensures ∙ c.next.ensures.outside)) next.1 in
     let taken = c.in-Ok-false.ensures known.0 next.0 of known.1 in
-    let given = rw c.in-Ok-false.field-0-test at taken.0 in
+    let given = rw c.in-Ok-false.field-0-test at taken.0.0 in
+    let ref = c.loop-next.reference in
+    let s = cartesian ref (valued known.0 next.0) in
     let rest = goes_past c.args.frames.now c.args.choices (text_reading c.args.bytes.now).fault (length (lines c.args.bytes.now))
-    (valued known.0 next.0) (all_valued known.0 (left_of c.loop-next.flow known.0))
-    (all_valued (carried known.0 next.0) (left_of c.next.new.self (carried known.0 next.0))) c.loop-next.lowering
-    c.take_given.new.lowering (ap (all_valued known.0) next.2) given in
-    (carried known.0 next.0, taken.1, rest ∙ known.2)
+    s (all_cartesian ref (all_valued known.0 (left_of c.loop-next.flow known.0)))
+    (all_cartesian (reference_after ref s) (all_valued (carried known.0 next.0) (left_of c.next.new.self (carried known.0 next.0)))) c.loop-next.lowering
+    c.take_given.new.lowering (ap (λ (ss : List Statement). all_cartesian ref (all_valued known.0 ss)) next.2) given in
+    (carried known.0 next.0, taken.1, rw taken.0.1 (rest ∙ known.2))
 
 pub loop-next-preserved : goal.loop-next-preserved
 loop-next-preserved c =
@@ -70,9 +82,11 @@ loop-next-preserved c =
     let next = rw c.in-Some.is at (c.in-Ok-next.ensures.given known.0 known.1.holds) in
     let of = subst (λ (ss : List Statement). IsGiven ss c.in-Some.given next.0) (sym (c.outside-outside.ensures ∙ c.next.ensures.outside)) next.1 in
     let taken = c.in-Ok-false.ensures known.0 next.0 of known.1 in
-    let given = rw c.in-Ok-false.field-0-test at taken.0 in
+    let given = rw c.in-Ok-false.field-0-test at taken.0.0 in
+    let ref = c.loop-next.reference in
+    let s = cartesian ref (valued known.0 next.0) in
     let rest = goes_past c.args.frames.now c.args.choices (text_reading c.args.bytes.now).fault (length (lines c.args.bytes.now))
-    (valued known.0 next.0) (all_valued known.0 (left_of c.loop-next.flow known.0))
-    (all_valued (carried known.0 next.0) (left_of c.next.new.self (carried known.0 next.0))) c.loop-next.lowering
-    c.take_given.new.lowering (ap (all_valued known.0) next.2) given in
-    (carried known.0 next.0, taken.1, rest ∙ known.2)
+    s (all_cartesian ref (all_valued known.0 (left_of c.loop-next.flow known.0)))
+    (all_cartesian (reference_after ref s) (all_valued (carried known.0 next.0) (left_of c.next.new.self (carried known.0 next.0)))) c.loop-next.lowering
+    c.take_given.new.lowering (ap (λ (ss : List Statement). all_cartesian ref (all_valued known.0 ss)) next.2) given in
+    (carried known.0 next.0, taken.1, rw taken.0.1 (rest ∙ known.2))

@@ -3,13 +3,15 @@ use Rattle.program_flow.specs.Left.{left_of, size}
 use Rattle.program_lowering.proofs.Runs.{run}
 use Rattle.program_lowering.proofs.lowering.lines_of.Given as goal
 use Rattle.program_lowering.specs.Carried.{Knows}
+use Rattle.program_lowering.specs.Cartesian.{all_cartesian}
 use Rattle.program_lowering.specs.Lowering.{valued_statements}
 use Rattle.program_lowering.specs.Valued.{all_valued}
 
 -- what is carried and what still comes out, with its values, give what the whole text gives
 abbrev pub invariant-loop-next : goal.invariant-loop-next
 invariant-loop-next l = (above : List Statement) × Knows above l.values.variables l.values.declared
-    × (run l.frames l.choices (text_reading l.bytes).fault (length (lines l.bytes)) (all_valued above (left_of l.flow above)) l.lowering
+    × (run l.frames l.choices (text_reading l.bytes).fault (length (lines l.bytes)) (all_cartesian l.reference (all_valued above (left_of l.flow above)))
+    l.lowering
     ≡ run l.frames l.choices (text_reading l.bytes).fault (length (lines l.bytes)) (valued_statements l.bytes) nothing_carried)
 
 abbrev pub decreases-loop-next : goal.decreases-loop-next

@@ -1,0 +1,301 @@
+// Polar and incremental coordinates.
+
+ghost use Rattle.std.specs.Prelude.{◌≡◌, ◌≤◌, ◌*◌, ◌++◌, ◌∷◌, [], ℕ, List, IfOk, bytes_eq, drop, false, map, option_map, unsigned_abs};
+ghost use Rattle.std.specs.List.{list_all, list_any};
+ghost use Rattle.program_values.specs.Numbers.{numeral};
+ghost use Rattle.program_lowering.specs.OperatorTexts.{is_plain, marked};
+ghost use Rattle.fixed_um.specs.Limits.{component_limit};
+ghost use Rattle.dmis_program.specs.Keywords.{is_among};
+ghost use Rattle.program_lowering.specs.Carried.{line_if};
+ghost use Rattle.program_lowering.specs.Cartesian as spec;
+
+use crate::inches::direction;
+use crate::lines::{are_plain, push_params};
+use crate::values::{line_of, push_number};
+use dmis_text::{Statement, Text};
+use fixed_um::Dir;
+use program_review::{is_among, is_text, without_cart};
+use program_values::{Number, Variables, cosine, in_radians, sine, value_of};
+use std::alloc::{AllocError, Global};
+
+/// A working plane.
+#[derive(Clone, Copy)]
+pub(crate) enum Plane {
+    Xy,
+    Yz,
+    Zx,
+}
+
+/// A unit of angles.
+#[derive(Clone, Copy)]
+pub(crate) enum AngleUnit {
+    Degrees,
+    Radians,
+}
+
+/// Three coordinates, or the components of a direction.
+type Triple = (Number, Number, Number);
+
+/// What coordinates refer to, as far as this profile takes it.
+#[derive(Clone, Copy)]
+pub(crate) struct Reference {
+    pub(crate) plane: Option<Plane>,
+    pub(crate) unit: Option<AngleUnit>,
+    /// Where the machine is, if a `GOTO` ended there.
+    pub(crate) place: Option<Triple>,
+}
+
+/// The value of an expression without names.
+fn number_in(alloc: Global, text: &[u8]) -> Option<Number>
+    ensures { result ≡ spec.number_in text.now }
+{
+    value_of(text, &Variables::new(alloc)).ok()
+}
+
+fn numbers_in(alloc: Global, first: &[u8], second: &[u8], third: &[u8]) -> Option<Triple>
+    ensures { result ≡ spec.numbers_in (first.now ∷ (second.now ∷ (third.now ∷ []))) }
+{
+    let first = number_in(alloc, first)?;
+    let second = number_in(alloc, second)?;
+    let third = number_in(alloc, third)?;
+    Some((first, second, third))
+}
+
+/// The plane that a `WKPLAN` names.
+fn plane_named(params: &[Text]) -> Option<Plane>
+    ensures { result ≡ spec.plane_named params.now }
+{
+    match params {
+        [only] if is_text(only, "XYPLAN") => Some(Plane::Xy),
+        [only] if is_text(only, "YZPLAN") => Some(Plane::Yz),
+        [only] if is_text(only, "ZXPLAN") => Some(Plane::Zx),
+        _ => None,
+    }
+}
+
+fn has_word(params: &[Text], word: &str) -> bool
+    ensures { result ≡ list_any (λ p. bytes_eq p word.now) params.now }
+{
+    params.iter().any(|param| is_text(param, word))
+}
+
+/// The unit of angles that a `UNITS` names.
+fn unit_named(params: &[Text]) -> Option<AngleUnit>
+    ensures { result ≡ spec.unit_named params.now }
+{
+    if has_word(params, "ANGDMS") {
+        None
+    } else if has_word(params, "ANGRAD") {
+        Some(AngleUnit::Radians)
+    } else {
+        Some(AngleUnit::Degrees)
+    }
+}
+
+/// Whether a word moves nothing, and leaves tool, unit and frame as they are.
+fn is_still(word: &[u8]) -> bool
+    ensures { result ≡ is_among word.now spec.still }
+{
+    is_among(
+        word,
+        &[
+            "MEAS", "ENDMES", "FEAT", "TOL", "SNSDEF", "FILNAM", "FEDRAT", "ACLRAT", "SNSET",
+            "FINPOS", "PRCOMP", "WKPLAN", "TEXT", "DISPLY", "OUTPUT", "ASSIGN", "DECL", "FLY",
+            "RAPID", "IF", "SELECT", "JUMPTO", "CALL",
+        ],
+    )
+}
+
+fn radians(unit: AngleUnit, angle: Number) -> Option<Number>
+    ensures { result ≡ spec.radians unit angle }
+{
+    match unit {
+        AngleUnit::Degrees => in_radians(angle).ok(),
+        AngleUnit::Radians => Some(angle),
+    }
+}
+
+fn square(component: i32) -> u64
+    requires { unsigned_abs component ≤ component_limit }
+    ensures value { result ≡ spec.square component }
+    ensures within { result ≤ component_limit * component_limit }
+{
+    let magnitude = u64::from(component.unsigned_abs());
+    magnitude * magnitude
+}
+
+/// Whether the length of a direction is within 10^-5 of 1.
+fn is_of_length_one(direction: Dir) -> bool
+    ensures { result ≡ spec.is_of_length_one direction }
+{
+    let squares = square(direction.i) + square(direction.j) + square(direction.k);
+    999_980_000_000 <= squares && squares <= 1_000_020_000_000
+}
+
+/// A coordinate after a move by a distance.
+fn moved(start: Number, distance: Number, component: Number) -> Option<Number>
+    ensures { result ≡ spec.moved start distance component }
+{
+    let way = distance.rounded_product(component).ok()?;
+    start.sum(way).ok()
+}
+
+fn moved_by(start: Triple, distance: Number, direction: Triple) -> Option<Triple>
+    ensures { result ≡ spec.moved_by start distance direction }
+{
+    let x = moved(start.0, distance, direction.0)?;
+    let y = moved(start.1, distance, direction.1)?;
+    let z = moved(start.2, distance, direction.2)?;
+    Some((x, y, z))
+}
+
+/// Appends numbers and the parameters after them, each after a comma. Whether all are read back as they are written.
+fn push_place(out: &mut Vec<u8>, numbers: &[Number], rest: &[Text]) -> Result<bool, AllocError>
+    ensures { IfOk result (λ plain. (out.new.items
+        ≡ out.old.items ++ marked 44 (map numeral numbers.now ++ rest.now))
+        × (plain ≡ list_all (is_plain false) (map numeral numbers.now ++ rest.now))) }
+{
+    let [first, others @ ..] = numbers else {
+        push_params(out, b',', rest)?;
+        return Ok(are_plain(rest));
+    };
+    let plain = push_number(out, *first)?;
+    let more = push_place(out, others, rest)?;
+    Ok(plain && more)
+}
+
+/// What follows three parameters.
+fn behind_three<'a, 'b>(params: &'a [Text<'b>]) -> &'a [Text<'b>]
+    ensures { result.now ≡ drop 3 params.now }
+{
+    match params {
+        [_, _, _, rest @ ..] => rest,
+        _ => &[],
+    }
+}
+
+/// The line of a word with a Cartesian place, if there is one, and with the parameters after it.
+fn placed_line(
+    alloc: Global,
+    word: &[u8],
+    place: Option<Triple>,
+    rest: &[Text],
+) -> Result<Option<Vec<u8>>, AllocError>
+    ensures { IfOk result (λ line. option_map (λ l. l.items) line
+        ≡ line_if word.now (spec.with_place rest.now place)) }
+{
+    let Some(place) = place else {
+        return Ok(None);
+    };
+    let mut text = Vec::from_slice(alloc, word)?;
+    text.extend_from_slice(b"/CART")?;
+    let plain = push_place(&mut text, &[place.0, place.1, place.2], rest)?;
+    Ok(Some(line_of(alloc, word, text, plain)?))
+}
+
+impl Reference {
+    /// Before any statement.
+    pub(crate) fn none() -> Reference
+        ensures { result ≡ spec.no_reference }
+    {
+        Reference {
+            plane: Some(Plane::Xy),
+            unit: Some(AngleUnit::Degrees),
+            place: None,
+        }
+    }
+
+    /// After a statement with Cartesian coordinates.
+    pub(crate) fn after(self, alloc: Global, statement: &Statement) -> Reference
+        ensures { result ≡ spec.reference_after self statement.now }
+    {
+        let mut after = self;
+        if is_text(&statement.word, "WKPLAN") {
+            after.plane = plane_named(&statement.params);
+        }
+        if is_text(&statement.word, "UNITS") {
+            after.unit = unit_named(&statement.params);
+        }
+        if is_text(&statement.word, "GOTO") {
+            after.place = match without_cart(&statement.params) {
+                [x, y, z] => numbers_in(alloc, x, y, z),
+                _ => None,
+            };
+        } else if !is_still(&statement.word) {
+            after.place = None;
+        }
+        after
+    }
+
+    /// The place of a radius, an angle and a height.
+    fn polar(self, alloc: Global, params: &[Text]) -> Option<Triple>
+        ensures { result ≡ spec.polar self params.now }
+    {
+        let [radius, angle, height, ..] = params else {
+            return None;
+        };
+        let plane = self.plane?;
+        let unit = self.unit?;
+        let written = numbers_in(alloc, radius, angle, height)?;
+        let turn = radians(unit, written.1)?;
+        let first = written.0.rounded_product(cosine(turn).ok()?).ok()?;
+        let second = written.0.rounded_product(sine(turn).ok()?).ok()?;
+        Some(match plane {
+            Plane::Xy => (first, second, written.2),
+            Plane::Yz => (written.2, first, second),
+            Plane::Zx => (second, written.2, first),
+        })
+    }
+
+    /// The place after a move by a distance in a direction.
+    fn incremental(self, alloc: Global, params: &[Text]) -> Option<Triple>
+        ensures { result ≡ spec.incremental self params.now }
+    {
+        let [distance, i, j, k] = params else {
+            return None;
+        };
+        let start = self.place?;
+        if !is_of_length_one(direction(i, j, k).ok()?) {
+            return None;
+        }
+        let distance = number_in(alloc, distance)?;
+        moved_by(start, distance, numbers_in(alloc, i, j, k)?)
+    }
+
+    /// The line of a word with Cartesian coordinates, if these parameters have others that are taken.
+    fn line_for(
+        self,
+        alloc: Global,
+        word: &[u8],
+        params: &[Text],
+    ) -> Result<Option<Vec<u8>>, AllocError>
+        ensures { IfOk result (λ line. option_map (λ l. l.items) line
+            ≡ line_if word.now (spec.cartesian_params self word.now params.now)) }
+    {
+        let [form, rest @ ..] = params else {
+            return Ok(None);
+        };
+        if is_text(form, "POL") {
+            return placed_line(alloc, word, self.polar(alloc, rest), behind_three(rest));
+        }
+        if is_text(form, "INCR") && is_text(word, "GOTO") {
+            return placed_line(alloc, word, self.incremental(alloc, rest), &[]);
+        }
+        Ok(None)
+    }
+
+    /// The line from which a statement is read with Cartesian coordinates, if it has others that are taken.
+    pub(crate) fn line(
+        self,
+        alloc: Global,
+        statement: &Statement,
+    ) -> Result<Option<Vec<u8>>, AllocError>
+        ensures { IfOk result (λ line. option_map (λ l. l.items) line
+            ≡ line_if statement.now.word (spec.made_cartesian self statement.now)) }
+    {
+        if statement.label.is_some() || !is_among(&statement.word, &["GOTO", "PTMEAS"]) {
+            return Ok(None);
+        }
+        self.line_for(alloc, &statement.word, &statement.params)
+    }
+}
