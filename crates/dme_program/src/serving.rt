@@ -10,7 +10,7 @@ use crate::files::Sources;
 use dme_hands::RealHands;
 use dme_orders::read_setup;
 use dme_words::{Run, Service, Watch};
-use named_files::{Comparison, NamedFiles};
+use effects::{Comparison, NamedFiles};
 use refusal_guide::InputFiles;
 use run_opening::Opening;
 use services::{Relay, RelaySession, Service as Values, Session};
@@ -53,7 +53,7 @@ fn setup_of(rt: HostRuntime, name: String, is_explained: bool) -> Result<Setup, 
 fn meeting(rt: HostRuntime, files: NamedFiles) -> Option<u8> {
     let mut comparison = Comparison::new(rt.alloc(), files);
     let mut hands = RealHands::new(rt);
-    let compared = named_files::run(&mut comparison, &mut hands);
+    let compared = effects::comparisons::run(&mut comparison, &mut hands);
     drop(comparison);
     drop(hands);
     compared.err()

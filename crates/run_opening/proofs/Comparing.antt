@@ -4,10 +4,10 @@ use Rattle.std.proofs.Common.{◌∷◌, ◌≤◌, ◌⊎◌, ap, inl, inr, map
 use Rattle.std.proofs.lemmas.List.{map-append}
 use Rattle.std.specs.Prelude.{option_map, string_bytes}
 use Rattle.effects.specs.Effects.{Reply}
-use Rattle.named_files.proofs.Comparing.{apart_more, or_not, same_or_less, seen_last, seen_more}
-use Rattle.named_files.specs.Comparing.{bytes_of}
-use Rattle.named_files.specs.Naming.{IsIn, IsSeen, Seen, seen_of}
-use Rattle.named_files.specs.declared.called.Called.{Called}
+use Rattle.effects.proofs.Comparing.{apart_more, or_not, same_or_less, seen_last, seen_more}
+use Rattle.effects.specs.Comparing.{bytes_of}
+use Rattle.effects.specs.Naming.{IsIn, IsSeen, Seen, seen_of}
+use Rattle.effects.specs.declared.called.Called.{Called}
 use Rattle.run_opening.specs.Naming.{AreCompared, AreNone, Covers, IsClear, written}
 use Rattle.run_opening.specs.Openings.{Answered, Core, GoesOn, Holds, IsComparing, Known, outcome, Outside, placed, State, untouched}
 use Rattle.run_opening.specs.declared.stages.Stage.{Stage}

@@ -8,6 +8,6 @@ pub use Rattle.record_laws.specs.Recordings.{Pair}
 pub use Rattle.record_text.specs.Growths.{begun}
 pub use Rattle.run_opening.specs.Asking.{IsSessionOf}
 pub use Rattle.run_opening.specs.Begun.{IsRunBegun}
-pub use Rattle.named_files.specs.Naming.{is_written}
+pub use Rattle.effects.specs.Naming.{is_written}
 pub use Rattle.run_opening.specs.Naming.{AreApart, AreNone, Covers, Disturbs, given, name_at, or_nothing, written}
 pub use Rattle.run_opening.specs.Openings.{Known, Outside, State, is_there, outcome, read, untouched}

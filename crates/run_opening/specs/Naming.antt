@@ -2,8 +2,8 @@
 use Rattle.std.specs.Prelude.{◌≡◌, ◌⊎◌, ◌≤◌, ◌<◌, ℕ, Bool, true, false, if◌then◌else◌, List, [], ◌∷◌, codes, Option, None, Some, is_some, get_or, option_map, string_bytes}
 use Rattle.std.specs.Str.{bytes_eq}
 use Rattle.dme_words.specs.declared.orders.Run.{Run}
-use Rattle.named_files.specs.Naming as naming
-use Rattle.named_files.specs.Naming.{Seen, IsIn, IsSeen}
+use Rattle.effects.specs.Naming as naming
+use Rattle.effects.specs.Naming.{Seen, IsIn, IsSeen}
 
 -- a name that is not that of standard input
 abbrev pub given : List ℕ → Option (List ℕ)

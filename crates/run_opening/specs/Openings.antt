@@ -14,8 +14,8 @@ use Rattle.record_text.specs.Growths.{begun}
 use Rattle.record_text.specs.declared.opening.Beginning.{Beginning}
 use Rattle.run_session.specs.Records.{Start}
 use Rattle.tool_rack.specs.Setups.{SetupValue, setup_of}
-use Rattle.named_files.specs.Comparing.{bytes_of}
-use Rattle.named_files.specs.Naming.{Seen}
+use Rattle.effects.specs.Comparing.{bytes_of}
+use Rattle.effects.specs.Naming.{Seen}
 use Rattle.run_opening.specs.Naming.{AreApart, AreCompared, Covers}
 use Rattle.run_opening.specs.declared.stages.Text.{Text}
 use Rattle.run_opening.specs.declared.stages.Text.TheVariants as text

@@ -1,15 +1,14 @@
 // The files that a run names: none that is written may be another, or take the place of another's next text.
 
 ghost use Rattle.std.specs.Prelude.{◌≡◌, ◌<◌, OnOk, IsNone, IfSome, option_map};
-ghost use Rattle.named_files.specs.Naming.{seen_of};
+ghost use Rattle.effects.specs.Naming.{seen_of};
 ghost use Rattle.run_opening.specs.Names.{the_reply, AreNone, name_at, given, or_nothing, written};
 ghost use Rattle.run_opening.specs.Openings as spec;
 
 use crate::openings::Opening;
 use crate::stages::Stage;
 use dme_words::Run;
-use effects::Answer;
-use named_files::{Called, bytes_of, is_beside, kept, met, refusal};
+use effects::{Answer, Called, bytes_of, is_beside, kept, met, refusal};
 use std::alloc::AllocError;
 
 /// How many files a run may name.

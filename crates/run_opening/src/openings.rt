@@ -11,8 +11,7 @@ use client_core::Client;
 use contact_ledger::FeatureLedger;
 use dme_words::Run;
 use dmis_program::Program;
-use effects::{Answer, Effect, Growth, Place, Slot};
-use named_files::Called;
+use effects::{Answer, Called, Effect, Growth, Place, Slot};
 use program_review::{OperatorText, TaskLine};
 use record_text::Beginning;
 use refusal_guide::InputFiles;
@@ -64,7 +63,7 @@ pub struct Opening {
 impl Model for Opening {
     ghost use Rattle.run_opening.specs.Openings.{State as OneState};
     ghost use Rattle.client_core.specs.Clients.{is_window};
-    ghost use Rattle.named_files.specs.Naming.{seen_of};
+    ghost use Rattle.effects.specs.Naming.{seen_of};
     ghost use Rattle.std.specs.Prelude.{◌≡◌, true, map, option_map};
 
     ghost Value = { OneState };

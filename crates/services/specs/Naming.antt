@@ -1,7 +1,7 @@
 -- The files that a service or a relay names, in the order in which they are compared (this profile).
 use Rattle.std.specs.Prelude.{ℕ, true, false, if◌then◌else◌, List, ◌++◌, codes, Option, None, Some, option_map, string_bytes}
 use Rattle.std.specs.Str.{bytes_eq}
-use Rattle.named_files.specs.Naming.{Files, no_files, with_file}
+use Rattle.effects.specs.Naming.{Files, no_files, with_file}
 use Rattle.services.specs.declared.relays.Relay.{Relay}
 use Rattle.services.specs.declared.services.Service.{Service}
 

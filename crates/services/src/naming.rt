@@ -4,7 +4,7 @@ ghost use Rattle.std.specs.Prelude.{◌≡◌, IfOk, OnOk};
 ghost use Rattle.services.specs.Naming as spec;
 
 use crate::{Relay, Service};
-use named_files::NamedFiles;
+use effects::NamedFiles;
 use std::alloc::{AllocError, Global};
 
 impl Service {

@@ -1,6 +1,6 @@
 use Rattle.run_opening.proofs.Names.{[], ◌++◌, ◌≡◌, rules, State, subst, sym}
 use Rattle.std.proofs.Common.{◌∷◌, ◌≤◌, arith, map, suc}
-use Rattle.named_files.specs.Naming.{seen_of}
+use Rattle.effects.specs.Naming.{seen_of}
 use Rattle.run_opening.specs.Naming.{IsClear}
 use Rattle.run_opening.specs.Openings.{IsComparing}
 use Rattle.run_opening.proofs.Comparing.{joined}

@@ -1,6 +1,6 @@
 use Rattle.run_opening.proofs.Names.{◌≡◌, false, is_some, IsLookedAt, Leads, None, rules, Some, State, subst}
 use Rattle.std.proofs.Common.{map, option_map}
-use Rattle.named_files.specs.Naming.{seen_of}
+use Rattle.effects.specs.Naming.{seen_of}
 use Rattle.run_opening.proofs.Beginnings.{none_leads, on_ok, some_leads}
 use Rattle.run_opening.proofs.openings.Opening.continue_record.Goals as goal
 

@@ -1,6 +1,6 @@
 use Rattle.run_opening.proofs.Names.{◌≡◌, ap, rules, Some, State}
 use Rattle.std.proofs.Common.{map, option_map}
-use Rattle.named_files.specs.Naming.{seen_of}
+use Rattle.effects.specs.Naming.{seen_of}
 use Rattle.run_opening.proofs.Beginnings.{filled_leads, on_ok}
 use Rattle.run_opening.proofs.openings.Opening.take_beginning.Goals as goal
 

@@ -1,9 +1,9 @@
 use Rattle.std.proofs.Common.{◌≤◌, ◌∙◌, ap, arith, map, subst, suc, sym, ℕ}
 use Rattle.effects.specs.Effects.{the_reply}
-use Rattle.named_files.specs.Naming.{seen_of}
-use Rattle.named_files.specs.Comparing.{State}
-use Rattle.named_files.proofs.Comparing.{unplaced}
-use Rattle.named_files.proofs.comparisons.Comparison.placed.Goals as goal
+use Rattle.effects.specs.Naming.{seen_of}
+use Rattle.effects.specs.Comparing.{State}
+use Rattle.effects.proofs.Comparing.{unplaced}
+use Rattle.effects.proofs.comparisons.Comparison.placed.Goals as goal
 
 pub returns-in-None : goal.returns-in-None
 returns-in-None c =

@@ -1,9 +1,9 @@
 use Rattle.std.proofs.Common.{◌≤◌, ap, length, map, subst, ℕ}
-use Rattle.named_files.specs.Naming.{seen_of}
-use Rattle.named_files.specs.Comparing.{State}
-use Rattle.named_files.specs.declared.comparisons.Stage.TheVariants as stage
-use Rattle.named_files.proofs.Comparing.{all_compared}
-use Rattle.named_files.proofs.comparisons.Comparison.compare_next.Goals as goal
+use Rattle.effects.specs.Naming.{seen_of}
+use Rattle.effects.specs.Comparing.{State}
+use Rattle.effects.specs.declared.comparisons.Stage.TheVariants as stage
+use Rattle.effects.proofs.Comparing.{all_compared}
+use Rattle.effects.proofs.comparisons.Comparison.compare_next.Goals as goal
 
 pub returns-clause-goes : goal.returns-clause-goes
 returns-clause-goes c =

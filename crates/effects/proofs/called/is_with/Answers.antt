@@ -2,7 +2,7 @@ use Rattle.std.proofs.Common.{◌++◌, ◌-◌, ◌∙◌, ◌≡◌, ap, arith
 use Rattle.std.proofs.lemmas.List.{append_cancel_right}
 use Rattle.std.proofs.lemmas.Slice.Eq.{bytes_eq-Decides}
 use Rattle.std.proofs.Math.Seq.{drop-append_seam}
-use Rattle.named_files.proofs.called.is_with.Goals as goal
+use Rattle.effects.proofs.called.is_with.Goals as goal
 
 -- what is left of a text with this ending is the ending
 drop_name : (name ending : List ℕ) → drop (length (name ++ ending) - length ending) (name ++ ending) ≡ ending

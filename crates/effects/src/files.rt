@@ -1,7 +1,7 @@
 // The names of the files of a call.
 
 ghost use Rattle.std.specs.Prelude.{◌≡◌, [], Some, OnOk, option_map, get_or, length};
-ghost use Rattle.named_files.specs.Naming as spec;
+ghost use Rattle.effects.specs.Naming as spec;
 
 use std::alloc::{AllocError, Global};
 use std::marker::Model;
@@ -23,7 +23,7 @@ pub struct NamedFiles {
 
 impl Model for NamedFiles {
     ghost use Rattle.std.specs.Prelude.{map, string_bytes};
-    ghost use Rattle.named_files.specs.Naming.{Files};
+    ghost use Rattle.effects.specs.Naming.{Files};
 
     ghost Value = { Files };
 

@@ -1,7 +1,7 @@
 -- The files that one call names, and when two of them meet (this profile).
 use Rattle.std.specs.Prelude.{◌≡◌, ◌⊎◌, ◌++◌, ◌<◌, ◌||◌, ⊤, ℕ, zero, suc, Bool, true, false, get_or, List, [], ◌∷◌, codes, Option, None, Some, option_map}
 use Rattle.std.specs.List.{AllByRecursion}
-use Rattle.named_files.specs.declared.called.Called.{Called}
+use Rattle.effects.specs.declared.called.Called.{Called}
 
 -- the names of the files of a call, and whether each is written
 pub record Files : Type 0 where

@@ -1,7 +1,7 @@
 use Rattle.std.proofs.Common.{◌≡◌, ◌∙◌, sym, true≢false}
-use Rattle.named_files.specs.Naming.{Disturbs, seen_of}
-use Rattle.named_files.proofs.Comparing.{clear_later, met_here, met_later}
-use Rattle.named_files.proofs.called.met.Goals as goal
+use Rattle.effects.specs.Naming.{Disturbs, seen_of}
+use Rattle.effects.proofs.Comparing.{clear_later, met_here, met_later}
+use Rattle.effects.proofs.called.met.Goals as goal
 
 pub returns-then-disturbs-clause-some : goal.returns-then-disturbs-clause-some
 returns-then-disturbs-clause-some c = met_here c.args.is_kept c.args.written.now c.args.called.now c.loop-at.at c.index-called-at.result

@@ -1,7 +1,7 @@
 // Files that a call names, and whether two of them meet.
 
 ghost use Rattle.std.specs.Prelude.{◌≡◌, ◌↔◌, ◌++◌, ◌<◌, true, map, length, IfOk, IsNone, IfSome, option_map};
-ghost use Rattle.named_files.specs.Naming as spec;
+ghost use Rattle.effects.specs.Naming as spec;
 
 use std::alloc::{AllocError, Global};
 

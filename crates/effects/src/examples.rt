@@ -1,9 +1,9 @@
 // Examples. Each function has laws for its contract and does nothing.
 
 ghost use Rattle.std.specs.Prelude.{◌≡◌, ℕ, [], ◌∷◌, true, false, Some, None, codes};
-ghost use Rattle.named_files.specs.Naming.{Disturbs, IsFirstMet, AreApart};
-ghost use Rattle.named_files.specs.Comparing.{Answered, Covers, KnownAt, State, numbered, placed};
-ghost use Rattle.named_files.specs.declared.comparisons.Stage.TheVariants as stage;
+ghost use Rattle.effects.specs.Naming.{Disturbs, IsFirstMet, AreApart};
+ghost use Rattle.effects.specs.Comparing.{Answered, Covers, KnownAt, State, numbered, placed};
+ghost use Rattle.effects.specs.declared.comparisons.Stage.TheVariants as stage;
 
 /// Two files disturb one another, if either is written, that have one place or one number on their device, or of which one is the other's next
 /// text or, where that is kept, what was in it before.

@@ -1,9 +1,9 @@
 -- What is asked of the files that a call names, and what is known of them by what was answered (this profile).
 use Rattle.std.specs.Prelude.{◌≡◌, ◌⊎◌, ◌<◌, ◌++◌, ◌∷◌, [], ⊤, ℕ, true, List, length, get_or, Option, None, Some}
 use Rattle.effects.specs.Effects.{Ask, Place, Node, Say, Exit, Reply, Bytes}
-use Rattle.named_files.specs.declared.comparisons.Stage.{Stage}
-use Rattle.named_files.specs.declared.comparisons.Stage.TheVariants as stage
-use Rattle.named_files.specs.Naming.{Files, Seen, AreApart, IsIn, IsSeen}
+use Rattle.effects.specs.declared.comparisons.Stage.{Stage}
+use Rattle.effects.specs.declared.comparisons.Stage.TheVariants as stage
+use Rattle.effects.specs.Naming.{Files, Seen, AreApart, IsIn, IsSeen}
 
 pub record State : Type 0 where
   pub stage : Stage

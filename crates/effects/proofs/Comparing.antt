@@ -5,12 +5,12 @@ use Rattle.std.proofs.lemmas.Bool.{ltb-true, ltb-false}
 use Rattle.std.proofs.lemmas.List.{drop_more, map-append}
 use Rattle.std.specs.Prelude.{nat_lt}
 use Rattle.std.specs.List.{AllByRecursion}
-use Rattle.named_files.specs.Naming.{AreApart, Disturbs, Files, IsClear, IsFirstMet, IsIn, IsSeen, Seen, seen_of}
-use Rattle.named_files.specs.Comparing.{Answered, AreCompared, bytes_of, Compares, Covers, Ends, GoesOn, Joins, IsComparing, Known, KnownAt, outcome, placed, State}
-use Rattle.named_files.specs.declared.comparisons.Stage.{Stage}
-use Rattle.named_files.specs.declared.comparisons.Stage.TheVariants as stage
+use Rattle.effects.specs.Naming.{AreApart, Disturbs, Files, IsClear, IsFirstMet, IsIn, IsSeen, Seen, seen_of}
+use Rattle.effects.specs.Comparing.{Answered, AreCompared, bytes_of, Compares, Covers, Ends, GoesOn, Joins, IsComparing, Known, KnownAt, outcome, placed, State}
+use Rattle.effects.specs.declared.comparisons.Stage.{Stage}
+use Rattle.effects.specs.declared.comparisons.Stage.TheVariants as stage
 use Rattle.effects.specs.Effects.{Reply}
-use Rattle.named_files.specs.declared.called.Called.{Called}
+use Rattle.effects.specs.declared.called.Called.{Called}
 
 pub or_not : (A : Type 0) (n m : ℕ) → (n < m → A) → (m ≤ n → A) → A
 or_not A n m below above = cases (nat_lt n m) refl

@@ -1,6 +1,6 @@
 use Rattle.std.proofs.Common.{◌≡◌, ◌+◌, drop, map, ℕ}
-use Rattle.named_files.specs.Naming.{IsClear, IsFirstMet, seen_of}
-use Rattle.named_files.proofs.called.met.Given as goal
+use Rattle.effects.specs.Naming.{IsClear, IsFirstMet, seen_of}
+use Rattle.effects.proofs.called.met.Given as goal
 
 -- the files that are left decide
 abbrev pub invariant-loop-at : goal.invariant-loop-at

@@ -2,12 +2,13 @@
 
 ghost use Rattle.std.specs.Prelude.{◌≡◌, ◌↔◌, true, get_or, [], OnOk, IfOk, option_map, IsOk};
 ghost use Rattle.effects.specs.Effects.{the_ask, the_reply};
-ghost use Rattle.named_files.specs.Naming.{seen_of};
-ghost use Rattle.named_files.specs.Comparing as spec;
+ghost use Rattle.effects.specs.Naming.{seen_of};
+ghost use Rattle.effects.specs.Comparing as spec;
 
 use crate::called::{Called, is_beside, met, refusal};
 use crate::files::NamedFiles;
-use effects::{Answer, Effect, Hands};
+use crate::hands::Hands;
+use crate::vocabulary::{Answer, Effect};
 use std::alloc::{AllocError, Global};
 use std::marker::Model;
 
@@ -46,8 +47,8 @@ pub struct Comparison {
 
 impl Model for Comparison {
     ghost use Rattle.std.specs.Prelude.{map};
-    ghost use Rattle.named_files.specs.Naming.{seen_of};
-    ghost use Rattle.named_files.specs.Comparing.{State};
+    ghost use Rattle.effects.specs.Naming.{seen_of};
+    ghost use Rattle.effects.specs.Comparing.{State};
 
     ghost Value = { State };
 

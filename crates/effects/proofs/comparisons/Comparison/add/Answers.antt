@@ -1,8 +1,8 @@
 use Rattle.std.proofs.Common.{◌∷◌, [], ◌++◌, ◌≡◌, ◌≤◌, ap, arith, map, refl, rules, subst, suc, sym, true, ℕ}
-use Rattle.named_files.specs.Naming.{IsClear, IsFirstMet, seen_of}
-use Rattle.named_files.specs.Comparing.{State}
-use Rattle.named_files.proofs.Comparing.{joined, refused, then_ok}
-use Rattle.named_files.proofs.comparisons.Comparison.add.Goals as goal
+use Rattle.effects.specs.Naming.{IsClear, IsFirstMet, seen_of}
+use Rattle.effects.specs.Comparing.{State}
+use Rattle.effects.proofs.Comparing.{joined, refused, then_ok}
+use Rattle.effects.proofs.comparisons.Comparison.add.Goals as goal
 
 pub returns-clause-goes : goal.returns-clause-goes
 returns-clause-goes c =
