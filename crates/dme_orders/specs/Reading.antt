@@ -7,9 +7,9 @@ use Rattle.contact_ledger.specs.declared.features.Feature.{Feature}
 use Rattle.contact_ledger.specs.declared.faults.TextFault.TheVariants as ledger
 use Rattle.tool_rack.specs.Setups.{SetupValue, setup_of}
 use Rattle.tool_rack.specs.declared.faults.SetupFault.TheVariants as setup
-use Rattle.machine_file.specs.Entries.{Given}
-use Rattle.machine_file.specs.Machines.{machine_of}
-use Rattle.machine_file.specs.declared.faults.MachineFault.TheVariants as machine
+use Rattle.tool_rack.specs.MachineEntries.{Given}
+use Rattle.tool_rack.specs.Machines.{machine_of}
+use Rattle.tool_rack.specs.declared.machine_faults.MachineFault.TheVariants as machine
 use Rattle.deviations.specs.Limits.{limits_of}
 use Rattle.deviations.specs.declared.entries.Limit.{Limit}
 use Rattle.deviations.specs.declared.limit_faults.LimitsFault.TheVariants as limits

@@ -14,12 +14,11 @@ use contact_ledger::{FeatureLedger, ServerLedger, TextFault, read_features};
 use deviations::{Limits, LimitsFault};
 use dmis_program::{Frames, Program, ProgramFault};
 use link_world::{Schedule, ScheduleFault};
-use machine_file::{Machine, MachineFault};
 use order_parts::{FilesFault, Role};
 use record_seal::{SealVerdict, digest_of, open_line, seal_verdict};
 use record_text::{Record, RecordFault, read_record};
 use std::alloc::Global;
-use tool_rack::{Setup, SetupFault};
+use tool_rack::{Machine, MachineFault, Setup, SetupFault};
 use witness::read_audited;
 
 pub(crate) fn read_text<S: Source>(

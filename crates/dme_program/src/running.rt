@@ -20,7 +20,6 @@ use dme_orders::{
     check_under_setup, read_machine, review_program, simulate,
 };
 use dme_words::{Audit, Check, Lower, Order, RecordAudit, Review, Simulation, read_words};
-use machine_file::{Machine, named_machine, names_option, with_machine};
 use order_parts::{FilesFault, status};
 use program_lowering::{Choices, SourceNames, lower_program};
 use program_review::{FindingForm, FindingStyle};
@@ -28,6 +27,7 @@ use refusal_guide::{InputFile, InputFiles};
 use std::alloc::{AllocError, Global};
 use std::env;
 use std::io::{self, Write};
+use tool_rack::{Machine, named_machine, names_option, with_machine};
 use watched_ends::Job;
 
 /// The command line as it was given.

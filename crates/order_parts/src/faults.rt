@@ -8,11 +8,10 @@ use deviations::{LimitsFault, RowsFault};
 use dmis_program::ProgramFault;
 use fixed_um::Name;
 use link_world::ScheduleFault;
-use machine_file::MachineFault;
 use record_text::RecordFault;
 use std::alloc::{AllocError, AllocFailed};
 use thiserror::Error;
-use tool_rack::SetupFault;
+use tool_rack::{MachineFault, SetupFault};
 
 /// What a file is to an order.
 #[derive(Clone, Copy, Debug, PartialEq, Eq)]

@@ -4,7 +4,7 @@ use Rattle.tool_rack.specs.declared.faults.SetupFault.TheVariants as setup
 use Rattle.dmis_program.specs.declared.faults.ProgramFault.TheVariants as program
 use Rattle.link_world.specs.declared.texts.schedule_faults.ScheduleFault.TheVariants as schedule
 use Rattle.deviations.specs.declared.limit_faults.LimitsFault.TheVariants as limits
-use Rattle.machine_file.specs.declared.faults.MachineFault.TheVariants as machine
+use Rattle.tool_rack.specs.declared.machine_faults.MachineFault.TheVariants as machine
 use Rattle.record_text.specs.declared.faults.RecordFault.TheVariants as recorded
 use Rattle.order_parts.specs.declared.faults.FilesFault.{FilesFault}
 use Rattle.order_parts.specs.declared.faults.FilesFault.TheVariants as files

@@ -6,7 +6,7 @@ use Rattle.link_world.specs.declared.texts.schedule_faults.ScheduleFault.TheVari
 use Rattle.contact_ledger.specs.declared.faults.TextFault.TheVariants as text
 use Rattle.record_text.specs.declared.faults.RecordFault.TheVariants as recorded
 use Rattle.deviations.specs.declared.limit_faults.LimitsFault.TheVariants as limits
-use Rattle.machine_file.specs.declared.faults.MachineFault.TheVariants as machine
+use Rattle.tool_rack.specs.declared.machine_faults.MachineFault.TheVariants as machine
 use Rattle.refusal_guide.specs.Lines.{line_of, shown_from}
 use Rattle.refusal_guide.specs.Windows.{shown_start}
 use Rattle.refusal_guide.specs.Words.{Caused}

@@ -8,11 +8,10 @@ use contact_ledger::TextFault;
 use deviations::LimitsFault;
 use dmis_program::ProgramFault;
 use link_world::ScheduleFault;
-use machine_file::MachineFault;
 use order_parts::{FilesFault, OrderFault, Role};
 use record_text::RecordFault;
 use std::alloc::{AllocError, Global};
-use tool_rack::SetupFault;
+use tool_rack::{MachineFault, SetupFault};
 
 /// A file that an order reads: its name, and what was read of it, as far as it was kept.
 #[derive(Debug, Drop)]

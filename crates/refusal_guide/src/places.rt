@@ -14,11 +14,10 @@ use contact_ledger::TextFault;
 use deviations::LimitsFault;
 use dmis_program::{ProgramFault, Refusal};
 use link_world::ScheduleFault;
-use machine_file::MachineFault;
 use order_parts::FilesFault;
 use record_text::RecordFault;
 use std::alloc::{AllocError, Global};
-use tool_rack::SetupFault;
+use tool_rack::{MachineFault, SetupFault};
 
 fn line_number(fault: &FilesFault) -> Option<u64>
     ensures { result ≡ number_of fault.now }

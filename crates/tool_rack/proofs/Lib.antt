@@ -4,3 +4,4 @@ pub mod Lengths
 pub mod LineLaws
 pub mod SetupRuns
 pub mod SpacingLaws
+pub mod MachineTexts

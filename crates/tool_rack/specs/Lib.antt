@@ -5,3 +5,7 @@ pub mod Carrying
 pub mod Spacing
 pub mod Messages
 pub mod Names
+pub mod MachineEntries
+pub mod Machines
+pub mod Words
+pub mod MachineMessages

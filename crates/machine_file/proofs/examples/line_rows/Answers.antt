@@ -1,9 +1,0 @@
-use Rattle.std.proofs.Common.{refl}
-use lib.Utf8.{encode}
-use Rattle.std.specs.Str.{is_utf8, chars}
-use Rattle.machine_file.specs.Entries.{given_on}
-use Rattle.machine_file.proofs.examples.line_rows.Goals as goal
-
-pub returns-clause-text : goal.returns-clause-text
-unfolding given_on is_utf8 chars encode
-returns-clause-text c = refl

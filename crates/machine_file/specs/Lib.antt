@@ -1,4 +1,0 @@
-pub mod Entries
-pub mod Machines
-pub mod Words
-pub mod Messages
