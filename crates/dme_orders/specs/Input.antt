@@ -5,8 +5,8 @@ use Rattle.contact_ledger.specs.declared.features.Feature.{Feature}
 use Rattle.dmis_program.specs.Meaning.{Meaning}
 use Rattle.link_world.specs.declared.texts.schedules.Instruction.{Instruction}
 use Rattle.deviations.specs.declared.entries.Limit.{Limit}
-use Rattle.record_seal.specs.Seals.{digest_of, seal_verdict}
-use Rattle.record_seal.specs.declared.seals.SealVerdict.{SealVerdict}
+use Rattle.record_text.specs.Seals.{digest_of, seal_verdict}
+use Rattle.record_text.specs.declared.seals.SealVerdict.{SealVerdict}
 use Rattle.record_text.specs.Records.{Recorded}
 use Rattle.tool_rack.specs.Setups.{SetupValue}
 use Rattle.program_review.specs.Reviews.{frames_under}

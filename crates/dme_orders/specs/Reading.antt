@@ -13,7 +13,7 @@ use Rattle.tool_rack.specs.declared.machine_faults.MachineFault.TheVariants as m
 use Rattle.deviations.specs.Limits.{limits_of}
 use Rattle.deviations.specs.declared.entries.Limit.{Limit}
 use Rattle.deviations.specs.declared.limit_faults.LimitsFault.TheVariants as limits
-use Rattle.record_seal.specs.Seals.{open_line}
+use Rattle.record_text.specs.Seals.{open_line}
 use Rattle.record_text.specs.Reading.{IsDamagedRecord}
 use Rattle.record_text.specs.Reading as texts
 use Rattle.record_text.specs.Records.{Recorded}

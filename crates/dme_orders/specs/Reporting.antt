@@ -8,7 +8,7 @@ use Rattle.deviations.specs.Rows.{Row, IsRow, places_of}
 use Rattle.dmis_program.specs.Meaning.{Meaning}
 use Rattle.deviations.specs.declared.entries.Limit.{Limit}
 use Rattle.drawings.specs.Pages.{PageFacts, IsPage}
-use Rattle.record_seal.specs.declared.seals.SealVerdict.{SealVerdict}
+use Rattle.record_text.specs.declared.seals.SealVerdict.{SealVerdict}
 use Rattle.record_text.specs.Records.{Recorded}
 use Rattle.dme_orders.specs.Attempts.{attempt_lines}
 use Rattle.dme_orders.specs.Auditing.{IsVerdict}

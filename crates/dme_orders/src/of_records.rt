@@ -33,8 +33,7 @@ use deviations::{Form, Limits, RowsOf, TableOptions, TableStyle, rows_of, style_
 use dmis_program::Program;
 use drawings::Title;
 use order_parts::FilesFault;
-use record_seal::SealVerdict;
-use record_text::{Note, Record, Remark, other_feature};
+use record_text::{Note, Record, Remark, SealVerdict, other_feature};
 use session_telling::visible;
 use std::alloc::{AllocError, Global};
 

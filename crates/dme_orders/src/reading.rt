@@ -6,7 +6,7 @@ ghost use Rattle.dme_orders.specs.Reading.{ReadsFeatures, WhyNoFeatures, ReadsCo
 ghost use Rattle.dme_orders.specs.Reading.{ReadsLimits, WhyNoLimits, ReadsMachine, WhyNoMachine};
 ghost use Rattle.dme_orders.specs.Reading.{IsSealed, IsUnsealed, ReadsKey, WhyNoKey, WhyNoSealed};
 ghost use Rattle.program_review.specs.Reviews.{frames_under};
-ghost use Rattle.record_seal.specs.Seals.{digest_of, seal_verdict};
+ghost use Rattle.record_text.specs.Seals.{digest_of, seal_verdict};
 ghost use Rattle.dme_orders.specs.Input.{named, ReadsNamed, WhyNoNamed, ReadsNamedLimits, WhyNoNamedLimits};
 
 use byte_ports::{PullFault, Source, pull_all};
@@ -15,8 +15,9 @@ use deviations::{Limits, LimitsFault};
 use dmis_program::{Frames, Program, ProgramFault};
 use link_world::{Schedule, ScheduleFault};
 use order_parts::{FilesFault, Role};
-use record_seal::{SealVerdict, digest_of, open_line, seal_verdict};
-use record_text::{Record, RecordFault, read_record};
+use record_text::{
+    Record, RecordFault, SealVerdict, digest_of, open_line, read_record, seal_verdict,
+};
 use std::alloc::Global;
 use tool_rack::{Machine, MachineFault, Setup, SetupFault};
 use witness::read_audited;

@@ -27,8 +27,7 @@ use dmis_program::Program;
 use drawings::{Facts, report_text};
 use ledger_audit::audit;
 use order_parts::FilesFault;
-use record_seal::SealVerdict;
-use record_text::Record;
+use record_text::{Record, SealVerdict};
 use std::alloc::{AllocError, Global};
 
 const NOT_NAMED: &[u8] = b"(not named)";

@@ -8,8 +8,8 @@ use Rattle.deviations.specs.Rows.{Row}
 use Rattle.dmis_program.specs.Meaning.{Meaning}
 use Rattle.dmis_program.specs.declared.features.Wanted.{Wanted}
 use Rattle.drawings.specs.Drawing.{IsDrawing}
-use Rattle.record_seal.specs.declared.seals.SealVerdict.{SealVerdict}
-use Rattle.record_seal.specs.declared.seals.SealVerdict.TheVariants as seal
+use Rattle.record_text.specs.declared.seals.SealVerdict.{SealVerdict}
+use Rattle.record_text.specs.declared.seals.SealVerdict.TheVariants as seal
 use Rattle.deviations.specs.declared.entries.Limit.{Limit}
 use Rattle.drawings.specs.BarCells.{greatest}
 use Rattle.drawings.specs.Markup.{between}

@@ -12,7 +12,7 @@ use crate::title::Title;
 use contact_ledger::Feature;
 use deviations::{Limits, Row, compared_count, out_count};
 use dmis_program::{Program, Wanted};
-use record_seal::SealVerdict;
+use record_text::SealVerdict;
 use std::alloc::{AllocError, Global};
 use std::marker::Model;
 

@@ -1,7 +1,7 @@
 -- The comments before a flat program: what it was written of, and how (this profile).
 use Rattle.std.specs.Prelude.{◌≡◌, ℕ, ◌≤◌, true, List, [], ◌∷◌, ◌++◌, length, map, take, codes, Bool, if◌then◌else◌}
 use Rattle.std.specs.List.{list_all}
-use Rattle.record_seal.specs.Seals.{digest_of}
+use Rattle.record_text.specs.Seals.{digest_of}
 use Rattle.dmis_text.specs.Texts.{may_stand}
 use Rattle.program_lowering.specs.Lowering.{ended_lines, flat_program}
 use Rattle.program_lowering.specs.declared.words.Choices.{Choices}

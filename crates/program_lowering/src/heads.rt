@@ -6,7 +6,7 @@ ghost use Rattle.program_lowering.specs.Lowering.{ended_lines};
 
 use crate::flats::{front, push_named};
 use crate::words::Choices;
-use record_seal::digest_of;
+use record_text::digest_of;
 use std::alloc::{AllocError, Global};
 
 /// The names of the files that a flat program is written of, as its head names them.

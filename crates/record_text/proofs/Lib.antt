@@ -19,3 +19,4 @@ pub mod KeptErrors
 pub mod GrowthLemmas
 pub mod Sounds
 pub mod WholeTexts
+pub mod Pads

@@ -13,3 +13,5 @@ pub mod Strangers
 pub mod Beginnings
 pub mod Growths
 pub mod Names
+pub mod Macs
+pub mod Seals

@@ -1,6 +1,8 @@
 //! The record of a run: what was asked, what the server reported, and which features were completed, as one text that only grows. It is
 //! written line by line during a run, as the client counts, and read back before the next run, which trusts nothing in it.
 //!
+//! Its seals: each stands for all lines above it, and only who has the key can make it.
+//!
 //! - `entries`: `Entry`, what a line after the head says, and `Printed`, what a note says
 //! - `notes`: what notes are about, and what they can say
 //! - `parts`, `asked`: the part and the wanted features of a head
@@ -15,6 +17,8 @@
 //! - `growth`: the text of a record that grows during a run
 //! - `faults`: why a record is refused
 //! - `laws`: what follows from the definitions
+//! - `seals`: the seal of a text, which lines of a record seals stand for, and the verdict on them; `macs`: HMAC over SHA-256
+//! - `seal_examples`: lines and texts with and without seals
 #![tactic(auto)]
 
 pub mod asked;
@@ -28,6 +32,7 @@ mod head_reading;
 mod head_writing;
 mod heads;
 pub mod laws;
+mod macs;
 mod note_writing;
 pub mod notes;
 mod opening;
@@ -36,6 +41,8 @@ mod record_reading;
 mod records;
 pub mod run_errors;
 mod runs;
+pub mod seal_examples;
+pub mod seals;
 mod strangers;
 pub mod telling;
 mod touch_reading;
@@ -53,6 +60,7 @@ pub use parts::is_part;
 pub use record_reading::read_record;
 pub use records::Record;
 pub use run_errors::{Remark, RunError};
+pub use seals::{SealVerdict, digest_of, false_seal, open_line, seal_of, seal_verdict};
 pub use strangers::{is_of_part, other_feature};
 pub use telling::Telling;
 pub use versions::Version;

@@ -2,7 +2,7 @@
 use Rattle.std.specs.Prelude.{ℕ, List, ◌++◌, codes}
 use Rattle.std.specs.List.{flat_map}
 use Rattle.session_telling.specs.Visible.{visible}
-use Rattle.record_seal.specs.Seals.{digest_of}
+use Rattle.record_text.specs.Seals.{digest_of}
 
 -- its name, as people read it, and the SHA-256 of its text (FIPS 180-4)
 abbrev pub identified : List ℕ → List ℕ → List ℕ

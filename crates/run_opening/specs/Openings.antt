@@ -9,7 +9,7 @@ use Rattle.effects.specs.declared.vocabulary.Cause.TheVariants as cause
 use Rattle.effects.specs.Effects.{Reply, Done, Bytes, End, Missing, Found as IsThere, Failed}
 use Rattle.protocol_model.specs.Ends.{ClientEnd, new_client_end, end_connected}
 use Rattle.record_text.specs.Beginnings.{BeginsWith}
-use Rattle.record_seal.specs.Seals.{false_seal}
+use Rattle.record_text.specs.Seals.{false_seal}
 use Rattle.record_text.specs.Growths.{begun}
 use Rattle.record_text.specs.declared.opening.Beginning.{Beginning}
 use Rattle.run_session.specs.Records.{Start}

@@ -6,8 +6,7 @@ ghost use Rattle.run_opening.specs.Noting.{identified};
 
 use crate::openings::Opening;
 use dme_words::{COMMIT, VERSION};
-use record_seal::digest_of;
-use record_text::Note;
+use record_text::{Note, digest_of};
 use refusal_guide::InputFile;
 use run_session::Noted;
 use session_telling::visible;

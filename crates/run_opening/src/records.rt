@@ -10,8 +10,7 @@ use contact_ledger::Feature;
 use dmis_program::Program;
 use effects::Answer;
 use order_parts::{FilesFault, OrderFault};
-use record_seal::false_seal;
-use record_text::{Beginning, RecordFault, RecordRefusal, begin_record, read_record};
+use record_text::{Beginning, RecordFault, RecordRefusal, begin_record, false_seal, read_record};
 use refusal_guide::{write_other_part, write_other_program, write_place};
 use std::alloc::{AllocError, Global};
 

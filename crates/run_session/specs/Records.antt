@@ -11,7 +11,7 @@ use Rattle.protocol_model.specs.Ends.{ClientEnd}
 use Rattle.protocol_model.specs.declared.states.State.TheVariants as state
 use Rattle.record_text.specs.Entries.{error_note}
 use Rattle.record_text.specs.Notes.{AreSaid, IsNoteText, Says, is_error}
-use Rattle.record_seal.specs.Seals.{seal_of}
+use Rattle.record_text.specs.Seals.{seal_of}
 use Rattle.record_text.specs.Growths.{Growth, with_notes}
 use Rattle.record_text.specs.declared.notes.Note.TheVariants.{Sealed}
 use Rattle.record_laws.specs.Recordings.{Pair, told_unless}

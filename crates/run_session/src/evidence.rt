@@ -10,8 +10,7 @@ use crate::Session;
 use client_core::State;
 use effects::Answer;
 use link_world::PumpFault;
-use record_seal::seal_of;
-use record_text::{Note, can_say};
+use record_text::{Note, can_say, seal_of};
 use std::alloc::{AllocError, Global};
 use std::marker::Model;
 

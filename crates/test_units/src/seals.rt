@@ -1,6 +1,6 @@
 // Seals by the vectors of RFC 4231 for HMAC-SHA-256 (the fifth is of a truncated one, which is no seal).
 
-use record_seal::seal_of;
+use record_text::seal_of;
 use std::alloc::{AllocError, Global};
 use std::test::Fail;
 

@@ -1,7 +1,7 @@
 use Rattle.std.specs.Prelude.{◌+◌, ◌≡◌, ◌≤◌, length}
 use Rattle.contact_ledger.specs.Lines.{whole_lines}
-use Rattle.record_seal.specs.Seals.{below_seal}
-use Rattle.record_seal.proofs.seals.below_seal.Given as goal
+use Rattle.record_text.specs.Seals.{below_seal}
+use Rattle.record_text.proofs.seals.below_seal.Given as goal
 
 -- the lines that are left have the last seals of the whole text
 abbrev pub invariant-loop-line : goal.invariant-loop-line

@@ -1,7 +1,7 @@
 use Rattle.std.specs.Prelude.{◌+◌, ◌≡◌, ◌≤◌, length}
 use Rattle.contact_ledger.specs.Lines.{whole_lines}
-use Rattle.record_seal.specs.Seals.{false_from, false_seal}
-use Rattle.record_seal.proofs.seals.false_seal.Given as goal
+use Rattle.record_text.specs.Seals.{false_from, false_seal}
+use Rattle.record_text.proofs.seals.false_seal.Given as goal
 
 -- the lines that are left, below those that were read, have the first such line of the whole text
 abbrev pub invariant-loop-line : goal.invariant-loop-line

@@ -7,9 +7,9 @@ use Rattle.std.specs.Str.{bytes_eq}
 use Rattle.hex.specs.Hex.{encode_lower}
 use Rattle.sha2.specs.Sha256.{sha256}
 use Rattle.contact_ledger.specs.Lines.{whole_lines}
-use Rattle.record_seal.specs.Macs.{hmac}
-use Rattle.record_seal.specs.declared.seals.SealVerdict.{SealVerdict}
-use Rattle.record_seal.specs.declared.seals.SealVerdict.TheVariants as verdict
+use Rattle.record_text.specs.Macs.{hmac}
+use Rattle.record_text.specs.declared.seals.SealVerdict.{SealVerdict}
+use Rattle.record_text.specs.declared.seals.SealVerdict.TheVariants as verdict
 
 -- the SHA-256 of a text (FIPS 180-4), as 64 digits
 abbrev pub digest_of : List ℕ → List ℕ

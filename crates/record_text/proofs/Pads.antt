@@ -1,6 +1,6 @@
 -- A key that is padded.
 use Rattle.std.proofs.Common.{◌∙◌, sym, ap, refl, ◌≡◌, ℕ, List, [], ◌∷◌, ◌++◌, append-nil, length, map, drop, replicate, bit_xor}
-use Rattle.record_seal.specs.Macs.{padded}
+use Rattle.record_text.specs.Macs.{padded}
 
 drop_own : (key : List ℕ) → drop (length key) key ≡ []
 drop_own [] = refl

@@ -1,6 +1,6 @@
 use Rattle.std.proofs.Common.{refl}
 use Rattle.contact_ledger.specs.Lines as text
-use Rattle.record_seal.proofs.examples.verdict_rows.Goals as goal
+use Rattle.record_text.proofs.seal_examples.verdict_rows.Goals as goal
 
 pub returns-clause-never : goal.returns-clause-never
 unfolding text.whole_lines

@@ -1,5 +1,5 @@
 use Rattle.std.specs.Prelude.{◌≡◌, ◌++◌, drop, map, bit_xor}
-use Rattle.record_seal.proofs.macs.padded.Given as goal
+use Rattle.record_text.proofs.macs.padded.Given as goal
 
 -- what is there and what is left make the key with the byte
 abbrev pub invariant-loop-of_key : goal.invariant-loop-of_key

@@ -1,7 +1,7 @@
 // HMAC (RFC 2104) over SHA-256 (FIPS 180-4).
 
 ghost use Rattle.std.specs.Prelude.{◌≡◌, ◌≤◌, length, IfOk};
-ghost use Rattle.record_seal.specs.Macs as spec;
+ghost use Rattle.record_text.specs.Macs as spec;
 
 use sha2::{Digest, Sha256};
 use std::alloc::{AllocError, Global};

@@ -1,7 +1,7 @@
 use Rattle.std.proofs.Common.{refl}
 use Rattle.contact_ledger.specs.Lines as text
-use Rattle.record_seal.specs.Seals.{unsealed}
-use Rattle.record_seal.proofs.examples.unsealed_rows.Goals as goal
+use Rattle.record_text.specs.Seals.{unsealed}
+use Rattle.record_text.proofs.seal_examples.unsealed_rows.Goals as goal
 
 pub returns-clause-below : goal.returns-clause-below
 unfolding unsealed text.whole_lines

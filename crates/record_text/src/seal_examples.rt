@@ -1,7 +1,7 @@
 //! Literal rows: which lines say a seal. Each function has rows for its contract and does nothing.
 ghost use Rattle.std.specs.Prelude.{◌≡◌, [], codes, Some, None};
-ghost use Rattle.record_seal.specs.Seals.{seal_in, seal_verdict, unsealed, verdict_at};
-ghost use Rattle.record_seal.specs.declared.seals.SealVerdict.TheVariants as verdict;
+ghost use Rattle.record_text.specs.Seals.{seal_in, seal_verdict, unsealed, verdict_at};
+ghost use Rattle.record_text.specs.declared.seals.SealVerdict.TheVariants as verdict;
 
 /// A seal follows the number of a connection, and stands nowhere else.
 pub fn line_rows()

@@ -4,7 +4,7 @@ ghost use Rattle.std.specs.Prelude.{◌≡◌, ◌≤◌, ◌+◌, length, IfOk,
 ghost use Rattle.std.specs.List.{prefix_len};
 ghost use Rattle.std.specs.Char.{is_ascii_digit};
 ghost use Rattle.contact_ledger.specs.Lines.{whole_lines};
-ghost use Rattle.record_seal.specs.Seals as spec;
+ghost use Rattle.record_text.specs.Seals as spec;
 
 use crate::macs::hmac;
 use contact_ledger::lines::cut_line;
