@@ -20,3 +20,14 @@ pub mod GrowthLemmas
 pub mod Sounds
 pub mod WholeTexts
 pub mod Pads
+pub mod RunNames
+pub mod RunSounds
+pub mod Views
+pub mod Counts
+pub mod Tells
+pub mod Wholes
+pub mod RunEntries
+pub mod Moves
+pub mod Stands
+pub mod Killed
+pub mod Worlds

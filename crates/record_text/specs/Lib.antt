@@ -15,3 +15,9 @@ pub mod Growths
 pub mod Names
 pub mod Macs
 pub mod Seals
+pub mod Told
+pub mod RunExamples
+pub mod Recordings
+pub mod Runs
+pub mod Worlds
+pub mod ToldExamples

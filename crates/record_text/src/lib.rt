@@ -3,6 +3,9 @@
 //!
 //! Its seals: each stands for all lines above it, and only who has the key can make it.
 //!
+//! What was reported to a client, whatever its peer sends, and what a record says about its run, over all calls of the client: what the
+//! client holds and what was reported to it, neither more nor less; and that killed runs lose nothing. These are laws, without code.
+//!
 //! - `entries`: `Entry`, what a line after the head says, and `Printed`, what a note says
 //! - `notes`: what notes are about, and what they can say
 //! - `parts`, `asked`: the part and the wanted features of a head
@@ -19,6 +22,12 @@
 //! - `laws`: what follows from the definitions
 //! - `seals`: the seal of a text, which lines of a record seals stand for, and the verdict on them; `macs`: HMAC over SHA-256
 //! - `seal_examples`: lines and texts with and without seals
+//! - `specs/Told.antt`: the acts that calls of a client count, in order
+//! - `specs/Recordings.antt`: a record that is written while it follows a client
+//! - `specs/Runs.antt`: runs over one file, each killed at any moment
+//! - `specs/Worlds.antt`: what is reported to the client of a world by events
+//! - `run_laws`: what holds after every list of calls, after any number of runs, and in a world
+//! - `run_examples`: what calls report, and what is written, for clients that are written out
 #![tactic(auto)]
 
 pub mod asked;
@@ -40,6 +49,8 @@ mod parts;
 mod record_reading;
 mod records;
 pub mod run_errors;
+pub mod run_examples;
+mod run_laws;
 mod runs;
 pub mod seal_examples;
 pub mod seals;
@@ -60,6 +71,10 @@ pub use parts::is_part;
 pub use record_reading::read_record;
 pub use records::Record;
 pub use run_errors::{Remark, RunError};
+pub use run_laws::{
+    held_features_are_true_of_what_was_told, killed_runs_lose_nothing, records_say_what_was_told,
+    reported_acts_were_done,
+};
 pub use seals::{SealVerdict, digest_of, false_seal, open_line, seal_of, seal_verdict};
 pub use strangers::{is_of_part, other_feature};
 pub use telling::Telling;

@@ -6,7 +6,7 @@ pub use Rattle.order_parts.specs.declared.faults.OrderFault.{OrderFault}
 pub use Rattle.dme_words.specs.declared.orders.Run.{Run}
 pub use Rattle.dmis_program.specs.Meaning.{Meaning}
 pub use Rattle.protocol_model.specs.Ends.{ClientEnd, end_connected, new_client_end}
-pub use Rattle.record_laws.specs.Recordings.{Pair}
+pub use Rattle.record_text.specs.Recordings.{Pair}
 pub use Rattle.record_text.specs.Growths.{begun, Growth}
 pub use Rattle.record_text.specs.declared.opening.Beginning.{Beginning}
 pub use Rattle.run_opening.specs.Asking.{IsSessionOf}

@@ -8,7 +8,7 @@ use Rattle.effects.specs.declared.vocabulary.Growth.TheVariants as growth
 use Rattle.effects.specs.Effects.{Ask, Where, Named, Input, Nowhere, Open, Read, Byte, Exists, Look, Place, Node, Hold, Fill, Discard, Say, Exit}
 use Rattle.protocol_model.specs.Ends.{ClientEnd}
 use Rattle.record_text.specs.declared.opening.Beginning.{Beginning}
-use Rattle.record_laws.specs.Recordings.{Pair}
+use Rattle.record_text.specs.Recordings.{Pair}
 use Rattle.run_session.specs.Records.{Start}
 use Rattle.run_opening.specs.declared.stages.Text.{Text}
 use Rattle.run_opening.specs.declared.stages.Text.TheVariants as text

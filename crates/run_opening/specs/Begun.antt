@@ -2,7 +2,7 @@
 use Rattle.std.specs.Prelude.{ℕ, List}
 use Rattle.dme_words.specs.declared.orders.Run.{Run}
 use Rattle.dmis_program.specs.Meaning.{Meaning}
-use Rattle.record_laws.specs.Recordings.{Pair}
+use Rattle.record_text.specs.Recordings.{Pair}
 use Rattle.record_text.specs.declared.opening.Beginning.{Beginning}
 use Rattle.run_session.specs.Killed.{IsBegun}
 use Rattle.run_opening.specs.Openings.{Answered, IsProgramOf, part_of}

@@ -4,7 +4,7 @@ pub use Rattle.contact_ledger.specs.Ledgers.{connection_most}
 pub use Rattle.dme_words.specs.declared.orders.Run.{Run}
 pub use Rattle.effects.specs.Effects.{Bytes, Done, End, Found, Missing, Reply, the_ask, the_place, the_reply}
 pub use Rattle.protocol_model.specs.Ends.{end_connected}
-pub use Rattle.record_laws.specs.Recordings.{Pair}
+pub use Rattle.record_text.specs.Recordings.{Pair}
 pub use Rattle.record_text.specs.Growths.{begun}
 pub use Rattle.run_opening.specs.Asking.{IsSessionOf}
 pub use Rattle.run_opening.specs.Begun.{IsRunBegun}

@@ -2,7 +2,7 @@
 
 ghost use Rattle.std.specs.Prelude.{◌≡◌, true, ℕ, List, Some, is_some};
 ghost use Rattle.dme_words.specs.declared.orders.Run.{Run};
-ghost use Rattle.record_laws.specs.Recordings.{Pair};
+ghost use Rattle.record_text.specs.Recordings.{Pair};
 ghost use Rattle.run_opening.specs.Asking.{IsSessionOf};
 ghost use Rattle.run_opening.specs.Begun.{IsRunBegun};
 ghost use Rattle.run_opening.specs.Openings.{State, Outside, Known};

@@ -4,8 +4,8 @@ use Rattle.run_session.proofs.Names.{ClientEnd, cond, Connected, done_by, false,
 use Rattle.run_session.proofs.Names.{Restart, Resume, Send, Sent, sym, told_behind, true, ℕ}
 use Rattle.line_framing.specs.Next.{next_of}
 use Rattle.protocol_model.specs.Client.{Client, next_number, Tally}
-use Rattle.record_laws.proofs.Counts.{Grows, grows_told, heard_grows}
-use Rattle.record_laws.proofs.Views.{aborts_view, read_all, sends_view, View, view}
+use Rattle.record_text.proofs.Counts.{Grows, grows_told, heard_grows}
+use Rattle.record_text.proofs.Views.{aborts_view, read_all, sends_view, View, view}
 use Rattle.dme_line.specs.declared.tags.Tag.{Tag}
 
 -- acts are counted after those that were, on the same connection

@@ -14,8 +14,8 @@ use Rattle.dmis_program.specs.Programs.{IsProgram}
 use Rattle.dmis_program.specs.declared.features.Wanted.{Wanted}
 use Rattle.record_text.specs.Beginnings.{BeginsWith}
 use Rattle.record_text.specs.declared.opening.Beginning.{Beginning}
-use Rattle.record_laws.proofs.Killed.{says_what_was_told}
-use Rattle.record_laws.specs.Runs.{IsKilledRun, IsRecordOf, run_begun}
+use Rattle.record_text.proofs.Killed.{says_what_was_told}
+use Rattle.record_text.specs.Runs.{IsKilledRun, IsRecordOf, run_begun}
 use Rattle.record_text.specs.Tellings.{entries_of}
 use Rattle.run_session.specs.Errors.{Talk}
 use Rattle.run_session.specs.Killed.{IsBegun, IsLeft}

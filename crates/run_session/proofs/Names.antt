@@ -5,9 +5,9 @@ pub use Rattle.contact_ledger.specs.declared.acts.Act.{Act}
 pub use Rattle.effects.specs.Effects.{At, Bytes, Done, End, Failed, Found, Missing, Nothing, Reply, Short, the_reply, Took}
 pub use Rattle.link_world.specs.Showing.{IsRunCall}
 pub use Rattle.protocol_model.specs.Ends.{ClientEnd, end_connected, end_read, new_client_end}
-pub use Rattle.record_laws.specs.Recordings.{AreFit, AreNotes, AreWritten, behind_moments, Calls, calls_in, Fits, Moment, Pair, recorded_by, Tell}
-pub use Rattle.record_laws.specs.Recordings.{told_now, told_unless}
-pub use Rattle.record_laws.specs.Told.{numbered, told_behind, told_by}
+pub use Rattle.record_text.specs.Recordings.{AreFit, AreNotes, AreWritten, behind_moments, Calls, calls_in, Fits, Moment, Pair, recorded_by, Tell}
+pub use Rattle.record_text.specs.Recordings.{told_now, told_unless}
+pub use Rattle.record_text.specs.Told.{numbered, told_behind, told_by}
 pub use Rattle.record_text.specs.Entries.{entry_line, error_note, fitting, kept_error}
 pub use Rattle.record_text.specs.Notes.{AreSaid, IsNoteText, is_error, Says}
 pub use Rattle.record_text.specs.Growths.{AddsErrors, Growth, new_lines, note_lines, with_acts, with_notes}

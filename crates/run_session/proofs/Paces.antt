@@ -7,7 +7,7 @@ use Rattle.client_core.specs.Refusals.{IsSendRefused}
 use Rattle.client_core.specs.declared.faults.ClientFault.{ClientFault}
 use Rattle.dme_line.specs.declared.tags.Tag.{Tag}
 use Rattle.protocol_model.specs.Client.{next_number}
-use Rattle.record_laws.proofs.Views.{aborts_view, sends_view, View}
+use Rattle.record_text.proofs.Views.{aborts_view, sends_view, View}
 
 -- ---- the file has all of the text
 

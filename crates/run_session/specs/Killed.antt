@@ -6,7 +6,7 @@ use Rattle.protocol_model.specs.Ends.{new_client_end, end_connected}
 use Rattle.record_text.specs.Beginnings.{BeginsWith}
 use Rattle.record_text.specs.Growths.{begun}
 use Rattle.record_text.specs.declared.opening.Beginning.{Beginning}
-use Rattle.record_laws.specs.Recordings.{Pair}
+use Rattle.record_text.specs.Recordings.{Pair}
 use Rattle.run_session.specs.Records.{Outside}
 
 -- a run of a program on a part begins, over a file that had these bytes: what was found in it is what `begin_record` gives; the client is

@@ -14,8 +14,8 @@ use Rattle.record_text.specs.Notes.{AreSaid, IsNoteText, Says, is_error}
 use Rattle.record_text.specs.Seals.{seal_of}
 use Rattle.record_text.specs.Growths.{Growth, with_notes}
 use Rattle.record_text.specs.declared.notes.Note.TheVariants.{Sealed}
-use Rattle.record_laws.specs.Recordings.{Pair, told_unless}
-use Rattle.record_laws.specs.Told.{numbered}
+use Rattle.record_text.specs.Recordings.{Pair, told_unless}
+use Rattle.record_text.specs.Told.{numbered}
 use Rattle.effects.specs.declared.vocabulary.Growth as file
 use Rattle.effects.specs.declared.vocabulary.Growth.TheVariants as growth
 use Rattle.effects.specs.declared.vocabulary.Peer.TheVariants.{Server}

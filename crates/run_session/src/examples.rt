@@ -8,7 +8,7 @@ ghost use Rattle.contact_ledger.specs.declared.acts.Act.{Act};
 ghost use Rattle.protocol_model.specs.Ends.{ClientEnd, end_aborted};
 ghost use Rattle.contact_ledger.specs.ContactTexts.{contacts_text};
 ghost use Rattle.contact_ledger.specs.declared.acts.Act.TheVariants.{Homed, HomedIs};
-ghost use Rattle.record_laws.specs.Recordings.{Pair};
+ghost use Rattle.record_text.specs.Recordings.{Pair};
 ghost use Rattle.effects.specs.Effects.{Append, Keep, Send, Byte, Receive, Remove, Replace, Print, Exit, Done, Bytes, Short, Found, Missing, End};
 ghost use Rattle.effects.specs.declared.vocabulary.Peer.TheVariants.{Server};
 ghost use Rattle.protocol_model.specs.declared.states.State.TheVariants.{Running, Failing, Aborting, Halted, Done as Completed};

@@ -6,10 +6,10 @@ ghost use Rattle.contact_ledger.specs.declared.acts.Act.{Act};
 ghost use Rattle.dmis_program.specs.Meaning.{Meaning};
 ghost use Rattle.dmis_program.specs.Programs.{IsProgram};
 ghost use Rattle.record_text.specs.Heads.{IsPartGiven, AreAsked};
-ghost use Rattle.record_laws.specs.Told.{numbered};
+ghost use Rattle.record_text.specs.Told.{numbered};
 ghost use Rattle.record_text.specs.declared.opening.Beginning.{Beginning};
-ghost use Rattle.record_laws.specs.Recordings.{Pair, AreWritten};
-ghost use Rattle.record_laws.specs.Runs.{IsRecordOf, IsKilledRun};
+ghost use Rattle.record_text.specs.Recordings.{Pair, AreWritten};
+ghost use Rattle.record_text.specs.Runs.{IsRecordOf, IsKilledRun};
 ghost use Rattle.run_session.specs.Records.{State, Outside, IsKept, HasReported, HasFollowed, HasTold, pace, Filed};
 ghost use Rattle.run_session.specs.Killed.{IsBegun, IsLeft};
 

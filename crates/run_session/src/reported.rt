@@ -3,7 +3,7 @@
 ghost use Rattle.std.specs.Prelude.{◌≡◌, ◌++◌, IfOk, OnOk, OnErr, false, length, map, drop};
 ghost use Rattle.contact_ledger.specs.ContactTexts.{act_line, contacts_text};
 ghost use Rattle.contact_ledger.specs.Lines.{text_of};
-ghost use Rattle.record_laws.specs.Told.{numbered};
+ghost use Rattle.record_text.specs.Told.{numbered};
 
 use client_core::Client;
 use contact_ledger::{ServerLedger, add_entry, write_contacts};

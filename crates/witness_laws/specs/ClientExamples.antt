@@ -16,7 +16,7 @@ use Rattle.protocol_model.specs.declared.plans.Does.{Does}
 use Rattle.protocol_model.specs.declared.plans.Planned.{Planned}
 use Rattle.protocol_model.specs.declared.states.State.{State}
 use Rattle.client_core.specs.Calls.{Feed, ReadOne}
-use Rattle.record_laws.specs.ToldExamples.{empty, completed, changing}
+use Rattle.record_text.specs.ToldExamples.{empty, completed, changing}
 use Rattle.witness.specs.Dialogues.{Dialogue}
 use Rattle.witness.specs.Known.{nothing}
 use Rattle.witness.specs.declared.lines.Progress.TheVariants.{Begun}

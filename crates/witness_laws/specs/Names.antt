@@ -12,7 +12,7 @@ pub use Rattle.protocol_model.specs.Ends.{ClientEnd, ServerEnd, new_server_end}
 pub use Rattle.protocol_model.specs.Lines.{reply_bytes, reply_text}
 pub use Rattle.protocol_model.specs.Replies.{Ack, Done, Given}
 pub use Rattle.server_core.specs.Calls.{behind_call}
-pub use Rattle.record_laws.specs.ToldExamples.{changing, completed}
+pub use Rattle.record_text.specs.ToldExamples.{changing, completed}
 pub use Rattle.witness.specs.Asking.{Answers, Sends, Signal}
 pub use Rattle.witness.specs.Dialogues.{Dialogue, after, foreign_event, silence}
 pub use Rattle.witness.specs.Examples.{hears_event, touched}

@@ -1,7 +1,7 @@
 -- The lines of the examples, as they are read.
 use Rattle.witness_laws.proofs.Names.{◌∷◌, ◌≡◌, [], arith, Command, Event, IsWritable, Ok, refl, response_of, Std}
 use Rattle.dme_line.specs.declared.responses.Mark.{Mark}
-use Rattle.record_laws.specs.ToldExamples.{completed}
+use Rattle.record_text.specs.ToldExamples.{completed}
 use Rattle.witness_laws.specs.ClientExamples.{zero}
 use Rattle.witness_laws.proofs.orders.Readings.{one_mark}
 

@@ -12,11 +12,11 @@ use Rattle.client_core.specs.Calls.{Call, Connected, Send, Feed, ReadOne, Abort,
 use Rattle.client_core.specs.Clients.{are_ours, is_apart, may_connect, may_read}
 use Rattle.client_core.proofs.Fits.{both}
 use Rattle.client_core.proofs.Runs.{program_stays, due_running}
-use Rattle.record_laws.specs.Told.{told_between, told_by, told_behind}
-use Rattle.record_laws.proofs.Counts.{Grows, grows_told, heard_grows, numbered_done}
-use Rattle.record_laws.proofs.Sounds.{sound_served, served_ours}
-use Rattle.record_laws.proofs.Tells.{told_are_sound}
-use Rattle.record_laws.proofs.Views.{read_all}
+use Rattle.record_text.specs.Told.{told_between, told_by, told_behind}
+use Rattle.record_text.proofs.Counts.{Grows, grows_told, heard_grows, numbered_done}
+use Rattle.record_text.proofs.RunSounds.{sound_served, served_ours}
+use Rattle.record_text.proofs.Tells.{told_are_sound}
+use Rattle.record_text.proofs.Views.{read_all}
 use Rattle.witness.specs.Numbering.{numbered_from}
 use Rattle.witness.specs.Runs.{parts_of, SoundByTold}
 use Rattle.witness.proofs.NextContacts.{numbered_all}

@@ -1,6 +1,6 @@
 use Rattle.witness_laws.proofs.Names.{◌||◌, ◌∙◌, ◌∷◌, ◌≡◌, [], answered, ap, false, false≢true, is_of, List, NotResponse, refl, Response, Result}
 use Rattle.witness_laws.proofs.Names.{server_answered, Std, sym, ℕ}
-use Rattle.record_laws.specs.ToldExamples.{completed}
+use Rattle.record_text.specs.ToldExamples.{completed}
 use Rattle.witness_laws.specs.ClientExamples.{watching}
 use Rattle.witness_laws.specs.Lines.{is_unasked}
 use Rattle.witness_laws.proofs.client.ExampleLines.{completed_reads, zero_reads}

@@ -1,6 +1,6 @@
 use Rattle.witness_laws.proofs.Names.{◌++◌, ◌||◌, ◌∷◌, ◌≡◌, [], Act, answered, ap, Did, false, Left, List, map, NotResponse, numbered, refl, Reported}
 use Rattle.witness_laws.proofs.Names.{Response, Result, server_answered, silence, true}
-use Rattle.record_laws.specs.ToldExamples.{completed}
+use Rattle.record_text.specs.ToldExamples.{completed}
 use Rattle.witness_laws.specs.Lines.{is_unasked}
 use Rattle.witness_laws.proofs.client.ExampleLines.{completed_reads, zero_reads}
 use Rattle.witness_laws.proofs.client_examples.visit_rows.Goals as goal

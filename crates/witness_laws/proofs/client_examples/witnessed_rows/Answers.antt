@@ -1,7 +1,7 @@
 use Rattle.witness_laws.proofs.Names.{◌∙◌, ◌∷◌, [], answered, ap, client_lines, Command, command_texts, Dialogue, Event, None, NotResponse, refl}
 use Rattle.witness_laws.proofs.Names.{Response, Result, sending_after, server_answered, silence, Std, true}
 use Rattle.witness.specs.declared.lines.SentCommand.TheVariants.{Known}
-use Rattle.record_laws.specs.ToldExamples.{completed}
+use Rattle.record_text.specs.ToldExamples.{completed}
 use Rattle.witness_laws.specs.ClientExamples.{watching}
 use Rattle.witness_laws.proofs.client.ExampleLines.{completed_reads, home_one, abort_one}
 use Rattle.witness_laws.proofs.client.Seeing.{written_is}

@@ -13,8 +13,8 @@ use Rattle.record_text.specs.declared.run_errors.Remark.{Remark}
 use Rattle.record_text.specs.Beginnings.{BeginsWith, IsSame}
 use Rattle.record_text.specs.Growths as growths
 use Rattle.record_text.specs.declared.opening.Beginning.{Beginning}
-use Rattle.record_laws.specs.Told.{told_behind}
-use Rattle.record_laws.specs.Recordings.{Pair, Moment, behind_moments, calls_in, AreFit, AreWritten}
+use Rattle.record_text.specs.Told.{told_behind}
+use Rattle.record_text.specs.Recordings.{Pair, Moment, behind_moments, calls_in, AreFit, AreWritten}
 
 -- a new client of a program, and the record that it continues, as `begin_record` gives them
 abbrev pub run_begun : Meaning → ℕ → Beginning → Pair

@@ -2,8 +2,8 @@
 
 ghost use Rattle.std.specs.Prelude.{◌≡◌, [], ◌∷◌, codes, map, true, false};
 ghost use Rattle.client_core.specs.Calls.{ReadOne, Leave, Connected, Restart, Resume};
-ghost use Rattle.record_laws.specs.Told.{told_behind};
-ghost use Rattle.record_laws.specs.ToldExamples.{changing};
+ghost use Rattle.record_text.specs.Told.{told_behind};
+ghost use Rattle.record_text.specs.ToldExamples.{changing};
 ghost use Rattle.contact_ledger.specs.Lines.{text_of};
 ghost use Rattle.protocol_model.specs.World.{start};
 ghost use Rattle.protocol_model.specs.declared.events.Event.TheVariants.{ClientReads};
@@ -12,9 +12,9 @@ ghost use Rattle.record_text.specs.declared.entries.Entry.TheVariants.{Told, Not
 ghost use Rattle.record_text.specs.Entries.{error_note};
 ghost use Rattle.record_text.specs.declared.notes.Note.TheVariants.{Refused};
 ghost use Rattle.record_text.specs.Growths.{with_notes};
-ghost use Rattle.record_laws.specs.Recordings.{Calls, Tell, AreFit, behind_moments, told_now};
-ghost use Rattle.record_laws.specs.Examples.{contact, empty, feature, halted, program};
-ghost use Rattle.record_laws.specs.Worlds.{told_in};
+ghost use Rattle.record_text.specs.Recordings.{Calls, Tell, AreFit, behind_moments, told_now};
+ghost use Rattle.record_text.specs.RunExamples.{contact, empty, feature, halted, program};
+ghost use Rattle.record_text.specs.Worlds.{told_in};
 ghost use Rattle.contact_ledger.specs.declared.acts.Act.TheVariants as act;
 
 /// A completed command reports its act once, under the number of the connection. Acts that were counted before are not reported again, and

@@ -36,9 +36,9 @@ pub use Rattle.protocol_model.specs.Plan.{is_empty, plan}
 pub use Rattle.protocol_model.specs.Undisturbed.{AreUpTo, followed}
 pub use Rattle.protocol_model.specs.declared.held.Datum.{Datum}
 pub use Rattle.protocol_model.specs.declared.plans.Planned.{Planned}
-pub use Rattle.record_laws.specs.Recordings.{AreFit, AreNotes, AreWritten, behind_moments, Calls, calls_in, Fits, Moment, recorded_by, Tell}
-pub use Rattle.record_laws.specs.Recordings.{told_unless}
-pub use Rattle.record_laws.specs.Told.{EndsUnfinished, first_touches, numbered, told_behind, told_between, told_by}
+pub use Rattle.record_text.specs.Recordings.{AreFit, AreNotes, AreWritten, behind_moments, Calls, calls_in, Fits, Moment, recorded_by, Tell}
+pub use Rattle.record_text.specs.Recordings.{told_unless}
+pub use Rattle.record_text.specs.Told.{EndsUnfinished, first_touches, numbered, told_behind, told_between, told_by}
 pub use Rattle.record_text.specs.Beginnings.{AreWhole, BeginsWith, Continues, EndsLine, IsNew, IsSame}
 pub use Rattle.record_text.specs.Entries.{entry_line}
 pub use Rattle.record_text.specs.Notes.{IsNoteText, Says}

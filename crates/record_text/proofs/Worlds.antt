@@ -1,10 +1,10 @@
 -- What was reported on each connection of a world is a prefix of what its server did there.
-use Rattle.record_laws.proofs.Names.{[], ◌&&◌, ◌++◌, ◌<◌, ◌∙◌, ◌∷◌, ◌≡◌, ◌≤◌, Abort, Act, acts_on, and_from, and_parts, ap, append-nil, append_assoc}
-use Rattle.record_laws.proofs.Names.{arith, behind_call, behind_calls, Bool, Call, Client, ClientEnd, cond, Connected, connection_most, done_by}
-use Rattle.record_laws.proofs.Names.{drop-length, end_read, eq-eqb, eqb, eqb-true, Err, false, false≢true, Feed, Front, front_served, IsProgram}
-use Rattle.record_laws.proofs.Names.{le-leb, Leave, length, List, lt-ltb, ltb-true, Meaning, nat_le, nat_lt, next_of, None, not, numbered, Ok}
-use Rattle.record_laws.proofs.Names.{possible, ReadOne, refl, Restart, Resume, Send, Sent, ServerEnd, Some, subst, suc, sym, Tag, take, told_behind}
-use Rattle.record_laws.proofs.Names.{told_between, told_by, true, ℕ}
+use Rattle.record_text.proofs.RunNames.{[], ◌&&◌, ◌++◌, ◌<◌, ◌∙◌, ◌∷◌, ◌≡◌, ◌≤◌, Abort, Act, acts_on, and_from, and_parts, ap, append-nil, append_assoc}
+use Rattle.record_text.proofs.RunNames.{arith, behind_call, behind_calls, Bool, Call, Client, ClientEnd, cond, Connected, connection_most, done_by}
+use Rattle.record_text.proofs.RunNames.{drop-length, end_read, eq-eqb, eqb, eqb-true, Err, false, false≢true, Feed, Front, front_served, IsProgram}
+use Rattle.record_text.proofs.RunNames.{le-leb, Leave, length, List, lt-ltb, ltb-true, Meaning, nat_le, nat_lt, next_of, None, not, numbered, Ok}
+use Rattle.record_text.proofs.RunNames.{possible, ReadOne, refl, Restart, Resume, Send, Sent, ServerEnd, Some, subst, suc, sym, Tag, take, told_behind}
+use Rattle.record_text.proofs.RunNames.{told_between, told_by, true, ℕ}
 use Rattle.protocol_model.specs.Claims.{Told}
 use Rattle.protocol_model.specs.Client as model
 use Rattle.protocol_model.specs.Lines.{reading_of}
@@ -18,10 +18,10 @@ use Rattle.protocol_model.proofs.invariant.Moves.{acts_elsewhere, acts_more, don
 use Rattle.protocol_model.proofs.whole_run.Carrying.{IsCarried, lined}
 use Rattle.protocol_model.proofs.whole_run.WholeRun.{run_carried, start_carried}
 use Rattle.client_core.specs.Clients as clients
-use Rattle.record_laws.specs.Worlds.{AreCalls, told_in}
-use Rattle.record_laws.proofs.Counts.{Grows, grows_told, heard_grows, numbered_done}
-use Rattle.record_laws.proofs.Tells.{done_here, IsHere, new_here}
-use Rattle.record_laws.proofs.Views.{aborts_view, none_anew, none_told, read_all, sends_view, told_to, View, view, with_none}
+use Rattle.record_text.specs.Worlds.{AreCalls, told_in}
+use Rattle.record_text.proofs.Counts.{Grows, grows_told, heard_grows, numbered_done}
+use Rattle.record_text.proofs.Tells.{done_here, IsHere, new_here}
+use Rattle.record_text.proofs.Views.{aborts_view, none_anew, none_told, read_all, sends_view, told_to, View, view, with_none}
 
 -- ---- prefixes
 

@@ -5,7 +5,7 @@ use Rattle.protocol_model.specs.Ends.{ClientEnd}
 use Rattle.protocol_model.specs.World.{World, after}
 use Rattle.protocol_model.specs.declared.events.Event.{Event}
 use Rattle.client_core.specs.Calls.{Call, behind_calls}
-use Rattle.record_laws.specs.Told.{told_between, told_behind}
+use Rattle.record_text.specs.Told.{told_between, told_behind}
 
 -- the acts that the client counts, one event after another, each under the number of its connection
 abbrev pub told_in : List Event → World → List (ℕ × Act)

@@ -1,10 +1,10 @@
 -- What a reply counts, next to the contacts reported before it.
-use Rattle.record_laws.proofs.Names.{[], ◌++◌, ◌||◌, ◌∙◌, ◌∷◌, ◌≡◌, Act, act_of, ap, append-nil, begins_session, Bool, contacts, counted_next, Datum}
-use Rattle.record_laws.proofs.Names.{done_on, drop, drop-append_seam, false, false≢true, fine, followed, HaveTouches, heard, is_empty, IsCalm, IsNext}
-use Rattle.record_laws.proofs.Names.{IsOnPlan, IsProgram, IsProgress, Kind, length, List, MadeContact, Marked, marks, marks_of, Meaning, measured}
-use Rattle.record_laws.proofs.Names.{next_touch, None, not, numbered, Option, passed_over, plan, plan_fits, Planned, Plans, program_is_plain, refl}
-use Rattle.record_laws.proofs.Names.{Some, start_behind, step_cases, subst, suc, sym, Table, Tag, tallied, Tally, tells_homed, told_homed, Touch}
-use Rattle.record_laws.proofs.Names.{touch_in, touches_in, true, Wanted, ℕ}
+use Rattle.record_text.proofs.RunNames.{[], ◌++◌, ◌||◌, ◌∙◌, ◌∷◌, ◌≡◌, Act, act_of, ap, append-nil, begins_session, Bool, contacts, counted_next, Datum}
+use Rattle.record_text.proofs.RunNames.{done_on, drop, drop-append_seam, false, false≢true, fine, followed, HaveTouches, heard, is_empty, IsCalm, IsNext}
+use Rattle.record_text.proofs.RunNames.{IsOnPlan, IsProgram, IsProgress, Kind, length, List, MadeContact, Marked, marks, marks_of, Meaning, measured}
+use Rattle.record_text.proofs.RunNames.{next_touch, None, not, numbered, Option, passed_over, plan, plan_fits, Planned, Plans, program_is_plain, refl}
+use Rattle.record_text.proofs.RunNames.{Some, start_behind, step_cases, subst, suc, sym, Table, Tag, tallied, Tally, tells_homed, told_homed, Touch}
+use Rattle.record_text.proofs.RunNames.{touch_in, touches_in, true, Wanted, ℕ}
 use Rattle.dme_line.specs.Kinds.{kind_of}
 use Rattle.protocol_model.specs.Replies.{Mark}
 use Rattle.protocol_model.specs.Open.{Effect}
@@ -16,7 +16,7 @@ use Rattle.protocol_model.proofs.invariant.Touching.{does_goes, Goes, HasDatum, 
 use Rattle.protocol_model.proofs.undisturbed_run.Following.{AreAsked, asked_at, fits_asked, has_datum, IsAskedBy, IsGiven, kinds_of}
 use Rattle.client_core.proofs.Fronts.{Fronted, fronted, live_kinds}
 use Rattle.client_core.proofs.Homing.{followed_are_asked}
-use Rattle.record_laws.proofs.Views.{View, view_by, told_to, none_told}
+use Rattle.record_text.proofs.Views.{View, view_by, told_to, none_told}
 
 -- ---- numbered acts
 

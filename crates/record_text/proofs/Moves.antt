@@ -1,16 +1,16 @@
 -- What one counted command adds to a record, next to what it changes of the client's features and points.
-use Rattle.record_laws.proofs.Names.{[], ◌++◌, ◌+◌, ◌-◌, ◌∙◌, ◌∷◌, ◌≡◌, ◌≤◌, Act, act_of, AllByRecursion, ap, append-nil, append_assoc, AreAsked}
-use Rattle.record_laws.proofs.Names.{arith, Bool, Completed, completed_feature, Completes, cond, contacts, contacts_more, Counted, counted}
-use Rattle.record_laws.proofs.Names.{counted_after, Datum, drop, drop-append_seam, entries_of, Entry, false, false≢true, Feature, Follow, is_contact}
-use Rattle.record_laws.proofs.Names.{IsAsked, IsConnection, IsNext, IsProgress, IsWrittenAct, joined, joined_is, Kept, last_frame, le-leb, length}
-use Rattle.record_laws.proofs.Names.{length-append, List, lt-leb, MadeContact, Marked, marks_of, measured, nat_le, next_touch, None, numbered}
-use Rattle.record_laws.proofs.Names.{one_point, Option, origin_of, Point, refl, Serves, serves_more, slice_get, Some, subst, suc, sym, Tally}
-use Rattle.record_laws.proofs.Names.{touch_in, true, Wanted, with_completed, with_made, with_told, ℕ}
+use Rattle.record_text.proofs.RunNames.{[], ◌++◌, ◌+◌, ◌-◌, ◌∙◌, ◌∷◌, ◌≡◌, ◌≤◌, Act, act_of, AllByRecursion, ap, append-nil, append_assoc, AreAsked}
+use Rattle.record_text.proofs.RunNames.{arith, Bool, Completed, completed_feature, Completes, cond, contacts, contacts_more, Counted, counted}
+use Rattle.record_text.proofs.RunNames.{counted_after, Datum, drop, drop-append_seam, entries_of, Entry, false, false≢true, Feature, Follow, is_contact}
+use Rattle.record_text.proofs.RunNames.{IsAsked, IsConnection, IsNext, IsProgress, IsWrittenAct, joined, joined_is, Kept, last_frame, le-leb, length}
+use Rattle.record_text.proofs.RunNames.{length-append, List, lt-leb, MadeContact, Marked, marks_of, measured, nat_le, next_touch, None, numbered}
+use Rattle.record_text.proofs.RunNames.{one_point, Option, origin_of, Point, refl, Serves, serves_more, slice_get, Some, subst, suc, sym, Tally}
+use Rattle.record_text.proofs.RunNames.{touch_in, true, Wanted, with_completed, with_made, with_told, ℕ}
 use Rattle.fixed_um.specs.declared.frames.Frame.{Frame}
 use Rattle.dmis_program.specs.declared.features.Touch.{Touch}
 use Rattle.protocol_model.specs.Plan.{is_empty}
 use Rattle.protocol_model.specs.declared.plans.Does.{Does}
-use Rattle.record_laws.proofs.Sounds.{serves_count}
+use Rattle.record_text.proofs.RunSounds.{serves_count}
 use Rattle.record_text.specs.declared.entries.Entry.TheVariants.{Told}
 use Rattle.record_text.proofs.ContactRuns.{contacts_other}
 

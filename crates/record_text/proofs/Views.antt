@@ -1,9 +1,9 @@
 -- What the reported acts of a client depend on, and the acts that are reported between two such views.
-use Rattle.record_laws.proofs.Names.{[], ◌++◌, ◌∙◌, ◌∷◌, ◌≡◌, Act, ap, append-nil, Bool, Client, client_hears, client_read, cond, Datum, drop}
-use Rattle.record_laws.proofs.Names.{drop-length, drop-nil, ends_abort, Err, false, faulted, Feature, fine, Front, front_read, given_for, given_homed}
-use Rattle.record_laws.proofs.Names.{given_point, given_under, heard, heard_on, held_under, Kind, length, line_read, List, Meaning, None, NotResponse}
-use Rattle.record_laws.proofs.Names.{numbered, Ok, Option, Planned, Point, refl, Response, response_read, Result, sends_abort, sends_next, Some}
-use Rattle.record_laws.proofs.Names.{state_behind, subst, sym, Table, Tag, Tally, true, ℕ}
+use Rattle.record_text.proofs.RunNames.{[], ◌++◌, ◌∙◌, ◌∷◌, ◌≡◌, Act, ap, append-nil, Bool, Client, client_hears, client_read, cond, Datum, drop}
+use Rattle.record_text.proofs.RunNames.{drop-length, drop-nil, ends_abort, Err, false, faulted, Feature, fine, Front, front_read, given_for, given_homed}
+use Rattle.record_text.proofs.RunNames.{given_point, given_under, heard, heard_on, held_under, Kind, length, line_read, List, Meaning, None, NotResponse}
+use Rattle.record_text.proofs.RunNames.{numbered, Ok, Option, Planned, Point, refl, Response, response_read, Result, sends_abort, sends_next, Some}
+use Rattle.record_text.proofs.RunNames.{state_behind, subst, sym, Table, Tag, Tally, true, ℕ}
 use Rattle.dme_line.specs.declared.homed.NotHomedText.{NotHomedText}
 use Rattle.dme_line.specs.declared.points.NotPoint.{NotPoint}
 use Rattle.dme_line.specs.declared.responses.Mark.{Mark as Marked}

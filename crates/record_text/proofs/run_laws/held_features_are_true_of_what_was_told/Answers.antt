@@ -1,5 +1,5 @@
-use Rattle.record_laws.proofs.Tells.{told_are_sound, told_ends_unfinished, counted_were_told}
-use Rattle.record_laws.proofs.laws.held_features_are_true_of_what_was_told.Goals as goal
+use Rattle.record_text.proofs.Tells.{told_are_sound, told_ends_unfinished, counted_were_told}
+use Rattle.record_text.proofs.run_laws.held_features_are_true_of_what_was_told.Goals as goal
 
 pub returns-clause-sound : goal.returns-clause-sound
 returns-clause-sound c = told_are_sound

@@ -8,7 +8,7 @@ ghost use Rattle.dmis_program.specs.Programs.{IsProgram};
 ghost use Rattle.protocol_model.specs.Claims.{Sound, acts_on, Told};
 ghost use Rattle.protocol_model.specs.Ends.{new_client_end};
 ghost use Rattle.client_core.specs.Calls.{Call, client_behind};
-ghost use Rattle.record_laws.specs.Told.{told_behind, EndsUnfinished};
+ghost use Rattle.record_text.specs.Told.{told_behind, EndsUnfinished};
 ghost use Rattle.protocol_model.specs.World.{World, start, run_of};
 ghost use Rattle.protocol_model.specs.declared.events.Event.{Event};
 ghost use Rattle.client_core.specs.Clients.{window_most};
@@ -17,9 +17,9 @@ ghost use Rattle.record_text.specs.Reading.{IsRecord, IsUnbegun};
 ghost use Rattle.record_text.specs.Records.{Recorded};
 ghost use Rattle.record_text.specs.Beginnings.{BeginsWith, IsSame};
 ghost use Rattle.record_text.specs.declared.opening.Beginning.{Beginning};
-ghost use Rattle.record_laws.specs.Recordings.{Moment, behind_moments, calls_in, told_now, AreFit, AreWritten};
-ghost use Rattle.record_laws.specs.Runs.{run_begun, IsRecordOf, AreKilledRuns, HasAllOf};
-ghost use Rattle.record_laws.specs.Worlds.{told_in, AreCalls};
+ghost use Rattle.record_text.specs.Recordings.{Moment, behind_moments, calls_in, told_now, AreFit, AreWritten};
+ghost use Rattle.record_text.specs.Runs.{run_begun, IsRecordOf, AreKilledRuns, HasAllOf};
+ghost use Rattle.record_text.specs.Worlds.{told_in, AreCalls};
 
 /// After every list of calls of a client, from any program and any features that are sound for earlier acts, whatever bytes are fed:
 ///

@@ -1,6 +1,6 @@
 -- The whole lines of texts that end with a line feed.
-use Rattle.record_laws.proofs.Names.{[], ◌++◌, ◌+◌, ◌==◌, ◌∙◌, ◌∷◌, ◌≡◌, and_parts, ap, append-nil, AreWhole, arith, Bool, but_last, EndsLine, eqb}
-use Rattle.record_laws.proofs.Names.{eqb-true, false, inl, inr, length, List, list_all, not, onto_first, refl, sym, text_of, true, ℕ}
+use Rattle.record_text.proofs.RunNames.{[], ◌++◌, ◌+◌, ◌==◌, ◌∙◌, ◌∷◌, ◌≡◌, and_parts, ap, append-nil, AreWhole, arith, Bool, but_last, EndsLine, eqb}
+use Rattle.record_text.proofs.RunNames.{eqb-true, false, inl, inr, length, List, list_all, not, onto_first, refl, sym, text_of, true, ℕ}
 use Rattle.std.proofs.lemmas.List.Splits.{length-slice_split, slice_split-cons_no}
 use Rattle.contact_ledger.specs.Lines.{whole_lines}
 

@@ -1,5 +1,5 @@
-use Rattle.record_laws.proofs.Worlds.{told_is_done, run_calls}
-use Rattle.record_laws.proofs.laws.reported_acts_were_done.Goals as goal
+use Rattle.record_text.proofs.Worlds.{told_is_done, run_calls}
+use Rattle.record_text.proofs.run_laws.reported_acts_were_done.Goals as goal
 
 pub returns-clause-done : goal.returns-clause-done
 returns-clause-done c = told_is_done

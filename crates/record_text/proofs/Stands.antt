@@ -1,13 +1,13 @@
 -- What holds of a record while it follows a client: its entries follow one another, and what they leave is what the client holds.
-use Rattle.record_laws.proofs.Names.{[], ◌++◌, ◌+◌, ◌<◌, ◌||◌, ◌∙◌, ◌∷◌, ◌≡◌, ◌≤◌, Abort, Act, act_of, AllByRecursion, ap, append-nil, append_assoc}
-use Rattle.record_laws.proofs.Names.{AreAsked, AreFit, AreNotes, IsNoteText, Note, noted, Says, AreWritten, arith, begins_session, behind_call, behind_calls, behind_moments, Bool}
-use Rattle.record_laws.proofs.Names.{Call, Calls, calls_in, Client, client_behind, client_connected, ClientEnd, cond, Connected, connection_most}
-use Rattle.record_laws.proofs.Names.{contacts, Counted, counted_after, counted_next, Datum, done_by, drop, drop-length, entries_of, Entry, entry_line}
-use Rattle.record_laws.proofs.Names.{false, false≢true, Feature, Feed, Fits, Follow, Growth, IsConnection, IsProgram, IsProgress, IsWrittenAct, Kept}
-use Rattle.record_laws.proofs.Names.{Leave, leb-true, length, length-append, List, ltb-true, map, Meaning, Moment, nat_le, nat_lt}
-use Rattle.record_laws.proofs.Names.{new_client_end, next_number, next_of, numbered, Option, passed_over, Point, possible, ReadOne, recorded_by, refl}
-use Rattle.record_laws.proofs.Names.{Restart, Resume, Send, Sent, Sound, subst, suc, sym, Table, Tag, take_all, tallied, Tally, Tell}
-use Rattle.record_laws.proofs.Names.{tells_homed, text_of, told_behind, told_by, told_unless, touches_in, true, Wanted, with_notes, with_noted, ℕ}
+use Rattle.record_text.proofs.RunNames.{[], ◌++◌, ◌+◌, ◌<◌, ◌||◌, ◌∙◌, ◌∷◌, ◌≡◌, ◌≤◌, Abort, Act, act_of, AllByRecursion, ap, append-nil, append_assoc}
+use Rattle.record_text.proofs.RunNames.{AreAsked, AreFit, AreNotes, IsNoteText, Note, noted, Says, AreWritten, arith, begins_session, behind_call, behind_calls, behind_moments, Bool}
+use Rattle.record_text.proofs.RunNames.{Call, Calls, calls_in, Client, client_behind, client_connected, ClientEnd, cond, Connected, connection_most}
+use Rattle.record_text.proofs.RunNames.{contacts, Counted, counted_after, counted_next, Datum, done_by, drop, drop-length, entries_of, Entry, entry_line}
+use Rattle.record_text.proofs.RunNames.{false, false≢true, Feature, Feed, Fits, Follow, Growth, IsConnection, IsProgram, IsProgress, IsWrittenAct, Kept}
+use Rattle.record_text.proofs.RunNames.{Leave, leb-true, length, length-append, List, ltb-true, map, Meaning, Moment, nat_le, nat_lt}
+use Rattle.record_text.proofs.RunNames.{new_client_end, next_number, next_of, numbered, Option, passed_over, Point, possible, ReadOne, recorded_by, refl}
+use Rattle.record_text.proofs.RunNames.{Restart, Resume, Send, Sent, Sound, subst, suc, sym, Table, Tag, take_all, tallied, Tally, Tell}
+use Rattle.record_text.proofs.RunNames.{tells_homed, text_of, told_behind, told_by, told_unless, touches_in, true, Wanted, with_notes, with_noted, ℕ}
 use Rattle.std.proofs.lemmas.List.{drop-append-le}
 use Rattle.dme_line.specs.declared.commands.Kind.{Kind}
 use Rattle.protocol_model.specs.Replies.{Mark}
@@ -20,12 +20,12 @@ use Rattle.client_core.specs.Clients.{is_apart, may_connect, may_read}
 use Rattle.client_core.proofs.Fits.{both}
 use Rattle.record_text.proofs.ToldLines.{lines_more}
 use Rattle.record_text.specs.Growths.{begun}
-use Rattle.record_laws.specs.Recordings.{told_now}
-use Rattle.record_laws.proofs.Entries.{entries_more, after_more, follow_more, Parts, follow_parts, follow_last, Later, later}
-use Rattle.record_laws.proofs.Moves.{Moves, Rests, measured_moves}
-use Rattle.record_laws.proofs.Counts.{Grows, grows_told, heard_grows, IsGoing}
-use Rattle.record_laws.proofs.Tells.{is_told, IsTold, Tells}
-use Rattle.record_laws.proofs.Views.{aborts_view, none_anew, none_told, read_all, sends_view, told_to, View, view, view_by, with_none}
+use Rattle.record_text.specs.Recordings.{told_now}
+use Rattle.record_text.proofs.RunEntries.{entries_more, after_more, follow_more, Parts, follow_parts, follow_last, Later, later}
+use Rattle.record_text.proofs.Moves.{Moves, Rests, measured_moves}
+use Rattle.record_text.proofs.Counts.{Grows, grows_told, heard_grows, IsGoing}
+use Rattle.record_text.proofs.Tells.{is_told, IsTold, Tells}
+use Rattle.record_text.proofs.Views.{aborts_view, none_anew, none_told, read_all, sends_view, told_to, View, view, view_by, with_none}
 
 -- ---- the invariant
 

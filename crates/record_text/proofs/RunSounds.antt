@@ -1,7 +1,7 @@
 -- Features that are sound for a ledger are served by its contacts, and are those of the program by labels and counts.
-use Rattle.record_laws.proofs.Names.{[], ◌&&◌, ◌++◌, ◌+◌, ◌-◌, ◌==◌, ◌∙◌, ◌∷◌, ◌≡◌, ◌≤◌, Act, ap, are_ours, AreRuns, arith, Bool, bytes_eq, contacts}
-use Rattle.record_laws.proofs.Names.{drop, drop-drop, eq-eqb, Feature, HasRun, is_ours, IsRun, length, List, MadeContact, Point, refl, Served, Serves}
-use Rattle.record_laws.proofs.Names.{Sound, suc, sym, take, take-append-drop, Touch, true, Wanted, ℕ}
+use Rattle.record_text.proofs.RunNames.{[], ◌&&◌, ◌++◌, ◌+◌, ◌-◌, ◌==◌, ◌∙◌, ◌∷◌, ◌≡◌, ◌≤◌, Act, ap, are_ours, AreRuns, arith, Bool, bytes_eq, contacts}
+use Rattle.record_text.proofs.RunNames.{drop, drop-drop, eq-eqb, Feature, HasRun, is_ours, IsRun, length, List, MadeContact, Point, refl, Served, Serves}
+use Rattle.record_text.proofs.RunNames.{Sound, suc, sym, take, take-append-drop, Touch, true, Wanted, ℕ}
 
 -- ---- from start numbers to contacts in order
 

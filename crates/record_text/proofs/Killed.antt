@@ -1,11 +1,11 @@
 -- What a run begins with, what its record says at each moment, and what runs over one file leave, each killed at any moment.
-use Rattle.record_laws.proofs.Names.{[], ◌++◌, ◌+◌, ◌-◌, ◌<◌, ◌∙◌, ◌∷◌, ◌≡◌, ◌≤◌, ◌⊎◌, Act, ap, append-nil, append_assoc, AreAsked, AreFit}
-use Rattle.record_laws.proofs.Names.{AreRecordLines, AreWritten, arith, BeginsWith, behind_moments, Bool, calls_in, client_behind, ClientEnd}
-use Rattle.record_laws.proofs.Names.{Completed, contacts, contacts_more, Continues, Entry, entry_line, false, false≢true, Feature, Follow, Follows}
-use Rattle.record_laws.proofs.Names.{Growth, head_lines, inl, inr, IsNew, IsPartGiven, IsProgram, IsRecorded, IsSame, Kept, length, length-append}
-use Rattle.record_laws.proofs.Names.{List, ltb-false, ltb-true, MadeContact, map, Meaning, Moment, nat_lt, new_client_end, nothing_kept, Option}
-use Rattle.record_laws.proofs.Names.{record_lines, Recorded, recorded, refl, Noted, Sound, subst, sym, take, take-append-add, take_all, text_of}
-use Rattle.record_laws.proofs.Names.{told_behind, true, Wanted, whole_lines, ℕ}
+use Rattle.record_text.proofs.RunNames.{[], ◌++◌, ◌+◌, ◌-◌, ◌<◌, ◌∙◌, ◌∷◌, ◌≡◌, ◌≤◌, ◌⊎◌, Act, ap, append-nil, append_assoc, AreAsked, AreFit}
+use Rattle.record_text.proofs.RunNames.{AreRecordLines, AreWritten, arith, BeginsWith, behind_moments, Bool, calls_in, client_behind, ClientEnd}
+use Rattle.record_text.proofs.RunNames.{Completed, contacts, contacts_more, Continues, Entry, entry_line, false, false≢true, Feature, Follow, Follows}
+use Rattle.record_text.proofs.RunNames.{Growth, head_lines, inl, inr, IsNew, IsPartGiven, IsProgram, IsRecorded, IsSame, Kept, length, length-append}
+use Rattle.record_text.proofs.RunNames.{List, ltb-false, ltb-true, MadeContact, map, Meaning, Moment, nat_lt, new_client_end, nothing_kept, Option}
+use Rattle.record_text.proofs.RunNames.{record_lines, Recorded, recorded, refl, Noted, Sound, subst, sym, take, take-append-add, take_all, text_of}
+use Rattle.record_text.proofs.RunNames.{told_behind, true, Wanted, whole_lines, ℕ}
 use Rattle.contact_ledger.proofs.WrittenTexts.{text_more}
 use Rattle.record_text.specs.Reading.{AreTornHead, IsRecord, IsUnbegun}
 use Rattle.record_text.specs.Cuts.{begun, ReadsCut, unbegun}
@@ -20,13 +20,13 @@ use Rattle.record_text.proofs.StageShapes.{Halves, leads_split}
 use Rattle.record_text.specs.declared.opening.Beginning.{Beginning}
 use Rattle.record_text.specs.declared.versions.Version.{Version}
 use Rattle.record_text.specs.declared.versions.Version.TheVariants.{Second}
-use Rattle.record_laws.specs.Recordings.{told_now}
-use Rattle.record_laws.specs.Runs.{AreKilledRuns, HasAllOf, IsKilledRun, IsRecordOf, no_run, one_more, run_begun}
-use Rattle.record_laws.proofs.Wholes.{Found, whole_found, whole_then}
-use Rattle.record_laws.proofs.Entries.{follow_more, Parts, follow_parts, Grown, follow_grown}
-use Rattle.record_laws.proofs.Stands.{Base, due, Stands, lines_joined, Reached, moments_stand}
-use Rattle.record_laws.proofs.Tells.{is_told, IsTold}
-use Rattle.record_laws.proofs.Views.{view}
+use Rattle.record_text.specs.Recordings.{told_now}
+use Rattle.record_text.specs.Runs.{AreKilledRuns, HasAllOf, IsKilledRun, IsRecordOf, no_run, one_more, run_begun}
+use Rattle.record_text.proofs.Wholes.{Found, whole_found, whole_then}
+use Rattle.record_text.proofs.RunEntries.{follow_more, Parts, follow_parts, Grown, follow_grown}
+use Rattle.record_text.proofs.Stands.{Base, due, Stands, lines_joined, Reached, moments_stand}
+use Rattle.record_text.proofs.Tells.{is_told, IsTold}
+use Rattle.record_text.proofs.Views.{view}
 
 -- ---- what a run begins with
 

@@ -1,10 +1,10 @@
-use Rattle.record_laws.proofs.Names.{[], ◌++◌, ◌∷◌, ◌≡◌, Act, ap, arith, ClientEnd, codes, Connected, Leave, line_read, List, NotResponse, Ok, refl}
-use Rattle.record_laws.proofs.Names.{Response, Result, told_behind, told_between, ℕ}
+use Rattle.record_text.proofs.RunNames.{[], ◌++◌, ◌∷◌, ◌≡◌, Act, ap, arith, ClientEnd, codes, Connected, Leave, line_read, List, NotResponse, Ok, refl}
+use Rattle.record_text.proofs.RunNames.{Response, Result, told_behind, told_between, ℕ}
 use Rattle.dme_line.specs.declared.tags.Tag.TheVariants.{Std}
 use Rattle.line_framing.specs.Framing.{no_bytes}
 use Rattle.client_core.proofs.Readings.{one_response}
-use Rattle.record_laws.specs.ToldExamples.{changing, completed}
-use Rattle.record_laws.proofs.examples.told_rows.Goals as goal
+use Rattle.record_text.specs.ToldExamples.{changing, completed}
+use Rattle.record_text.proofs.run_examples.told_rows.Goals as goal
 use Rattle.dme_line.specs.declared.responses.Mark.{Mark}
 
 -- the client after the line was read as a response

@@ -1,8 +1,8 @@
 -- Entries of acts that are added in pieces, and entries that follow one another.
-use Rattle.record_laws.proofs.Names.{[], ◌++◌, ◌+◌, ◌-◌, ◌∙◌, ◌∷◌, ◌≡◌, ◌≤◌, Act, ap, append-nil, append_assoc, arith, Completed, completed_feature}
-use Rattle.record_laws.proofs.Names.{Completes, contacts, Counted, counted, counted_after, drop, entries_of, Entry, Feature, Follow, Follows}
-use Rattle.record_laws.proofs.Names.{IsLastRun, Kept, length, List, refl, Noted, Serves, slice_get, subst, sym, Wanted, with_completed}
-use Rattle.record_laws.proofs.Names.{with_noted, with_told, ℕ}
+use Rattle.record_text.proofs.RunNames.{[], ◌++◌, ◌+◌, ◌-◌, ◌∙◌, ◌∷◌, ◌≡◌, ◌≤◌, Act, ap, append-nil, append_assoc, arith, Completed, completed_feature}
+use Rattle.record_text.proofs.RunNames.{Completes, contacts, Counted, counted, counted_after, drop, entries_of, Entry, Feature, Follow, Follows}
+use Rattle.record_text.proofs.RunNames.{IsLastRun, Kept, length, List, refl, Noted, Serves, slice_get, subst, sym, Wanted, with_completed}
+use Rattle.record_text.proofs.RunNames.{with_noted, with_told, ℕ}
 use Rattle.record_text.specs.declared.entries.Entry.TheVariants.{Told}
 
 -- ---- entries of acts

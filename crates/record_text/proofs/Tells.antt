@@ -1,18 +1,18 @@
 -- What holds of the reported acts after every list of calls.
-use Rattle.record_laws.proofs.Names.{[], ◌++◌, ◌<◌, ◌∙◌, ◌∷◌, ◌≡◌, Abort, Act, acts_done, acts_more, acts_none, acts_on, ap, append-nil, append_assoc}
-use Rattle.record_laws.proofs.Names.{are_ours, AreUpTo, arith, behind_call, behind_calls, behind_holds, Bool, Call, Client, client_behind}
-use Rattle.record_laws.proofs.Names.{client_connected, ClientEnd, cond, Connected, contacts, contacts_more, done_by, done_on, drop, drop-append_seam}
-use Rattle.record_laws.proofs.Names.{EndsUnfinished, false, false≢true, Feature, Feed, first_touches, Holds, is_apart, IsProgram, Leave, length, List}
-use Rattle.record_laws.proofs.Names.{ltb-true, MadeContact, may_connect, may_read, Meaning, nat_lt, new_client_end, next_number, next_of, plan}
-use Rattle.record_laws.proofs.Names.{plan_touches, Plans, plans_begun, Point, possible, program_has, program_is_plain, progress_new, progress_served}
-use Rattle.record_laws.proofs.Names.{ReadOne, refl, Restart, Resume, Send, Sent, Served, served_sound, served_take, Serves, Sound, subst, suc, sym}
-use Rattle.record_laws.proofs.Names.{Table, Tag, take, take-append_seam, told_behind, told_by, Touch, true, up_to_above, up_to_done, up_to_join, Wanted}
-use Rattle.record_laws.proofs.Names.{with_made, zero, ℕ}
+use Rattle.record_text.proofs.RunNames.{[], ◌++◌, ◌<◌, ◌∙◌, ◌∷◌, ◌≡◌, Abort, Act, acts_done, acts_more, acts_none, acts_on, ap, append-nil, append_assoc}
+use Rattle.record_text.proofs.RunNames.{are_ours, AreUpTo, arith, behind_call, behind_calls, behind_holds, Bool, Call, Client, client_behind}
+use Rattle.record_text.proofs.RunNames.{client_connected, ClientEnd, cond, Connected, contacts, contacts_more, done_by, done_on, drop, drop-append_seam}
+use Rattle.record_text.proofs.RunNames.{EndsUnfinished, false, false≢true, Feature, Feed, first_touches, Holds, is_apart, IsProgram, Leave, length, List}
+use Rattle.record_text.proofs.RunNames.{ltb-true, MadeContact, may_connect, may_read, Meaning, nat_lt, new_client_end, next_number, next_of, plan}
+use Rattle.record_text.proofs.RunNames.{plan_touches, Plans, plans_begun, Point, possible, program_has, program_is_plain, progress_new, progress_served}
+use Rattle.record_text.proofs.RunNames.{ReadOne, refl, Restart, Resume, Send, Sent, Served, served_sound, served_take, Serves, Sound, subst, suc, sym}
+use Rattle.record_text.proofs.RunNames.{Table, Tag, take, take-append_seam, told_behind, told_by, Touch, true, up_to_above, up_to_done, up_to_join, Wanted}
+use Rattle.record_text.proofs.RunNames.{with_made, zero, ℕ}
 use Rattle.protocol_model.specs.declared.plans.Start.{Start}
 use Rattle.client_core.proofs.Fits.{both}
-use Rattle.record_laws.proofs.Sounds.{sound_served, served_ours, serves_count, IsCut, cut_at}
-use Rattle.record_laws.proofs.Views.{View, view, view_by, told_to, none_told, none_anew, with_none, sends_view, aborts_view, read_all}
-use Rattle.record_laws.proofs.Counts.{IsGoing, Grows, grows_told, heard_grows, heard_goes, numbered_done}
+use Rattle.record_text.proofs.RunSounds.{sound_served, served_ours, serves_count, IsCut, cut_at}
+use Rattle.record_text.proofs.Views.{View, view, view_by, told_to, none_told, none_anew, with_none, sends_view, aborts_view, read_all}
+use Rattle.record_text.proofs.Counts.{IsGoing, Grows, grows_told, heard_grows, heard_goes, numbered_done}
 
 -- ---- what was counted on the present connection
 
