@@ -15,7 +15,7 @@ PAGE = ROOT / "docs" / "ARCHITECTURE.md"
 
 CRATES = ROOT / "crates.txt"
 TESTS = "tests and measuring"
-USED_BY_NONE = {"protocol_examples", "dme_program", "dme_c"}
+USED_BY_NONE = {"dme_program", "dme_c"}
 
 
 def read(text):

@@ -10,3 +10,5 @@ pub mod undisturbed_run
 pub mod whole_run
 pub mod worked_rows
 pub mod written_lines
+-- The programs of the examples are what their texts mean.
+pub mod ScriptTexts

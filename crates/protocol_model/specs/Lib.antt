@@ -19,3 +19,8 @@ pub mod Undisturbed
 pub mod Rounds
 pub mod PlainExecution
 pub mod Finishing
+pub mod Scripts
+pub mod Turns
+pub mod Homing
+pub mod Plain
+pub mod PositionExamples

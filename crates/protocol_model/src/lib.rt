@@ -17,26 +17,36 @@
 //! - `readings`: that each line is read as the interface says
 //! - `examples`: what the claim refuses, and which check comes first, as examples that the definitions compute
 //! - `ledger_rows`: what is claimed, next to ledgers that are written out
-//!
-//! Whole scripts, with what they report, are the crate `protocol_examples`.
+//! - `scripts`: scripts where lines are values, played with a simulated machine, and what they report; a server and a client on their own
+//! - `origins`: where features come from
+//! - `homing`: the question whether the machine is homed
+//! - `turns`: when a client is done
+//! - `plain`: what a program plainly measures, and what that asks of the rack and the machine
+//! - `position_examples`: where a plan continues in the steps of a program
 #![tactic(auto)]
 
 pub mod events;
 pub mod examples;
 pub mod held;
+pub mod homing;
 pub mod ledger_rows;
 pub mod lines;
 pub mod machine;
+pub mod origins;
+pub mod plain;
 pub mod plan_laws;
 pub mod plans;
+pub mod position_examples;
 pub mod positions;
 pub mod quiet;
 pub mod readings;
 pub mod replies;
+pub mod scripts;
 pub mod states;
 pub mod streams;
 pub mod tags;
 pub mod theorem;
+pub mod turns;
 pub mod typed;
 pub mod undisturbed;
 
