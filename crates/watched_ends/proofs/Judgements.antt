@@ -4,10 +4,10 @@ use Rattle.std.proofs.lemmas.Bool.{eqb-true}
 use Rattle.std.specs.Prelude.{MatchOption}
 use Rattle.witness.specs.declared.lines.Side.TheVariants.{Client, Server}
 use Rattle.watched_ends.specs.Pieces.{IsOrder}
-use Rattle.witness_judge.specs.Judging.{IsJudged}
-use Rattle.witness_judge.specs.Orders.{Pieces, bytes_of, HasFirst}
-use Rattle.witness_judge.specs.Texts.{judgement_text, judgement_status}
-use Rattle.witness_judge.specs.declared.judgement.Judgement.{Judgement}
+use Rattle.witness.specs.Judging.{IsJudged}
+use Rattle.witness.specs.Orders.{Pieces, bytes_of, HasFirst}
+use Rattle.witness.specs.JudgementTexts.{judgement_text, judgement_status}
+use Rattle.witness.specs.declared.judgement.Judgement.{Judgement}
 use Rattle.watched_ends.specs.Jobs.{IsOrderedJudgement, IsPlainJudgement}
 
 pub found : {A : Type 0} (P : Type 0) (Q : A → Type 0) (o : Option A) (a : A) → o ≡ Some a → MatchOption o P Q → Q a

@@ -14,6 +14,6 @@ pub use Rattle.watched_ends.specs.Turns.{AreLast, AreQuiet, AreTaken, IsAnswer, 
 pub use Rattle.witness.specs.Asking.{client_line, sent, server_line, signal_of}
 pub use Rattle.witness.specs.Watching.{client_lines, IsFirstPast, KeepsFew, ledger, server_lines, Watching}
 pub use Rattle.witness.specs.declared.lines.Side.{Side}
-pub use Rattle.witness_judge.specs.Orders.{bytes_of, Pieces}
+pub use Rattle.witness.specs.Orders.{bytes_of, Pieces}
 pub use Rattle.witness_laws.specs.Orders.{at_once_line, Down, downs, has_failed_under, is_open, is_under, IsBehind, IsCausal, IsClear, IsSure, Line}
 pub use Rattle.witness_laws.specs.Orders.{said, said_all, sends, some_at_once, some_sends, Up, ups}

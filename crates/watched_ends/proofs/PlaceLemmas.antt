@@ -5,7 +5,7 @@ use Rattle.watched_ends.proofs.Names.{list_any, None, Option, refl, sends, sent,
 use Rattle.std.proofs.lemmas.Bool.{false≢true}
 use Rattle.protocol_model.specs.Replies.{tag_is}
 use Rattle.witness.specs.declared.lines.SentCommand.{SentCommand}
-use Rattle.witness_judge.specs.Uses.{found}
+use Rattle.witness.specs.JudgedUses.{found}
 
 same_eqb : (n : ℕ) → (n == n) ≡ true
 same_eqb n = eq-eqb n n refl

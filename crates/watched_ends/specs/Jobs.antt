@@ -5,10 +5,10 @@ use Rattle.watched_ends.specs.Pieces.{IsOrder, IsUnfit}
 use Rattle.watched_ends.specs.Recorded.{IsRecorded}
 use Rattle.watched_ends.specs.declared.recorded.Order as the
 use Rattle.watched_ends.specs.declared.recorded.Order.TheVariants as ordered
-use Rattle.witness_judge.specs.Judging.{IsJudged}
-use Rattle.witness_judge.specs.declared.judgement.Judgement.{Judgement}
-use Rattle.witness_judge.specs.Orders.{Pieces, bytes_of, HasFirst}
-use Rattle.witness_judge.specs.Texts.{judgement_text, judgement_status}
+use Rattle.witness.specs.Judging.{IsJudged}
+use Rattle.witness.specs.declared.judgement.Judgement.{Judgement}
+use Rattle.witness.specs.Orders.{Pieces, bytes_of, HasFirst}
+use Rattle.witness.specs.JudgementTexts.{judgement_text, judgement_status}
 use Rattle.watched_ends.specs.declared.jobs.Job.{Job}
 use Rattle.watched_ends.specs.declared.jobs.Job.TheVariants.{Ledger, Judge}
 

@@ -5,7 +5,7 @@ use Rattle.contact_ledger.specs.Lines.{whole_lines}
 use Rattle.witness.specs.declared.lines.Side.{Side}
 use Rattle.witness.specs.declared.lines.Side.TheVariants.{Client, Server}
 use Rattle.witness.specs.Texts.{side_field}
-use Rattle.witness_judge.specs.Orders.{Pieces, bytes_of, HasFirst, AreOthers}
+use Rattle.witness.specs.Orders.{Pieces, bytes_of, HasFirst, AreOthers}
 use Rattle.watched_ends.specs.Limits.{Limited, fresh, client_came, server_came, IsRead, due_of}
 
 -- the first line of the text

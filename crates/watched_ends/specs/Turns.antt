@@ -4,7 +4,7 @@ use Rattle.dme_line.specs.declared.tags.Tag.{Tag}
 use Rattle.dme_line.specs.declared.responses.Mark.{Mark}
 use Rattle.protocol_model.specs.Readings.{response_of}
 use Rattle.witness.specs.Dialogues.{Dialogue, silence}
-use Rattle.witness_judge.specs.Uses.{found}
+use Rattle.witness.specs.JudgedUses.{found}
 use Rattle.witness_laws.specs.Orders.{Line, Up, said_all, ups, downs, sends, at_once_line, IsCausal, IsClear}
 
 -- a place is before the one that a table has, if it has one

@@ -1,12 +1,12 @@
 // What is printed of two recordings.
 
 ghost use Rattle.std.specs.Prelude.{◌≡◌, ◌≢◌, [], IfOk};
-ghost use Rattle.witness_judge.specs.Texts.{judgement_text, judgement_status};
+ghost use Rattle.witness.specs.JudgementTexts.{judgement_text, judgement_status};
 ghost use Rattle.watched_ends.specs.Jobs as spec;
 
 use crate::{Job, Order, read_order, recorded_text};
 use std::alloc::{AllocError, Global};
-use witness_judge::{Judgement, first_bytes, judge, write_judgement};
+use witness::{Judgement, first_bytes, judge, write_judgement};
 
 /// The text of a judgement, and its status. Fails only if out of memory.
 fn text_of(alloc: Global, judgement: &Judgement) -> Result<(Vec<u8>, u8), AllocError>

@@ -7,8 +7,7 @@ ghost use Rattle.watched_ends.specs.Pieces as spec;
 use crate::limits::LimitedRelay;
 use crate::pieces::read_order;
 use std::alloc::{AllocError, Global};
-use witness::{HEADER, Side};
-use witness_judge::first_bytes;
+use witness::{HEADER, Side, first_bytes};
 
 fn came_text(
     alloc: Global,

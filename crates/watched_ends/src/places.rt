@@ -7,8 +7,8 @@ ghost use Rattle.watched_ends.specs.Turns as spec;
 use dme_line::Tag;
 use line_framing::Line;
 use std::alloc::{AllocError, Global};
+use witness::tables::{look, put};
 use witness::{foreign_event, sent};
-use witness_judge::tables::{look, put};
 
 /// Notes the tag of a line of the client, at a place: the place after the last line that may be carried out at once, which was `quiet` above this
 /// one. Fails only if out of memory.

@@ -23,3 +23,15 @@ pub mod SameRuns
 pub mod ToldFronts
 pub mod ToldLaws
 pub mod ToldReads
+pub mod JudgementNames
+pub mod Lists
+pub mod TextLemmas
+pub mod FirstBreaks
+pub mod Moments
+pub mod Notes
+pub mod Links
+pub mod TagTables
+pub mod AboveLemmas
+pub mod Fronts
+pub mod JudgedStandings
+pub mod OrderLemmas

@@ -15,3 +15,13 @@ pub mod Parts
 pub mod Runs
 pub mod ToldTexts
 pub mod ToldNames
+pub mod JudgedLines
+pub mod JudgedUses
+pub mod ClientRules
+pub mod ServerRules
+pub mod Counts
+pub mod Orders
+pub mod Judging
+pub mod JudgementTexts
+pub mod JudgementExamples
+pub mod JudgementNames

@@ -1,5 +1,5 @@
 use Rattle.std.proofs.Common.{true, false, subst}
-use Rattle.witness_judge.specs.Orders.{HasFirst}
+use Rattle.witness.specs.Orders.{HasFirst}
 use Rattle.watched_ends.proofs.Judgements.{found, ordered}
 use Rattle.watched_ends.proofs.answering.ordered_judgement.Goals as goal
 

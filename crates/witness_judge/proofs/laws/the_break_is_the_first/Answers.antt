@@ -1,9 +1,0 @@
-use Rattle.witness_judge.specs.Names.{client_rule, server_rule}
-use Rattle.witness_judge.proofs.FirstBreaks.{is_first}
-use Rattle.witness_judge.proofs.laws.the_break_is_the_first.Goals as goal
-
-pub returns-clause-client : goal.returns-clause-client
-returns-clause-client c = λ seen up down. is_first (client_rule seen up down) up
-
-pub returns-clause-server : goal.returns-clause-server
-returns-clause-server c = λ seen up down. is_first (server_rule seen up) down
