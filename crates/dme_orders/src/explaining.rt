@@ -1,13 +1,13 @@
 // What a refusal means is printed.
 
 ghost use Rattle.std.specs.Prelude.{[], ◌<◌, length, IfOk};
-ghost use Rattle.refusal_guide.specs.Codes.{WritesPage};
+ghost use Rattle.program_review.specs.Codes.{WritesPage};
 ghost use Rattle.dme_orders.specs.Orders.{went, Prints};
 
 use crate::simulating::write_text;
 use byte_ports::Sink;
 use order_parts::FilesFault;
-use refusal_guide::{Topic, write_page};
+use program_review::{Topic, write_page};
 use std::alloc::{AllocError, Global};
 
 fn text_of(alloc: Global, topic: Topic) -> Result<Vec<u8>, AllocError>

@@ -2,8 +2,8 @@
 
 use contact_ledger::{FeatureLedger, ServerLedger, read_features};
 use dmis_program::{Frames, Program};
+use program_review::{InputFiles, write_audit, write_other_program};
 use record_text::{Record, read_record};
-use refusal_guide::{InputFiles, write_audit, write_other_program};
 use std::alloc::{AllocError, Global};
 use tool_rack::Setup;
 use witness::{

@@ -14,7 +14,7 @@ use dme_words::Loop;
 use effects::Cause;
 use link_world::LoopPorts;
 use order_parts::{ConnectionEnd, FilesFault, OrderFault};
-use refusal_guide::InputFiles;
+use program_review::InputFiles;
 use run_opening::lacking_lines;
 use session_telling::{Side, why_unconnected};
 use std::io::{self, ErrorKind};

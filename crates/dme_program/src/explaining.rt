@@ -3,7 +3,7 @@
 use crate::files::NamedSource;
 use dme_orders::{audit_notes, other_program_notes, read_key};
 use order_parts::FilesFault;
-use refusal_guide::{InputFiles, place_of, shown_fault};
+use program_review::{InputFiles, place_of, shown_fault};
 use std::alloc::AllocError;
 use std::io::Write;
 

@@ -12,7 +12,7 @@ use dme_words::{BatchSummary, Export, PartReport, RecordExport, RecordForm, Summ
 use dmis_program::Program;
 use order_parts::FilesFault;
 use part_summary::{Form, Summary, uncounted_line};
-use refusal_guide::{InputFiles, Topic};
+use program_review::{InputFiles, Topic};
 use std::alloc::AllocError;
 use std::io::{self, Write};
 

@@ -5,7 +5,7 @@ ghost use Rattle.std.specs.Prelude.{◌≡◌, ◌≤◌, is_some, length, None,
 use byte_ports::{Failed, Source};
 use dme_hands::Open;
 use effects::Place;
-use refusal_guide::{InputFile, InputFiles};
+use program_review::{InputFile, InputFiles};
 use std::io;
 
 /// A file of an order, by its name, or standard input. It is opened at its first pull, so that files are refused in the order in

@@ -22,8 +22,7 @@ use dme_orders::{
 use dme_words::{Audit, Check, Lower, Order, RecordAudit, Review, Simulation, read_words};
 use order_parts::{FilesFault, status};
 use program_lowering::{Choices, SourceNames, lower_program};
-use program_review::{FindingForm, FindingStyle};
-use refusal_guide::{InputFile, InputFiles};
+use program_review::{FindingForm, FindingStyle, InputFile, InputFiles};
 use std::alloc::{AllocError, Global};
 use std::env;
 use std::io::{self, Write};

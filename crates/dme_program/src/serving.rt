@@ -11,7 +11,7 @@ use dme_hands::RealHands;
 use dme_orders::read_setup;
 use dme_words::{Run, Service, Watch};
 use effects::{Comparison, NamedFiles};
-use refusal_guide::InputFiles;
+use program_review::InputFiles;
 use run_opening::Opening;
 use services::{Relay, RelaySession, Service as Values, Session};
 use std::alloc::AllocError;

@@ -14,9 +14,9 @@ use Rattle.clap.specs.declared.builder.value_parser.ValueParser.{ValueParser}
 use Rattle.clap.specs.declared.builder.value_parser.ValueParser.TheVariants.{Bool as OfBool, Signed}
 use Rattle.clap.specs.Words.{IsAmong, IsSignedIn, Row, Text, all_of, fault_of, first_of, kind_of, one_of, subcommand_of, without_minus}
 use Rattle.client_core.specs.Clients.{is_window}
-use Rattle.refusal_guide.specs.Codes.{is_code_of}
+use Rattle.program_review.specs.Codes.{is_code_of}
 use Rattle.record_text.specs.Heads.{IsPart, IsPartGiven}
-use Rattle.refusal_guide.specs.declared.topics.Topic.{Topic}
+use Rattle.program_review.specs.declared.topics.Topic.{Topic}
 use Rattle.deviations.specs.declared.forms.Form.TheVariants.{Csv, Json, Svg}
 use Rattle.dme_words.specs.Folders.{part_record}
 use Rattle.dme_words.specs.CommandLine.{audit_line, check_line, explain_line, export_line, judge_line, ledger_line, loop_line, lower_line, report_line, run_line, serve_line, simulate_line, watch_line, whole_line}

@@ -1,7 +1,7 @@
 // What the words of a command line ask for.
 
 use deviations::{Form, TableOptions};
-use refusal_guide::Topic;
+use program_review::Topic;
 
 /// What the words of a command line ask for, with its values.
 #[derive(Debug, Drop)]

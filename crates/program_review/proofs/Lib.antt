@@ -5,3 +5,12 @@ pub mod TaskSteps
 pub mod TaskPlaces
 pub mod PlanLineLemmas
 pub mod TextPlaces
+pub mod Outside
+pub mod Feeds
+pub mod LineSteps
+pub mod PlaceLemmas
+pub mod Searches
+pub mod BlockLemmas
+pub mod ReasonLemmas
+pub mod ArgumentLemmas
+pub mod NumeralLemmas

@@ -1,5 +1,8 @@
 //! What stands between a DMIS program (ISO 22093) and its run, all at once, and the report on it.
 //!
+//! Also what each refusal of `dme` means and what to do about it: the codes of this profile, and the numbers of a server's errors. For a text
+//! that is refused, also its line and the word at fault.
+//!
 //! - `readings`: a program's text, read once
 //! - `refusals`: every refusal of a text; `standing`: what is carried from statement to statement
 //! - `notices`: statements that are passed over though they change something
@@ -15,38 +18,73 @@
 //! - `tasks`: the statements that a client carries out by commands, and their lines
 //! - `texts`: texts for the operator, and what a run holds back at them
 //! - `laws`: what follows from the definitions
+//! - `topics`: what is refused by a code: what it means, what to do, and a line as it should be
+//! - `places`: the line of a text that is refused, with a sentence on it, or the sentence by itself
+//! - `lines`, `words`: a line and a word as they are shown
+//! - `causes`: why a text is refused, and how it is said
+//! - `programs`: the sentences of programs; `statements`, `blocks`, `bad_bytes`: what they are about; `arguments`, `numerals`, `bad_names`: why
+//!   a parameter does not fit
+//! - `fields`: lines of fields, and the sentences of setups, limits and schedules; `ledgers`, `records`: those of the other texts
+//! - `strangers`: why a record is of another part or program; `touches`: in what two touches differ
+//! - `audits`: what an audit found
+//! - `examples`: places and causes that are written out
 #![tactic(auto)]
 
+mod arguments;
+mod audits;
+mod bad_bytes;
+mod bad_names;
+mod blocks;
+mod causes;
+pub mod examples;
+mod fields;
+mod files;
 mod groups;
 pub mod laws;
+mod ledgers;
+mod lines;
 mod notices;
+mod numerals;
 mod odd;
+mod places;
 mod printing;
+mod programs;
 mod readings;
 mod recalling;
+mod records;
 mod refusals;
 mod remarks;
 mod reports;
 mod sentences;
 mod standing;
+mod statements;
+mod strangers;
 mod strays;
 mod summary;
 mod tasks;
 mod texts;
+mod topics;
+mod touches;
 mod travels;
 mod under_setup;
 mod variables;
 mod walking;
+mod words;
 
+pub use audits::write_audit;
+pub use files::{InputFile, InputFiles, place_of, shown_fault};
 pub use groups::{Group, is_among, is_text};
 pub use notices::{Passed, begins_with};
 pub use odd::Odd;
+pub use places::{Passage, write_place, write_sentence};
 pub use printing::{FindingForm, FindingStyle};
 pub use readings::{Reading, read};
 pub use remarks::{Remark, What};
 pub use reports::{Report, ReviewTexts, review_report};
+pub use strangers::{write_other_part, write_other_program};
 pub use tasks::{Task, TaskLine, command_lines, task_lines};
 pub use texts::{OperatorText, Waits, is_operator_text, operator_texts, text_places};
+pub use topics::{Topic, write_page};
 pub use travels::{Stop, Travel};
 pub use under_setup::{Lack, lacking_for};
 pub use variables::without_cart;

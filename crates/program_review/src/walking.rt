@@ -5,11 +5,11 @@ ghost use Rattle.program_review.specs.Findings.{remarks_in};
 ghost use Rattle.program_review.specs.Remarks.{with_counts};
 
 use crate::odd::Odd;
+use crate::places::{Passage, write_sentence};
 use crate::remarks::{Finding, Remark, What, counted};
 use crate::sentences::{statement_sentence, travel_sentence};
 use dmis_program::{Keyword, Refusal, keyword_of_word};
 use dmis_text::{Statement, cut_line};
-use refusal_guide::{Passage, write_sentence};
 use std::alloc::{AllocError, Global};
 
 /// The most bytes of a program, from a refused line on, that its sentence is looked for in.

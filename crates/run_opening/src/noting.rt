@@ -6,8 +6,8 @@ ghost use Rattle.run_opening.specs.Noting.{identified};
 
 use crate::openings::Opening;
 use dme_words::{COMMIT, VERSION};
+use program_review::InputFile;
 use record_text::{Note, digest_of};
-use refusal_guide::InputFile;
 use run_session::Noted;
 use session_telling::visible;
 use std::alloc::{AllocError, Global};

@@ -11,8 +11,7 @@ use contact_ledger::{FeatureLedger, TextFault, read_features};
 use dmis_program::{Frames, Program, ProgramFault};
 use effects::Answer;
 use order_parts::{FilesFault, OrderFault, Role, RunEnding, last_line};
-use program_review::{operator_texts, read, task_lines};
-use refusal_guide::InputFile;
+use program_review::{InputFile, operator_texts, read, task_lines};
 use std::alloc::AllocError;
 use tool_rack::{Setup, SetupFault};
 

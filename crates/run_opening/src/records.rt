@@ -10,8 +10,8 @@ use contact_ledger::Feature;
 use dmis_program::Program;
 use effects::Answer;
 use order_parts::{FilesFault, OrderFault};
+use program_review::{write_other_part, write_other_program, write_place};
 use record_text::{Beginning, RecordFault, RecordRefusal, begin_record, false_seal, read_record};
-use refusal_guide::{write_other_part, write_other_program, write_place};
 use std::alloc::{AllocError, Global};
 
 /// Whether the features of a file are the first of those that a record gives back.

@@ -6,7 +6,7 @@ ghost use Rattle.run_opening.specs.Openings as spec;
 use crate::openings::Opening;
 use crate::stages::Stage;
 use order_parts::{Counts, FilesFault, LastLine, OrderFault};
-use refusal_guide::{InputFiles, place_of, shown_fault};
+use program_review::{InputFiles, place_of, shown_fault};
 use std::alloc::AllocError;
 
 impl Opening {

@@ -1,0 +1,42 @@
+-- Which measurement block is open before a line (ISO 22093, `MEAS`, `PTMEAS` and `ENDMES`).
+use Rattle.std.specs.Prelude.{ℕ, ◌+◌, ◌-◌, ◌^◌, List, fold, take_while, min, nat_lt, codes, Option, None, slice_get, if◌then◌else◌}
+use Rattle.std.specs.Option.{option_map}
+use Rattle.std.specs.Str.{bytes_eq}
+use Rattle.dmis_text.specs.Reading.{text_reading}
+use Rattle.dmis_text.specs.declared.elements.Statement.{Statement}
+use Rattle.program_review.specs.declared.blocks.Block.{Block}
+
+-- an open block: the line of its `MEAS`, the count that it names, as it is written there, and how many touches it has
+pub record OpenBlock : Type 0 where
+  pub line : ℕ
+  pub wanted : List ℕ
+  pub touches : ℕ
+
+-- how the code keeps it
+abbrev pub opened_by : Block → OpenBlock
+opened_by block = record { line = block.line; wanted = block.wanted.items; touches = block.touches }
+
+-- the nearest number that 64 bits can hold
+abbrev pub in_64_bits : ℕ → ℕ
+in_64_bits n = min n (2 ^ 64 - 1)
+
+-- a `MEAS` names its count in its third parameter
+abbrev pub begun : Statement → Option OpenBlock
+begun s = option_map (λ count. record { line = s.line; wanted = count; touches = 0 }) (slice_get s.params 2)
+
+-- one touch more
+abbrev pub one_touch_more : OpenBlock → OpenBlock
+one_touch_more block = record { line = block.line; wanted = block.wanted; touches = in_64_bits (block.touches + 1) }
+
+-- the open block after a statement, if this one is open before it
+abbrev pub block_after : Option OpenBlock → Statement → Option OpenBlock
+block_after block s = if bytes_eq s.word (codes "MEAS") then begun s else if bytes_eq s.word (codes "ENDMES") then None else
+    if bytes_eq s.word (codes "PTMEAS") then option_map one_touch_more block else block
+
+-- the statements that begin above line n
+abbrev pub above_line : ℕ → List Statement → List Statement
+above_line n statements = take_while (λ s. nat_lt s.line n) statements
+
+-- the block that is open before line n of a text
+unfoldable pub open_block : List ℕ → ℕ → Option OpenBlock
+open_block text n = fold block_after None (above_line n (text_reading text).statements)

@@ -1,0 +1,58 @@
+// Why a text is not a name.
+
+ghost use Rattle.std.specs.Prelude.{◌≡◌, IfOk};
+ghost use Rattle.std.specs.Option.{option_map};
+ghost use Rattle.fixed_um.specs.Names.{is_name_text};
+ghost use Rattle.program_review.specs.Words.{named_by, caused_by};
+ghost use Rattle.program_review.specs.BadNames.{leftmost_byte, name_cause, name_reason};
+
+use crate::causes::Cause;
+use crate::words::{Explained, Word};
+use fixed_um::Name;
+use std::alloc::{AllocError, Global};
+
+/// The most bytes that a name has (this profile).
+const LONGEST_NAME: usize = 64;
+
+fn is_name(alloc: Global, text: &[u8]) -> Result<bool, AllocError>
+    ensures { IfOk result (λ named. named ≡ is_name_text text.now) }
+{
+    Ok(Name::new(alloc, text)?.is_some())
+}
+
+fn leftmost_byte(alloc: Global, text: &[u8]) -> Result<Option<u8>, AllocError>
+    ensures { IfOk result (λ byte. byte ≡ leftmost_byte text.now) }
+{
+    for byte in text {
+        if !is_name(alloc, &[*byte])? {
+            return Ok(Some(*byte));
+        }
+    }
+    Ok(None)
+}
+
+fn name_cause(alloc: Global, text: &[u8]) -> Result<Cause, AllocError>
+    ensures { IfOk result (λ cause. cause ≡ name_cause text.now) }
+{
+    if text.is_empty() {
+        return Ok(Cause::NoName);
+    }
+    if text.len() > LONGEST_NAME {
+        return Ok(Cause::LongName(text.len()));
+    }
+    match leftmost_byte(alloc, text)? {
+        Some(byte) => Ok(Cause::NameByte(byte)),
+        None => Ok(Cause::NotName),
+    }
+}
+
+/// Why a text, which is this word, is not a name; none if it is one.
+pub(crate) fn name_reason(alloc: Global, text: &[u8], word: Word) -> Explained
+    ensures { IfOk result (λ reason. option_map caused_by reason
+        ≡ name_reason text.now (named_by word.entry)) }
+{
+    if is_name(alloc, text)? {
+        return Ok(None);
+    }
+    word.because(alloc, name_cause(alloc, word.bytes)?, "")
+}

@@ -1,9 +1,0 @@
-pub mod Outside
-pub mod Feeds
-pub mod LineSteps
-pub mod PlaceLemmas
-pub mod Searches
-pub mod BlockLemmas
-pub mod ReasonLemmas
-pub mod ArgumentLemmas
-pub mod NumeralLemmas

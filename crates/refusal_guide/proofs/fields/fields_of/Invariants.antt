@@ -1,6 +1,0 @@
-use Rattle.std.proofs.Common.{length}
-use Rattle.tool_rack.specs.Fields.{fields_of}
-use Rattle.refusal_guide.proofs.fields.fields_of.Given as goal
-
-abbrev pub decreases-loop-bytes : goal.decreases-loop-bytes
-decreases-loop-bytes l = length (fields_of l.rest)

@@ -1,7 +1,0 @@
-use Rattle.std.proofs.Common.{◌≡◌, drop}
-use Rattle.refusal_guide.specs.BadNames.{leftmost_byte}
-use Rattle.refusal_guide.proofs.names.leftmost_byte.Given as goal
-
--- the bytes so far can be in a name
-abbrev pub invariant-loop-byte : goal.invariant-loop-byte
-invariant-loop-byte l = leftmost_byte (drop l.byte-index l.text) ≡ leftmost_byte l.text
