@@ -5,7 +5,7 @@ use Rattle.std.specs.Prelude.{◌==◌, ◌&&◌, ◌||◌, not, bytes_eq, codes
 use Rattle.dmis_text.specs.Reading.{text_reading}
 use Rattle.dmis_text.specs.declared.elements.Statement.{Statement}
 use Rattle.dmis_text.specs.declared.reading.TextFault.{TextFault}
-use Rattle.program_values.specs.LookBack.{value_said}
+use Rattle.program_flow.specs.LookBack.{value_said}
 use Rattle.program_flow.specs.Calls as calls
 use Rattle.program_flow.specs.Calls.{Frame, Step, call_by, call_of, ended_by, fits, given_up_in, is_call, is_open, leave_frame, step, step_at}
 use Rattle.program_flow.specs.Macros.{Macro, Pair, all_with_arguments, begins_macro, body_of, both_or_none, ends_macro, has_end, has_label, macro_after, macro_name}
@@ -23,7 +23,7 @@ use Rattle.program_flow.specs.declared.blocks.Part.TheVariants.{If, Else, EndIf,
 use Rattle.program_flow.specs.declared.selections.Choice.{Choice}
 use Rattle.program_flow.specs.declared.selections.Choice.TheVariants.{Branch, NoBranch}
 use Rattle.program_flow.specs.Selections.{chosen, selected}
-use Rattle.program_values.specs.Numbers.{Fraction}
+use Rattle.program_flow.specs.Numbers.{Fraction}
 use Rattle.program_flow.proofs.Frames.{call-done, call-step}
 
 module _ (Q : Statement → Type 0) (assigned : (s a : Statement) → Q s → bytes_eq a.word (codes "ASSIGN") ≡ true → a.line ≡ s.line → Q a) where

@@ -2,8 +2,8 @@
 use Rattle.std.proofs.Common.{◌≡◌, ◌∙◌, ℕ, zero, suc, ◌+◌, ◌<◌, ◌≤◌, List, [], ◌∷◌, ◌++◌, IfOk, arith, cond, drop, length, refl, ap, subst, sym}
 use Rattle.std.specs.Prelude.{◌||◌, Err, None, Ok, Option, Result, Some}
 use Rattle.dmis_text.specs.declared.elements.Statement.{Statement}
-use Rattle.program_values.specs.LookBack.{Holds, value_said}
-use Rattle.program_values.specs.Variables.{Entry, entry_value}
+use Rattle.program_flow.specs.LookBack.{Holds, value_said}
+use Rattle.program_flow.specs.Variables.{Entry, entry_value}
 use Rattle.program_flow.specs.Calls.{Frame, Step, call_by, call_of, decision_at, ended_by, given_up_in, is_call, lifted, next_of, step, step_at, told_as, told_step}
 use Rattle.program_flow.specs.Calls.{trace, traced}
 use Rattle.program_flow.specs.Calls.Step.{Ends, Stops, Passes, Gives}

@@ -7,3 +7,11 @@ pub mod Plain
 pub mod Comes
 pub mod Bodies
 pub mod SaidLines
+pub mod Divisors
+pub mod ValueSteps
+pub mod WholeRoots
+pub mod Series
+pub mod NearAngles
+pub mod HaveValues
+pub mod Tables
+pub mod Carrying

@@ -3,7 +3,7 @@ use Rattle.std.proofs.Common.{◌≡◌, ℕ, zero, suc, ◌+◌, ◌<◌, Bool,
 use Rattle.std.specs.Prelude.{◌||◌, not}
 use Rattle.std.specs.List.{AllByRecursion}
 use Rattle.dmis_text.specs.declared.elements.Statement.{Statement}
-use Rattle.program_values.specs.LookBack.{value_said}
+use Rattle.program_flow.specs.LookBack.{value_said}
 use Rattle.program_flow.specs.Calls.{Frame, Step, begun, decision_at, is_call, is_plain, lifted, next_of, step, told_as}
 use Rattle.program_flow.specs.Calls as calls
 use Rattle.program_flow.specs.Flow.{Control, Turn, Valuation, carried, to}

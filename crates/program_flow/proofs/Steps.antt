@@ -1,9 +1,9 @@
 -- Definitions by a number that counts down, one step at a time.
 use Rattle.std.proofs.Common.{◌≡◌, ℕ, zero, suc, ◌<◌, ◌-◌, arith, refl, sym, ap, ◌∙◌}
 use Rattle.std.specs.Prelude.{Result, Err, List}
-use Rattle.program_values.specs.Numbers.{Fraction}
-use Rattle.program_values.specs.declared.faults.ValueFault.{ValueFault}
-use Rattle.program_values.specs.declared.faults.ValueFault.TheVariants.{TooDeep}
+use Rattle.program_flow.specs.Numbers.{Fraction}
+use Rattle.program_flow.specs.declared.faults.ValueFault.{ValueFault}
+use Rattle.program_flow.specs.declared.faults.ValueFault.TheVariants.{TooDeep}
 use Rattle.std.proofs.Common.{[], ◌∷◌, ◌≤◌, Bool, cond, false, length, true}
 use Rattle.std.specs.Prelude.{bytes_eq, codes, drop, get_or, is_some, None, Option, Some}
 use Rattle.dmis_text.specs.Reading.{Reading, text_reading}

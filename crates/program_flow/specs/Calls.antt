@@ -7,8 +7,8 @@ use Rattle.std.specs.Fmt.{digits_onto}
 use Rattle.std.specs.List.{list_all}
 use Rattle.dmis_text.specs.Reading.{Reading}
 use Rattle.dmis_text.specs.declared.elements.Statement.{Statement}
-use Rattle.program_values.specs.LookBack.{value_said}
-use Rattle.program_values.specs.Values.{is_variable}
+use Rattle.program_flow.specs.LookBack.{value_said}
+use Rattle.program_flow.specs.Values.{is_variable}
 use Rattle.program_flow.specs.Blocks.{part_of}
 use Rattle.program_flow.specs.declared.blocks.Part.{Part}
 use Rattle.program_flow.specs.declared.blocks.Part.TheVariants.{If, Select, Jump}

@@ -2,11 +2,11 @@
 use Rattle.std.specs.Prelude.{ℕ, zero, suc, ◌+◌, ◌-◌, Bool, not, ◌&&◌, ◌||◌, ◌==◌, nat_eq, List, [], ◌∷◌, length, take, drop, codes, slice_index}
 use Rattle.std.specs.Prelude.{Option, Some, None, Result, Ok, Err, ℤ, pos, int_lt, unsigned_abs, if◌then◌else◌}
 use Rattle.std.specs.List.{starts_with}
-use Rattle.program_values.specs.Numbers.{Fraction, and_then, opposite, sum}
-use Rattle.program_values.specs.Parts.{depth_after, later, trimmed}
-use Rattle.program_values.specs.Values.{value_of}
-use Rattle.program_values.specs.declared.faults.ValueFault.{ValueFault}
-use Rattle.program_values.specs.declared.faults.ValueFault.TheVariants.{NotExpression, TooDeep}
+use Rattle.program_flow.specs.Numbers.{Fraction, and_then, opposite, sum}
+use Rattle.program_flow.specs.Parts.{depth_after, later, trimmed}
+use Rattle.program_flow.specs.Values.{value_of}
+use Rattle.program_flow.specs.declared.faults.ValueFault.{ValueFault}
+use Rattle.program_flow.specs.declared.faults.ValueFault.TheVariants.{NotExpression, TooDeep}
 use Rattle.program_flow.specs.declared.conditions.Comparison.{Comparison}
 use Rattle.program_flow.specs.declared.conditions.Comparison.TheVariants.{Below, AtMost, Equal, Unequal, AtLeast, Above}
 

@@ -7,11 +7,11 @@ use Rattle.std.specs.Result.{result_ok}
 use Rattle.dmis_text.specs.Reading.{text_reading}
 use Rattle.dmis_text.specs.declared.elements.Statement.{Statement}
 use Rattle.dmis_text.specs.declared.reading.TextFault.{TextFault}
-use Rattle.program_values.specs.LookBack.{fault_of, kind_said, value_said}
-use Rattle.program_values.specs.Numbers.{Fraction, and_then}
-use Rattle.program_values.specs.Texts.{whole_of}
-use Rattle.program_values.specs.Values.{value_of}
-use Rattle.program_values.specs.declared.faults.ValueFault.{ValueFault}
+use Rattle.program_flow.specs.LookBack.{fault_of, kind_said, value_said}
+use Rattle.program_flow.specs.Numbers.{Fraction, and_then}
+use Rattle.program_flow.specs.Texts.{whole_of}
+use Rattle.program_flow.specs.Values.{value_of}
+use Rattle.program_flow.specs.declared.faults.ValueFault.{ValueFault}
 use Rattle.program_flow.specs.Blocks.{around, end_of, is_level, label_place, part_of, start_of}
 use Rattle.program_flow.specs.Conditions.{holds}
 use Rattle.program_flow.specs.Selections.{chosen, selected}

@@ -12,3 +12,15 @@ pub mod Left
 pub mod Stepped
 pub mod Examples
 pub mod CallExamples
+pub mod Numbers
+pub mod Roots
+pub mod Nearness
+pub mod Angles
+pub mod Parts
+pub mod ValueCuts
+pub mod Values
+pub mod Variables
+pub mod ValueExamples
+pub mod LookBack
+pub mod Carried
+pub mod Texts

@@ -6,8 +6,8 @@ use Rattle.dmis_text.specs.Reading.{text_reading}
 use Rattle.dmis_text.specs.declared.elements.Statement.{Statement}
 use Rattle.dmis_text.specs.declared.reading.TextFault.{TextFault}
 use Rattle.std.specs.List.{position}
-use Rattle.program_values.specs.Parts.{trimmed}
-use Rattle.program_values.specs.Values.{is_name_byte}
+use Rattle.program_flow.specs.Parts.{trimmed}
+use Rattle.program_flow.specs.Values.{is_name_byte}
 use Rattle.program_flow.specs.Blocks.{is_label}
 
 -- ---- parameters

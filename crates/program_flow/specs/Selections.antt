@@ -2,9 +2,9 @@
 use Rattle.std.specs.Prelude.{ℕ, zero, suc, ◌+◌, Bool, true, false, not, ◌&&◌, List, [], ◌∷◌, Option, Some, None, Result, if◌then◌else◌}
 use Rattle.std.specs.Result.{result_ok}
 use Rattle.dmis_text.specs.declared.elements.Statement.{Statement}
-use Rattle.program_values.specs.Numbers.{Fraction, and_then}
-use Rattle.program_values.specs.Values.{value_of}
-use Rattle.program_values.specs.declared.faults.ValueFault.{ValueFault}
+use Rattle.program_flow.specs.Numbers.{Fraction, and_then}
+use Rattle.program_flow.specs.Values.{value_of}
+use Rattle.program_flow.specs.declared.faults.ValueFault.{ValueFault}
 use Rattle.program_flow.specs.Blocks.{depth_after, is_end, matches, part_of}
 use Rattle.program_flow.specs.Conditions.{compared}
 use Rattle.program_flow.specs.declared.blocks.Part.{Part}

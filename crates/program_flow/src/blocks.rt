@@ -1,9 +1,10 @@
 // The blocks of a text and its labels.
 
-ghost use Rattle.std.specs.Prelude.{◌≡◌, ◌<◌, ◌+◌, ◌^◌, ◌≤◌, bytes_eq, drop, take, length, IfSome};
+ghost use Rattle.std.specs.Prelude.{◌≡◌, ◌<◌, ◌+◌, ◌^◌, ◌≤◌, drop, take, length, IfSome};
 ghost use Rattle.dmis_text.specs.declared.elements.Statement.{Statement};
 ghost use Rattle.program_flow.specs.Blocks as spec;
 
+use crate::values::is_text;
 use dmis_text::{Statement, Text};
 
 /// What a statement is to the flow.
@@ -47,12 +48,6 @@ pub enum Move {
     Enter(Block),
     Leave(usize),
     Jump(usize),
-}
-
-fn is_text(text: &[u8], other: &str) -> bool
-    ensures { result ≡ bytes_eq text.now other.now }
-{
-    text == other.as_bytes()
 }
 
 pub(crate) fn is_label(word: &[u8]) -> bool

@@ -21,7 +21,7 @@ pub fn macros_are_called()
 {}
 
 /// Blocks may be around a call, and in a macro.
-#[tactic(auto, unfolding(crate::specs::Calls::line_digits, crate::specs::Calls::trace, crate::specs::Calls::step, crate::specs::Macros::outside_after, crate::specs::Macros::macro_after, crate::specs::Macros::replaced_after, crate::specs::Macros::said_by, crate::specs::Flow::turn, crate::specs::Blocks::part_of, crate::specs::Flow::assignment, crate::specs::Flow::is_kept, crate::specs::Blocks::end_of, crate::specs::Conditions::holds_within, crate::specs::Conditions::parts_of, program_values::specs::Values::value_within, program_values::specs::Values::numeral_value, program_values::specs::Parts::parts_of, program_values::specs::Numbers::reduced, program_values::specs::Numbers::gcd_within))]
+#[tactic(auto, unfolding(crate::specs::Calls::line_digits, crate::specs::Calls::trace, crate::specs::Calls::step, crate::specs::Macros::outside_after, crate::specs::Macros::macro_after, crate::specs::Macros::replaced_after, crate::specs::Macros::said_by, crate::specs::Flow::turn, crate::specs::Blocks::part_of, crate::specs::Flow::assignment, crate::specs::Flow::is_kept, crate::specs::Blocks::end_of, crate::specs::Conditions::holds_within, crate::specs::Conditions::parts_of, crate::specs::Values::value_within, crate::specs::Values::numeral_value, crate::specs::Parts::parts_of, crate::specs::Numbers::reduced, crate::specs::Numbers::gcd_within))]
 pub fn calls_and_blocks_nest()
     ensures in_a_loop { lines_of (declared
         ∷ (on 2 (codes "DO") (codes "I" ∷ (codes "1" ∷ (codes "2" ∷ [])))

@@ -3,8 +3,8 @@
 ghost use Rattle.std.specs.Prelude.{◌≡◌, ◌∷◌, ◌||◌, ◌+◌, ℕ, List, IfOk, IsTrue, Some, bytes_eq, drop, is_some, length, map, [], true};
 ghost use Rattle.std.specs.List.{list_all};
 ghost use Rattle.dmis_text.specs.declared.elements.Statement.{Statement};
-ghost use Rattle.program_values.specs.Variables.{entry_value};
-ghost use Rattle.program_values.specs.Values.{all_name_bytes, is_variable};
+ghost use Rattle.program_flow.specs.Variables.{entry_value};
+ghost use Rattle.program_flow.specs.Values.{all_name_bytes, is_variable};
 ghost use Rattle.program_flow.specs.Blocks.{part_of};
 ghost use Rattle.program_flow.specs.declared.blocks.Part.TheVariants.{Other};
 ghost use Rattle.program_flow.specs.Calls as spec;
@@ -17,11 +17,12 @@ ghost use Rattle.program_flow.specs.Turns.{turned};
 use crate::arguments::{lines_with_arguments, pairs_of};
 use crate::blocks::{Move, Part, from, part_of};
 use crate::lines::{Line, read_lines};
-use crate::macros::{Macro, begins_macro, ends_macro, is_call, is_name_byte, macro_named};
+use crate::macros::{Macro, begins_macro, ends_macro, is_call, macro_named};
 use crate::positions::Position;
 use crate::turns::{Header, Turned, assigned_text, turn};
+use crate::values::is_name_byte;
+use crate::variables::Variables;
 use dmis_text::{Statement, Statements, Text, TextFault};
-use program_values::Variables;
 use std::alloc::{AllocError, Global};
 
 /// A macro that is open: its statements with the arguments in the places of the parameters, and where the flow is there.

@@ -2,12 +2,17 @@
 
 ghost use Rattle.std.specs.Prelude.{◌≡◌, ◌<◌, ◌≤◌, ◌+◌, ◌^◌, ◌==◌, IfSome, length, int_lt, pos, unsigned_abs};
 ghost use Rattle.std.specs.Option.{option_map};
-ghost use Rattle.program_values.specs.Parts as parts;
-ghost use Rattle.program_values.specs.Variables.{entry_value};
+ghost use Rattle.program_flow.specs.Parts as parts;
+ghost use Rattle.program_flow.specs.Variables.{entry_value};
 ghost use Rattle.program_flow.specs.Conditions as spec;
 ghost use Rattle.program_flow.specs.Cuts.{seen};
 
-use program_values::{Number, ValueFault, Variables, value_of};
+use crate::faults::ValueFault;
+use crate::numbers::Number;
+use crate::parts::trimmed;
+use crate::places::depth_after;
+use crate::values::value_of;
+use crate::variables::Variables;
 
 /// How two numbers are compared.
 #[derive(Clone, Copy)]
@@ -33,55 +38,6 @@ pub enum Cut<'a> {
 
 /// How many conditions may be within one another.
 const LEVELS: u64 = 100;
-
-fn is_blank(byte: u8) -> bool
-    ensures { result ≡ parts.is_blank byte }
-{
-    byte == b' ' || byte == b'\t'
-}
-
-fn without_front(text: &[u8]) -> &[u8]
-    ensures { result.now ≡ parts.without_front text.now }
-{
-    match text {
-        [byte, rest @ ..] if is_blank(*byte) => without_front(rest),
-        _ => text,
-    }
-}
-
-fn kept_length(text: &[u8]) -> usize
-    ensures value { result ≡ parts.kept_length text.now }
-    ensures within { result ≤ length text.now }
-{
-    let [byte, rest @ ..] = text else {
-        return 0;
-    };
-    match kept_length(rest) {
-        0 if is_blank(*byte) => 0,
-        count => count + 1,
-    }
-}
-
-/// A text without blanks at both ends.
-pub(crate) fn trimmed(text: &[u8]) -> &[u8]
-    ensures { result.now ≡ parts.trimmed text.now }
-{
-    let rest = without_front(text);
-    let (kept, _) = rest.split_at(kept_length(rest));
-    kept
-}
-
-fn depth_after(depth: usize, byte: u8) -> usize
-    requires { depth + 1 < 2 ^ 64 }
-    ensures value { result ≡ parts.depth_after depth byte }
-    ensures within { result ≤ depth + 1 }
-{
-    match byte {
-        b'(' => depth + 1,
-        b')' => depth.saturating_sub(1),
-        _ => depth,
-    }
-}
 
 fn mark_from(mark: &[u8], depth: usize, text: &[u8]) -> Option<usize>
     requires { depth + length text.now < 2 ^ 64 }

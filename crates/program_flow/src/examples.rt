@@ -9,11 +9,11 @@ ghost use Rattle.program_flow.specs.Examples.{alone, assigned, branching, case_o
 ghost use Rattle.program_flow.specs.Calls.{begun, carried_out, is_plain, trace};
 ghost use Rattle.program_flow.specs.Flow.{assignment};
 ghost use Rattle.program_flow.specs.declared.blocks.Part.TheVariants.{Other};
-ghost use Rattle.program_values.specs.Examples.{a_is_seven};
-ghost use Rattle.program_values.specs.declared.faults.ValueFault.TheVariants as fault;
+ghost use Rattle.program_flow.specs.ValueExamples.{a_is_seven};
+ghost use Rattle.program_flow.specs.declared.faults.ValueFault.TheVariants as fault;
 
 /// Comparisons are exact; `.NOT.` applies first, then `.AND.`, then `.OR.`.
-#[tactic(auto, unfolding(crate::specs::Conditions::holds_within, crate::specs::Conditions::parts_of, program_values::specs::Values::value_within, program_values::specs::Values::numeral_value, program_values::specs::Parts::parts_of, program_values::specs::Numbers::reduced, program_values::specs::Numbers::gcd_within))]
+#[tactic(auto, unfolding(crate::specs::Conditions::holds_within, crate::specs::Conditions::parts_of, crate::specs::Values::value_within, crate::specs::Values::numeral_value, crate::specs::Parts::parts_of, crate::specs::Numbers::reduced, crate::specs::Numbers::gcd_within))]
 pub fn conditions_hold_or_not()
     ensures below { holds a_is_seven (codes "(A .LT. 8)") ≡ Ok true }
     ensures not_below { holds a_is_seven (codes "A.LT.7") ≡ Ok false }
@@ -40,7 +40,7 @@ pub fn straight_texts_come_out()
 {}
 
 /// An IF has one branch or the other, and says the line where it leads.
-#[tactic(auto, unfolding(crate::specs::Calls::line_digits, crate::specs::Calls::trace, crate::specs::Calls::step, crate::specs::Macros::outside_after, crate::specs::Macros::said_by, crate::specs::Flow::turn, crate::specs::Flow::assignment, crate::specs::Blocks::part_of, crate::specs::Blocks::end_of, crate::specs::Conditions::holds_within, crate::specs::Conditions::parts_of, program_values::specs::Values::value_within, program_values::specs::Values::numeral_value, program_values::specs::Parts::parts_of, program_values::specs::Numbers::reduced, program_values::specs::Numbers::gcd_within))]
+#[tactic(auto, unfolding(crate::specs::Calls::line_digits, crate::specs::Calls::trace, crate::specs::Calls::step, crate::specs::Macros::outside_after, crate::specs::Macros::said_by, crate::specs::Flow::turn, crate::specs::Flow::assignment, crate::specs::Blocks::part_of, crate::specs::Blocks::end_of, crate::specs::Conditions::holds_within, crate::specs::Conditions::parts_of, crate::specs::Values::value_within, crate::specs::Values::numeral_value, crate::specs::Parts::parts_of, crate::specs::Numbers::reduced, crate::specs::Numbers::gcd_within))]
 pub fn branches_are_carried_out()
     ensures first { lines_of (branching (codes "(I .LT. 6)")) ≡ 1 ∷ (2 ∷ (4 ∷ (8 ∷ []))) }
     ensures second { lines_of (branching (codes "(I .LT. 5)")) ≡ 1 ∷ (2 ∷ (6 ∷ (8 ∷ []))) }
@@ -57,7 +57,7 @@ pub fn branches_are_carried_out()
 {}
 
 /// A DO has its rounds: up or down, with a step, in another DO, or none.
-#[tactic(auto, unfolding(crate::specs::Calls::line_digits, crate::specs::Calls::trace, crate::specs::Calls::step, crate::specs::Macros::outside_after, crate::specs::Macros::said_by, crate::specs::Flow::turn, crate::specs::Flow::is_kept, crate::specs::Flow::assignment, crate::specs::Blocks::part_of, crate::specs::Blocks::end_of, program_values::specs::Values::value_within, program_values::specs::Values::numeral_value, program_values::specs::Parts::parts_of, program_values::specs::Numbers::reduced, program_values::specs::Numbers::gcd_within))]
+#[tactic(auto, unfolding(crate::specs::Calls::line_digits, crate::specs::Calls::trace, crate::specs::Calls::step, crate::specs::Macros::outside_after, crate::specs::Macros::said_by, crate::specs::Flow::turn, crate::specs::Flow::is_kept, crate::specs::Flow::assignment, crate::specs::Blocks::part_of, crate::specs::Blocks::end_of, crate::specs::Values::value_within, crate::specs::Values::numeral_value, crate::specs::Parts::parts_of, crate::specs::Numbers::reduced, crate::specs::Numbers::gcd_within))]
 pub fn loops_have_their_rounds()
     ensures three { lines_of (looping (codes "I" ∷ (codes "1" ∷ (codes "3" ∷ []))))
         ≡ 1 ∷ (2 ∷ (3 ∷ (4 ∷ (3 ∷ (4 ∷ (3 ∷ (4 ∷ (5 ∷ [])))))))) }
@@ -79,7 +79,7 @@ pub fn loops_have_their_rounds()
 {}
 
 /// A jump leaves a loop and enters none; what has no beginning or no end comes out as it is.
-#[tactic(auto, unfolding(crate::specs::Calls::line_digits, crate::specs::Calls::trace, crate::specs::Calls::step, crate::specs::Macros::outside_after, crate::specs::Macros::said_by, crate::specs::Flow::turn, crate::specs::Flow::assignment, crate::specs::Blocks::part_of, crate::specs::Blocks::end_of, crate::specs::Blocks::is_level, crate::specs::Blocks::label_place, crate::specs::Conditions::holds_within, crate::specs::Conditions::parts_of, program_values::specs::Values::value_within, program_values::specs::Values::numeral_value, program_values::specs::Parts::parts_of, program_values::specs::Numbers::reduced, program_values::specs::Numbers::gcd_within))]
+#[tactic(auto, unfolding(crate::specs::Calls::line_digits, crate::specs::Calls::trace, crate::specs::Calls::step, crate::specs::Macros::outside_after, crate::specs::Macros::said_by, crate::specs::Flow::turn, crate::specs::Flow::assignment, crate::specs::Blocks::part_of, crate::specs::Blocks::end_of, crate::specs::Blocks::is_level, crate::specs::Blocks::label_place, crate::specs::Conditions::holds_within, crate::specs::Conditions::parts_of, crate::specs::Values::value_within, crate::specs::Values::numeral_value, crate::specs::Parts::parts_of, crate::specs::Numbers::reduced, crate::specs::Numbers::gcd_within))]
 pub fn jumps_enter_no_block()
     ensures out { lines_of (jumping (codes "(OUT)")) ≡ 1 ∷ (2 ∷ (9 ∷ [])) }
     ensures lead { leads_of (jumping (codes "(OUT)"))
@@ -99,7 +99,7 @@ pub fn jumps_enter_no_block()
 {}
 
 /// A SELECT has the first CASE of its value, or else its DFTCAS, and says the line where it leads.
-#[tactic(auto, unfolding(crate::specs::Calls::line_digits, crate::specs::Calls::trace, crate::specs::Calls::step, crate::specs::Macros::outside_after, crate::specs::Macros::said_by, crate::specs::Flow::turn, crate::specs::Flow::assignment, crate::specs::Selections::chosen, crate::specs::Selections::one_equals, crate::specs::Blocks::part_of, crate::specs::Blocks::end_of, program_values::specs::Values::value_within, program_values::specs::Values::numeral_value, program_values::specs::Parts::parts_of, program_values::specs::Numbers::reduced, program_values::specs::Numbers::gcd_within))]
+#[tactic(auto, unfolding(crate::specs::Calls::line_digits, crate::specs::Calls::trace, crate::specs::Calls::step, crate::specs::Macros::outside_after, crate::specs::Macros::said_by, crate::specs::Flow::turn, crate::specs::Flow::assignment, crate::specs::Selections::chosen, crate::specs::Selections::one_equals, crate::specs::Blocks::part_of, crate::specs::Blocks::end_of, crate::specs::Values::value_within, crate::specs::Values::numeral_value, crate::specs::Parts::parts_of, crate::specs::Numbers::reduced, crate::specs::Numbers::gcd_within))]
 pub fn one_branch_of_a_select_is_carried_out()
     ensures first { lines_of (selecting (codes "1")) ≡ 1 ∷ (2 ∷ (5 ∷ (14 ∷ []))) }
     ensures one_of_two { lines_of (selecting (codes "3")) ≡ 1 ∷ (2 ∷ (8 ∷ (14 ∷ []))) }
@@ -116,7 +116,7 @@ pub fn one_branch_of_a_select_is_carried_out()
 {}
 
 /// What stands below the branch that is chosen, or to the right of its value, is not judged; what stands above, is.
-#[tactic(auto, unfolding(crate::specs::Calls::line_digits, crate::specs::Calls::trace, crate::specs::Calls::step, crate::specs::Macros::outside_after, crate::specs::Macros::said_by, crate::specs::Flow::turn, crate::specs::Flow::assignment, crate::specs::Selections::chosen, crate::specs::Selections::one_equals, crate::specs::Blocks::part_of, crate::specs::Blocks::end_of, program_values::specs::Values::value_within, program_values::specs::Values::numeral_value, program_values::specs::Parts::parts_of, program_values::specs::Numbers::reduced, program_values::specs::Numbers::gcd_within))]
+#[tactic(auto, unfolding(crate::specs::Calls::line_digits, crate::specs::Calls::trace, crate::specs::Calls::step, crate::specs::Macros::outside_after, crate::specs::Macros::said_by, crate::specs::Flow::turn, crate::specs::Flow::assignment, crate::specs::Selections::chosen, crate::specs::Selections::one_equals, crate::specs::Blocks::part_of, crate::specs::Blocks::end_of, crate::specs::Values::value_within, crate::specs::Values::numeral_value, crate::specs::Parts::parts_of, crate::specs::Numbers::reduced, crate::specs::Numbers::gcd_within))]
 pub fn branches_are_looked_at_in_their_order()
     ensures value_after { lines_of (select_around (case_on 2 (codes "2" ∷ (codes "X" ∷ []))))
         ≡ 3 ∷ (21 ∷ []) }
@@ -139,7 +139,7 @@ pub fn branches_are_looked_at_in_their_order()
 {}
 
 /// A branch has its own blocks; what has no beginning or no end comes out as it is.
-#[tactic(auto, unfolding(crate::specs::Calls::line_digits, crate::specs::Calls::trace, crate::specs::Calls::step, crate::specs::Macros::outside_after, crate::specs::Macros::said_by, crate::specs::Flow::turn, crate::specs::Flow::assignment, crate::specs::Selections::chosen, crate::specs::Selections::one_equals, crate::specs::Blocks::part_of, crate::specs::Blocks::end_of, crate::specs::Conditions::holds_within, crate::specs::Conditions::parts_of, program_values::specs::Values::value_within, program_values::specs::Values::numeral_value, program_values::specs::Parts::parts_of, program_values::specs::Numbers::reduced, program_values::specs::Numbers::gcd_within))]
+#[tactic(auto, unfolding(crate::specs::Calls::line_digits, crate::specs::Calls::trace, crate::specs::Calls::step, crate::specs::Macros::outside_after, crate::specs::Macros::said_by, crate::specs::Flow::turn, crate::specs::Flow::assignment, crate::specs::Selections::chosen, crate::specs::Selections::one_equals, crate::specs::Blocks::part_of, crate::specs::Blocks::end_of, crate::specs::Conditions::holds_within, crate::specs::Conditions::parts_of, crate::specs::Values::value_within, crate::specs::Values::numeral_value, crate::specs::Parts::parts_of, crate::specs::Numbers::reduced, crate::specs::Numbers::gcd_within))]
 pub fn branches_end_with_their_own_ends()
     ensures select_in_it { lines_of (select_around (select_in_case (codes "2")))
         ≡ 5 ∷ (11 ∷ (21 ∷ [])) }
@@ -167,7 +167,7 @@ pub fn branches_end_with_their_own_ends()
 {}
 
 /// A jump leaves a branch, and enters none, nor the space between two.
-#[tactic(auto, unfolding(crate::specs::Calls::line_digits, crate::specs::Calls::trace, crate::specs::Calls::step, crate::specs::Macros::outside_after, crate::specs::Macros::said_by, crate::specs::Flow::turn, crate::specs::Flow::assignment, crate::specs::Selections::chosen, crate::specs::Selections::one_equals, crate::specs::Blocks::part_of, crate::specs::Blocks::end_of, crate::specs::Blocks::is_level, crate::specs::Blocks::label_place, program_values::specs::Values::value_within, program_values::specs::Values::numeral_value, program_values::specs::Parts::parts_of, program_values::specs::Numbers::reduced, program_values::specs::Numbers::gcd_within))]
+#[tactic(auto, unfolding(crate::specs::Calls::line_digits, crate::specs::Calls::trace, crate::specs::Calls::step, crate::specs::Macros::outside_after, crate::specs::Macros::said_by, crate::specs::Flow::turn, crate::specs::Flow::assignment, crate::specs::Selections::chosen, crate::specs::Selections::one_equals, crate::specs::Blocks::part_of, crate::specs::Blocks::end_of, crate::specs::Blocks::is_level, crate::specs::Blocks::label_place, crate::specs::Values::value_within, crate::specs::Values::numeral_value, crate::specs::Parts::parts_of, crate::specs::Numbers::reduced, crate::specs::Numbers::gcd_within))]
 pub fn jumps_enter_no_select()
     ensures within { lines_of (jumping_in_select (codes "(IN)")) ≡ 6 ∷ (13 ∷ (15 ∷ [])) }
     ensures out { lines_of (jumping_in_select (codes "(OUT)")) ≡ 15 ∷ [] }

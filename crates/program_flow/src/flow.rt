@@ -2,8 +2,8 @@
 
 ghost use Rattle.std.specs.Prelude.{◌≡◌, ◌<◌, ◌∷◌, ◌++◌, [], List, IfOk, IfSome, OnOk, map};
 ghost use Rattle.dmis_text.specs.declared.elements.Statement.{Statement};
-ghost use Rattle.program_values.specs.LookBack.{Holds};
-ghost use Rattle.program_values.specs.Variables.{entry_value};
+ghost use Rattle.program_flow.specs.LookBack.{Holds};
+ghost use Rattle.program_flow.specs.Variables.{entry_value};
 ghost use Rattle.std.specs.Option.{option_map};
 ghost use Rattle.program_flow.specs.Calls.{Frame, Step, carried_out, decides, decision, decision_at, given_up_in, is_lead, lead_text, line_digits, next_of, step, told, told_step};
 ghost use Rattle.program_flow.specs.Macros.{said_by};
@@ -17,9 +17,9 @@ use crate::calls::{Call, Outcome, outcome_at, outcome_in};
 use crate::lines::Line;
 use crate::macros::{is_call, split};
 use crate::positions::Position;
+use crate::variables::Variables;
 use dmis_text::Statement;
 use itoa::Buffer;
-use program_values::Variables;
 use std::alloc::{AllocError, Global};
 use std::marker::Model;
 

@@ -3,14 +3,14 @@
 ghost use Rattle.std.specs.Prelude.{◌≡◌, ◌==◌, ◌<◌, ◌≤◌, ◌++◌, IfOk, IfSome, OnOk, bytes_eq, codes, length, map};
 ghost use Rattle.std.specs.List.{position};
 ghost use Rattle.std.specs.Option.{option_map};
-ghost use Rattle.program_values.specs.Values as values;
 ghost use Rattle.program_flow.specs.Calls.{is_call};
 ghost use Rattle.program_flow.specs.Macros as spec;
 ghost use Rattle.program_flow.specs.Named as named;
 ghost use Rattle.program_flow.specs.Named.{count_ends, inside, seen_macro, seen_pair};
 
 use crate::blocks::is_label;
-use crate::conditions::trimmed;
+use crate::parts::trimmed;
+use crate::values::is_name_byte;
 use dmis_text::{Statement, Text};
 use std::alloc::{AllocError, Global};
 
@@ -26,12 +26,6 @@ pub struct Pair<'a> {
 pub struct Macro<'a, 'b> {
     pub params: &'b [Text<'a>],
     pub body: &'b [Statement<'a>],
-}
-
-pub(crate) fn is_name_byte(byte: u8) -> bool
-    ensures { result ≡ values.is_name_byte byte }
-{
-    byte.is_ascii_alphanumeric() || byte == b'_'
 }
 
 /// Appends what an identifier stands for: itself, if it is no parameter.

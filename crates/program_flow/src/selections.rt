@@ -2,15 +2,17 @@
 
 ghost use Rattle.std.specs.Prelude.{◌≡◌, ◌<◌, ◌≤◌, ◌+◌, ◌^◌, IfSome, length};
 ghost use Rattle.dmis_text.specs.declared.elements.Statement.{Statement};
-ghost use Rattle.program_values.specs.Variables.{entry_value};
+ghost use Rattle.program_flow.specs.Variables.{entry_value};
 ghost use Rattle.program_flow.specs.Selections as spec;
 ghost use Rattle.program_flow.specs.Blocks.{part_of};
 ghost use Rattle.program_flow.specs.Cuts.{IsWithin};
 
 use crate::blocks::{Part, depth_after, is_end, matches_end, part_of};
 use crate::conditions::{Comparison, compared};
+use crate::numbers::Number;
+use crate::values::value_of;
+use crate::variables::Variables;
 use dmis_text::{Statement, Text};
-use program_values::{Number, Variables, value_of};
 
 /// What a SELECT chooses: the branch whose CASE or DFTCAS is in a place, or none of its branches.
 #[derive(Clone, Copy)]

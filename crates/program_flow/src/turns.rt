@@ -3,7 +3,7 @@
 ghost use Rattle.std.specs.Prelude.{◌≡◌, ◌<◌, ◌≤◌, ◌+◌, ◌^◌, ◌∷◌, ◌+ℤ◌, ℕ, List, IfOk, Some, drop, length};
 ghost use Rattle.std.specs.Option.{option_map};
 ghost use Rattle.dmis_text.specs.declared.elements.Statement.{Statement};
-ghost use Rattle.program_values.specs.Variables.{entry_value};
+ghost use Rattle.program_flow.specs.Variables.{entry_value};
 ghost use Rattle.program_flow.specs.Flow as spec;
 ghost use Rattle.program_flow.specs.Selections as selections;
 ghost use Rattle.program_flow.specs.Flow.{Control, to};
@@ -15,9 +15,11 @@ use crate::blocks::{
     start_of,
 };
 use crate::conditions::holds;
+use crate::numbers::Number;
 use crate::selections::{Choice, chosen, selected};
+use crate::values::value_of;
+use crate::variables::Variables;
 use dmis_text::{Statement, Text};
-use program_values::{Number, Variables, value_of};
 use std::alloc::{AllocError, Global};
 
 /// What follows at a statement that can be followed: nothing comes out, it comes out, or an assignment to the index of a loop does, the

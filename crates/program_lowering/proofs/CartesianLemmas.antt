@@ -5,7 +5,7 @@ use Rattle.std.proofs.lemmas.Slice.Eq.{bytes_eq-Decides}
 use Rattle.std.specs.Str.{bytes_eq}
 use Rattle.dmis_program.specs.Keywords.{is_among, keyword_of}
 use Rattle.dmis_program.specs.Parameters.{is_other_coordinates}
-use Rattle.program_values.specs.declared.faults.ValueFault.{ValueFault}
+use Rattle.program_flow.specs.declared.faults.ValueFault.{ValueFault}
 use Rattle.program_lowering.specs.Carried.{GivesLine, line_if, line_with}
 use Rattle.program_lowering.specs.Cartesian.{cartesian, cartesian_params, made_cartesian}
 use Rattle.program_lowering.specs.Valued.{with_params}

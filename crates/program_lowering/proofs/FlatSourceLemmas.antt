@@ -30,7 +30,7 @@ use Rattle.program_lowering.proofs.StatedLemmas.{text_same}
 use Rattle.program_lowering.proofs.Names.{is_none, is_operator_text}
 use Rattle.program_lowering.proofs.TextLemmas.{is_text}
 use Rattle.dmis_program.specs.Keywords.{definitions, is_among, passed}
-use Rattle.program_values.specs.LookBack.{fault_of, is_declaration, kind_said, value_said}
+use Rattle.program_flow.specs.LookBack.{fault_of, is_declaration, kind_said, value_said}
 use Rattle.program_flow.specs.Blocks.{is_label, part_named, part_of}
 use Rattle.program_flow.specs.Calls.{carried_out, is_plain, trace}
 use Rattle.program_flow.specs.Flow.{carried, to}

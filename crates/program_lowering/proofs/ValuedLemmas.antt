@@ -8,10 +8,10 @@ use Rattle.std.proofs.lemmas.Slice.Eq.{bytes_eq-Decides}
 use Rattle.std.specs.Prelude.{◌-◌, get_or}
 use Rattle.dmis_text.proofs.LineLaws.{lines_written}
 use Rattle.dmis_program.specs.Keywords.{is_among}
-use Rattle.program_values.specs.LookBack.{Holds, fault_in, fault_of, is_declaration, kind_said, new_value, target, value_said}
-use Rattle.program_values.specs.Numbers.{Fraction, and_then, numeral}
-use Rattle.program_values.specs.Variables.{Entry, entry_value}
-use Rattle.program_values.specs.declared.faults.ValueFault.{ValueFault}
+use Rattle.program_flow.specs.LookBack.{Holds, fault_in, fault_of, is_declaration, kind_said, new_value, target, value_said}
+use Rattle.program_flow.specs.Numbers.{Fraction, and_then, numeral}
+use Rattle.program_flow.specs.Variables.{Entry, entry_value}
+use Rattle.program_flow.specs.declared.faults.ValueFault.{ValueFault}
 use Rattle.program_lowering.specs.Carried.{GivesLine, IsRead, Knows, all_pushed, line_with, pair_of, pushed}
 use Rattle.program_lowering.specs.Lowering.{ended}
 use Rattle.program_flow.specs.Flow.{carried}

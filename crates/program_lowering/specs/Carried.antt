@@ -18,11 +18,11 @@ use Rattle.dmis_program.specs.declared.sayings.StatementMeaning.TheVariants as s
 use Rattle.dmis_text.specs.Reading.{text_reading}
 use Rattle.std.specs.List.{list_all}
 use Rattle.std.specs.Option.{option_map}
-use Rattle.program_values.specs.LookBack.{Holds}
-use Rattle.program_values.specs.Numbers.{Fraction, and_then, numeral}
-use Rattle.program_values.specs.Variables.{Entry}
-use Rattle.program_values.specs.declared.faults.ValueFault.{ValueFault}
-use Rattle.program_values.specs.declared.faults.ValueFault.TheVariants as value
+use Rattle.program_flow.specs.LookBack.{Holds}
+use Rattle.program_flow.specs.Numbers.{Fraction, and_then, numeral}
+use Rattle.program_flow.specs.Variables.{Entry}
+use Rattle.program_flow.specs.declared.faults.ValueFault.{ValueFault}
+use Rattle.program_flow.specs.declared.faults.ValueFault.TheVariants as value
 use Rattle.program_lowering.specs.Flats.{flat, flat_line}
 use Rattle.program_flow.specs.Flow.{carried}
 use Rattle.program_lowering.specs.Cartesian.{cartesian, reference_after}

@@ -10,11 +10,11 @@ use Rattle.dmis_text.specs.declared.elements.Statement.{Statement}
 use Rattle.dmis_program.specs.Keywords.{is_among}
 use Rattle.dmis_program.specs.Parameters.{without_cart}
 use Rattle.dmis_program.specs.Positions.{direction_of}
-use Rattle.program_values.specs.Angles.{cosine, in_radians, sine}
-use Rattle.program_values.specs.LookBack.{value_said}
-use Rattle.program_values.specs.Numbers.{Fraction, numeral, rounded_product, sum}
-use Rattle.program_values.specs.Values.{value_of}
-use Rattle.program_values.specs.declared.faults.ValueFault.{ValueFault}
+use Rattle.program_flow.specs.Angles.{cosine, in_radians, sine}
+use Rattle.program_flow.specs.LookBack.{value_said}
+use Rattle.program_flow.specs.Numbers.{Fraction, numeral, rounded_product, sum}
+use Rattle.program_flow.specs.Values.{value_of}
+use Rattle.program_flow.specs.declared.faults.ValueFault.{ValueFault}
 use Rattle.program_lowering.specs.Valued.{with_params}
 use Rattle.program_lowering.specs.declared.cartesian.AngleUnit.{AngleUnit}
 use Rattle.program_lowering.specs.declared.cartesian.AngleUnit.TheVariants.{Degrees, Radians}

@@ -1,7 +1,7 @@
 -- What the examples of this crate speak of.
 use Rattle.std.specs.Prelude.{ℕ, List, [], ◌∷◌, ◌++◌, codes, true, false, Option, None, Some, Result, Ok}
 use Rattle.dmis_text.specs.declared.elements.Statement.{Statement}
-use Rattle.program_values.specs.declared.faults.ValueFault.{ValueFault}
+use Rattle.program_flow.specs.declared.faults.ValueFault.{ValueFault}
 use Rattle.program_lowering.specs.Cartesian.{no_reference, reference_after}
 use Rattle.program_lowering.specs.StoredFrames.{by_frame, is_used}
 use Rattle.program_lowering.specs.declared.cartesian.Reference.{Reference}

@@ -7,12 +7,12 @@ use Rattle.std.specs.List.{list_all}
 use Rattle.dmis_text.specs.declared.elements.Statement.{Statement}
 use Rattle.dmis_program.specs.Keywords.{is_among}
 use Rattle.program_flow.specs.Flow.{carried}
-use Rattle.program_values.specs.LookBack.{is_declaration, value_said}
-use Rattle.program_values.specs.Numbers.{Fraction, and_then, numeral}
-use Rattle.program_values.specs.Texts.{expanded}
-use Rattle.program_values.specs.Values.{computed}
-use Rattle.program_values.specs.declared.faults.ValueFault.{ValueFault}
-use Rattle.program_values.specs.declared.faults.ValueFault.TheVariants.{UnknownName}
+use Rattle.program_flow.specs.LookBack.{is_declaration, value_said}
+use Rattle.program_flow.specs.Numbers.{Fraction, and_then, numeral}
+use Rattle.program_flow.specs.Texts.{expanded}
+use Rattle.program_flow.specs.Values.{computed}
+use Rattle.program_flow.specs.declared.faults.ValueFault.{ValueFault}
+use Rattle.program_flow.specs.declared.faults.ValueFault.TheVariants.{UnknownName}
 use Rattle.program_lowering.specs.Flats.{flat, flat_text}
 use Rattle.program_lowering.specs.OperatorTexts.{is_plain}
 

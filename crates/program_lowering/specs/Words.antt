@@ -9,7 +9,7 @@ use Rattle.dmis_program.specs.declared.keywords.Keyword.{Keyword}
 use Rattle.dmis_program.specs.declared.keywords.Keyword.TheVariants as word
 use Rattle.dmis_program.specs.Parameters.{begins}
 use Rattle.program_flow.specs.Calls.{is_lead}
-use Rattle.program_values.specs.LookBack.{is_declaration}
+use Rattle.program_flow.specs.LookBack.{is_declaration}
 use Rattle.program_lowering.specs.declared.words.Choices.{Choices}
 use Rattle.program_lowering.specs.declared.words.Reason.{Reason}
 use Rattle.program_lowering.specs.declared.words.Reason.TheVariants as reason

@@ -2,7 +2,7 @@
 
 ghost use Rattle.std.specs.Prelude.{◌≡◌, ◌≤◌, ◌*◌, ◌++◌, ◌∷◌, [], ℕ, List, IfOk, bytes_eq, drop, false, map, option_map, unsigned_abs};
 ghost use Rattle.std.specs.List.{list_all, list_any};
-ghost use Rattle.program_values.specs.Numbers.{numeral};
+ghost use Rattle.program_flow.specs.Numbers.{numeral};
 ghost use Rattle.program_lowering.specs.OperatorTexts.{is_plain, marked};
 ghost use Rattle.fixed_um.specs.Limits.{component_limit};
 ghost use Rattle.dmis_program.specs.Keywords.{is_among};
@@ -14,8 +14,8 @@ use crate::lines::{are_plain, push_params};
 use crate::values::{line_of, push_number};
 use dmis_text::{Statement, Text};
 use fixed_um::Dir;
+use program_flow::{Number, Variables, cosine, in_radians, sine, value_of};
 use program_review::{is_among, is_text, without_cart};
-use program_values::{Number, Variables, cosine, in_radians, sine, value_of};
 use std::alloc::{AllocError, Global};
 
 /// A working plane.

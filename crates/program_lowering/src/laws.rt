@@ -81,7 +81,7 @@ pub fn examples_of_units()
 {}
 
 /// Examples: expressions and names with values; what has none stays, or leaves its statement without parameters.
-#[tactic(auto, unfolding(program_values::specs::Values::value_within, program_values::specs::Values::numeral_value, program_values::specs::Parts::parts_of, program_values::specs::Numbers::reduced, program_values::specs::Numbers::gcd_within, program_values::specs::Numbers::multiplied, program_values::specs::Texts::expanded_within, program_flow::specs::Blocks::part_of, dmis_program::specs::Keywords::keyword_of))]
+#[tactic(auto, unfolding(program_flow::specs::Values::value_within, program_flow::specs::Values::numeral_value, program_flow::specs::Parts::parts_of, program_flow::specs::Numbers::reduced, program_flow::specs::Numbers::gcd_within, program_flow::specs::Numbers::multiplied, program_flow::specs::Texts::expanded_within, program_flow::specs::Blocks::part_of, dmis_program::specs::Keywords::keyword_of))]
 pub fn examples_of_values()
     ensures moved { new_params x_is_five
         (bare (codes "GOTO") (codes "X+10" ∷ (codes "1E1" ∷ (codes "Y" ∷ []))))
@@ -120,7 +120,7 @@ pub fn cartesian_statements_stay()
 {}
 
 /// Examples: polar coordinates, by plane and unit.
-#[tactic(auto, unfolding(program_values::specs::Values::value_within, program_values::specs::Values::numeral_value, program_values::specs::Parts::parts_of, program_values::specs::Numbers::reduced, program_values::specs::Numbers::gcd_within, program_values::specs::Numbers::nearest_millionth, program_values::specs::Angles::cosine, program_values::specs::Angles::sine, program_values::specs::Angles::in_radians, program_values::specs::Angles::series, fixed_um::specs::Written::written_component))]
+#[tactic(auto, unfolding(program_flow::specs::Values::value_within, program_flow::specs::Values::numeral_value, program_flow::specs::Parts::parts_of, program_flow::specs::Numbers::reduced, program_flow::specs::Numbers::gcd_within, program_flow::specs::Numbers::nearest_millionth, program_flow::specs::Angles::cosine, program_flow::specs::Angles::sine, program_flow::specs::Angles::in_radians, program_flow::specs::Angles::series, fixed_um::specs::Written::written_component))]
 pub fn examples_of_polar_coordinates()
     ensures zero { made_cartesian no_reference (around (codes "10") (codes "0") (codes "5"))
         ≡ placed (decimal 10) (decimal 0) (decimal 5) }
@@ -152,7 +152,7 @@ pub fn examples_of_polar_coordinates()
 {}
 
 /// Examples: a move by a distance, from where a `GOTO` ends.
-#[tactic(auto, unfolding(program_values::specs::Values::value_within, program_values::specs::Values::numeral_value, program_values::specs::Parts::parts_of, program_values::specs::Numbers::reduced, program_values::specs::Numbers::gcd_within, program_values::specs::Numbers::nearest_millionth, dmis_program::specs::Positions::direction_of, dmis_program::specs::Positions::component_of, fixed_um::specs::Scan::exponent_of, fixed_um::specs::Scan::numeral_of, fixed_um::specs::Written::written_component))]
+#[tactic(auto, unfolding(program_flow::specs::Values::value_within, program_flow::specs::Values::numeral_value, program_flow::specs::Parts::parts_of, program_flow::specs::Numbers::reduced, program_flow::specs::Numbers::gcd_within, program_flow::specs::Numbers::nearest_millionth, dmis_program::specs::Positions::direction_of, dmis_program::specs::Positions::component_of, fixed_um::specs::Scan::exponent_of, fixed_um::specs::Scan::numeral_of, fixed_um::specs::Written::written_component))]
 pub fn examples_of_moves_by_distances()
     ensures along { made_cartesian (below (a_move ∷ [])) (by_ten (codes "0") (codes "-1") (codes "0"))
         ≡ placed (decimal 1) (codes "-" ++ (decimal 7 ++ codes ".500000")) (decimal 3) }
@@ -172,7 +172,7 @@ pub fn examples_of_moves_by_distances()
 {}
 
 /// Examples: what coordinates refer to, by the statements above, the nearest first.
-#[tactic(auto, unfolding(program_values::specs::Values::value_within, program_values::specs::Values::numeral_value, program_values::specs::Parts::parts_of, program_values::specs::Numbers::reduced, program_values::specs::Numbers::gcd_within))]
+#[tactic(auto, unfolding(program_flow::specs::Values::value_within, program_flow::specs::Values::numeral_value, program_flow::specs::Parts::parts_of, program_flow::specs::Numbers::reduced, program_flow::specs::Numbers::gcd_within))]
 pub fn examples_of_references()
     ensures bare_move { (below (bare (codes "GOTO") (codes "1" ∷ (codes "2.5" ∷ (codes "3" ∷ [])))
         ∷ [])).place ≡ (below (a_move ∷ [])).place }

@@ -6,9 +6,9 @@ ghost use Rattle.std.specs.Option.{option_map};
 ghost use Rattle.dmis_text.specs.declared.elements.Statement.{Statement};
 ghost use Rattle.dmis_program.specs.Keywords.{is_among};
 ghost use Rattle.program_flow.specs.Flow.{carried};
-ghost use Rattle.program_values.specs.LookBack.{fault_of, kind_said, value_said};
-ghost use Rattle.program_values.specs.Numbers.{numeral};
-ghost use Rattle.program_values.specs.Variables.{entry_value};
+ghost use Rattle.program_flow.specs.LookBack.{fault_of, kind_said, value_said};
+ghost use Rattle.program_flow.specs.Numbers.{numeral};
+ghost use Rattle.program_flow.specs.Variables.{entry_value};
 ghost use Rattle.program_lowering.specs.Flats.{flat, flat_line};
 ghost use Rattle.program_lowering.specs.Lowering.{ended};
 ghost use Rattle.program_lowering.specs.OperatorTexts.{is_plain, marked};
@@ -18,8 +18,8 @@ ghost use Rattle.program_lowering.specs.Valued as spec;
 use crate::lines::{is_plain, push_comment};
 use dmis_program::StatementFault;
 use dmis_text::{Statement, Statements, Text, TextFault};
+use program_flow::{Number, ValueFault, Variables, computed, expanded, is_declaration};
 use program_review::{is_among, is_text};
-use program_values::{Number, ValueFault, Variables, computed, expanded, is_declaration};
 use std::alloc::{AllocError, Global};
 
 /// The most bytes of a statement with its values (this profile).

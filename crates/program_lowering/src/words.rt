@@ -7,9 +7,8 @@ ghost use Rattle.program_lowering.specs.Words.{clearing, compensation, left_out,
 
 use dmis_program::Keyword;
 use dmis_text::{Statement, Text};
-use program_flow::is_lead;
+use program_flow::{is_declaration, is_lead};
 use program_review::{is_among, is_text};
-use program_values::is_declaration;
 use std::alloc::AllocError;
 
 /// What is left out besides what measures and moves nothing.

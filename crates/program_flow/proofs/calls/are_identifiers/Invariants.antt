@@ -1,6 +1,6 @@
 use Rattle.std.proofs.Common.{◌≡◌, length}
 use Rattle.std.specs.List.{list_all}
-use Rattle.program_values.specs.Values.{is_variable}
+use Rattle.program_flow.specs.Values.{is_variable}
 use Rattle.program_flow.proofs.calls.are_identifiers.Given as goal
 
 abbrev pub invariant-loop-left : goal.invariant-loop-left

@@ -1,6 +1,6 @@
 use Rattle.std.proofs.Common.{◌≡◌, ◌∙◌, ◌∷◌, IfOk, List, ap, drop, refl, subst, sym, true, false, ℕ}
 use Rattle.dmis_text.specs.declared.elements.Statement.{Statement}
-use Rattle.program_values.specs.Variables.{entry_value}
+use Rattle.program_flow.specs.Variables.{entry_value}
 use Rattle.program_flow.specs.Calls.{Step, call_of, is_call, lifted}
 use Rattle.program_flow.specs.Flow.{Turn, to, turn}
 use Rattle.program_flow.specs.Macros.{begins_macro, ends_macro}

@@ -1,6 +1,6 @@
 use Rattle.std.proofs.Common.{◌≡◌, ◌∙◌, ◌∷◌, IfOk, List, ap, arith, drop, refl, subst, sym}
 use Rattle.dmis_text.specs.declared.elements.Statement.{Statement}
-use Rattle.program_values.specs.Variables.{entry_value}
+use Rattle.program_flow.specs.Variables.{entry_value}
 use Rattle.program_flow.specs.Calls.{Step, step_of}
 use Rattle.program_flow.specs.Named.{seen_call}
 use Rattle.program_flow.specs.Stepped.{Leads}

@@ -1,5 +1,5 @@
 use Rattle.std.proofs.Common.{◌≡◌, length}
-use Rattle.program_values.specs.Variables.{entry_value}
+use Rattle.program_flow.specs.Variables.{entry_value}
 use Rattle.program_flow.specs.Selections.{one_equals}
 use Rattle.program_flow.proofs.selections.one_equals.Given as goal
 

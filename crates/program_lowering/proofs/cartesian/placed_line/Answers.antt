@@ -1,6 +1,6 @@
 use Rattle.program_lowering.proofs.Names.{◌++◌, ◌∙◌, ◌∷◌, ◌≡◌, ap, append_assoc, codes, false, List, Some, ℕ}
 use Rattle.std.specs.List.{list_all}
-use Rattle.program_values.specs.Numbers.{numeral}
+use Rattle.program_flow.specs.Numbers.{numeral}
 use Rattle.program_lowering.specs.OperatorTexts.{is_plain, marked}
 use Rattle.program_lowering.proofs.cartesian.placed_line.Goals as goal
 

@@ -1,5 +1,5 @@
 use Rattle.program_lowering.proofs.Names.{arith}
-use Rattle.program_values.specs.Variables.{entry_value}
+use Rattle.program_flow.specs.Variables.{entry_value}
 use Rattle.program_lowering.proofs.ValuedLemmas.{rest_fails}
 use Rattle.program_lowering.proofs.values.+push_params.Goals as goal
 

@@ -1,6 +1,6 @@
 use Rattle.std.proofs.Common.{◌≡◌, ◌≤◌, List}
 use Rattle.dmis_text.specs.declared.elements.Statement.{Statement}
-use Rattle.program_values.specs.LookBack.{Holds}
+use Rattle.program_flow.specs.LookBack.{Holds}
 use Rattle.program_flow.specs.Left.{left_of, size}
 use Rattle.program_flow.proofs.flow.Flow.next.Given as goal
 

@@ -1,7 +1,7 @@
 use Rattle.std.proofs.Common.{◌≡◌, ◌∙◌, [], ◌∷◌, ◌++◌, IfOk, List, ap, drop, map, refl, subst, sym}
 use Rattle.std.specs.Prelude.{◌||◌, bytes_eq}
 use Rattle.dmis_text.specs.declared.elements.Statement.{Statement}
-use Rattle.program_values.specs.Variables.{entry_value}
+use Rattle.program_flow.specs.Variables.{entry_value}
 use Rattle.program_flow.specs.Calls.{Frame, is_open, step}
 use Rattle.program_flow.specs.Left.{Left, frames_of}
 use Rattle.program_flow.specs.Named.{frame_at, seen_call}

@@ -1,6 +1,6 @@
 use Rattle.program_lowering.proofs.Names.{◌≡◌, flat, is_none, rules, true}
 use Rattle.dmis_program.specs.Keywords.{is_among}
-use Rattle.program_values.specs.Variables.{entry_value}
+use Rattle.program_flow.specs.Variables.{entry_value}
 use Rattle.program_lowering.specs.Valued.{commanding, held_or_none, valued_params}
 use Rattle.program_lowering.proofs.LineLemmas.{flat_statement}
 use Rattle.program_lowering.proofs.ValuedLemmas.{commanding_good, gives_valued, read_is}

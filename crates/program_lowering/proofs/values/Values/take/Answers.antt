@@ -1,5 +1,5 @@
 use Rattle.program_lowering.proofs.Names.{◌≡◌, bytes_eq, codes, flat, rules, true}
-use Rattle.program_values.specs.Variables.{entry_value}
+use Rattle.program_flow.specs.Variables.{entry_value}
 use Rattle.program_lowering.specs.Carried.{pair_of}
 use Rattle.program_lowering.specs.Valued.{held_or_none}
 use Rattle.program_lowering.proofs.LineLemmas.{flat_statement}

@@ -1,4 +1,0 @@
-use Rattle.program_values.proofs.angles.+series.Given as goal
-
-abbrev pub decreases-series : goal.decreases-series
-decreases-series l = l.terms

@@ -1,8 +1,0 @@
-use Rattle.program_values.proofs.NearAngles.{degrees-near, radians-near}
-use Rattle.program_values.proofs.examples.angles_in_other_units_are_near.Goals as goal
-
-pub returns-clause-radians : goal.returns-clause-radians
-returns-clause-radians c = radians-near
-
-pub returns-clause-degrees : goal.returns-clause-degrees
-returns-clause-degrees c = degrees-near

@@ -1,8 +1,0 @@
-use Rattle.program_values.proofs.NearAngles.{cosine-near, sine-near}
-use Rattle.program_values.proofs.examples.sines_and_cosines_are_near.Goals as goal
-
-pub returns-clause-sines : goal.returns-clause-sines
-returns-clause-sines c = sine-near
-
-pub returns-clause-cosines : goal.returns-clause-cosines
-returns-clause-cosines c = cosine-near

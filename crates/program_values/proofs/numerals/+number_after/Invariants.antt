@@ -1,5 +1,0 @@
-use Rattle.std.proofs.Common.{length}
-use Rattle.program_values.proofs.numerals.+number_after.Given as goal
-
-abbrev pub decreases-number_after : goal.decreases-number_after
-decreases-number_after l = length l.digits.now

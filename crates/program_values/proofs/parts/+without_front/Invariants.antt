@@ -1,5 +1,0 @@
-use Rattle.std.proofs.Common.{length}
-use Rattle.program_values.proofs.parts.+without_front.Given as goal
-
-abbrev pub decreases-without_front : goal.decreases-without_front
-decreases-without_front l = length l.text.now

@@ -1,5 +1,0 @@
-use Rattle.std.proofs.Common.{length}
-use Rattle.program_values.proofs.places.+operator_from.Given as goal
-
-abbrev pub decreases-operator_from : goal.decreases-operator_from
-decreases-operator_from l = length l.text.now

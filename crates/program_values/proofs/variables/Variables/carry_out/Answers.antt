@@ -1,5 +1,0 @@
-use Rattle.program_values.proofs.Carrying.{carry}
-use Rattle.program_values.proofs.variables.Variables.carry_out.Goals as goal
-
-pub returns : goal.returns
-returns c = λ above holds. carry _ above _ _ _ c.step.ensures holds
