@@ -25,4 +25,6 @@ pub mod Takes
 pub mod LineParts
 pub mod ValuedLemmas
 pub mod CartesianLemmas
+pub mod ValueBounds
+pub mod PolarLemmas
 pub mod ExampleLemmas

@@ -7,6 +7,7 @@ pub mod OperatorTexts
 pub mod Inches
 pub mod Valued
 pub mod Cartesian
+pub mod PolarNearness
 pub mod Acts
 pub mod Lowering
 pub mod Heads

@@ -24,6 +24,7 @@ pub mod laws;
 mod lines;
 mod lowering;
 mod manual;
+pub mod near_laws;
 mod orders;
 mod stored;
 mod values;
