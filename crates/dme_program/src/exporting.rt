@@ -3,12 +3,12 @@
 use crate::explaining::{key_of, refused};
 use crate::files::{NamedSource, Sources, file_of};
 use byte_ports::{Writing, push_all};
-use deviations::Limits;
+use deviations::{Form as TableForm, Limits, TableOptions};
 use dme_orders::{
     ExportFiles, Exported, RecordFiles, RecordText, explain, export_files, export_record,
     named_limits, named_setup, program_under, report_record,
 };
-use dme_words::{BatchSummary, Export, PartReport, RecordExport, RecordForm, SummaryForm};
+use dme_words::{BatchSummary, Export, Measured, PartReport, RecordForm, Subject, SummaryForm};
 use dmis_program::Program;
 use order_parts::FilesFault;
 use part_summary::{Form, Summary, uncounted_line};
@@ -32,23 +32,30 @@ fn export_end(
     exported.missing.status()
 }
 
-/// The order `export`: its exit status.
+/// The order `export` for features: its exit status.
 #[inline(never)]
-pub fn export(rt: HostRuntime, order: Export) -> Result<u8, AllocError> {
-    let name = order.program.clone()?;
-    let mut sources = Sources::new(rt, order.explain);
+fn export_of_features(
+    rt: HostRuntime,
+    form: TableForm,
+    features: String,
+    table: TableOptions,
+    limits: Option<String>,
+    subject: Subject,
+) -> Result<u8, AllocError> {
+    let name = subject.program.clone()?;
+    let mut sources = Sources::new(rt, subject.explain);
     let mut sought = ExportFiles {
-        setup: sources.maybe(order.setup),
-        features: sources.file(order.features),
-        program: sources.file(order.program),
+        setup: sources.maybe(subject.setup),
+        features: sources.file(features),
+        program: sources.file(subject.program),
     };
-    let mut limits = sources.maybe(order.limits);
+    let mut limits = sources.maybe(limits);
     let mut sink = Writing::new(io::writer(&rt));
     let exported = export_files(
         rt.alloc(),
         name.as_str(),
-        order.form,
-        order.table,
+        form,
+        table,
         &mut limits,
         &mut sought,
         &mut sink,
@@ -60,7 +67,7 @@ pub fn export(rt: HostRuntime, order: Export) -> Result<u8, AllocError> {
         limits: file_of(rt, limits),
         ..InputFiles::unnamed(rt.alloc())
     };
-    Ok(export_end(rt, exported, files, order.explain))
+    Ok(export_end(rt, exported, files, subject.explain))
 }
 
 /// What is printed of a record in a form.
@@ -87,22 +94,29 @@ pub fn record_files(
 
 /// The order `export` for a record: its exit status.
 #[inline(never)]
-pub fn export_of_record(rt: HostRuntime, order: RecordExport) -> Result<u8, AllocError> {
-    let name = order.program.clone()?;
-    let mut sources = Sources::new(rt, order.explain);
+fn export_of_record(
+    rt: HostRuntime,
+    form: RecordForm,
+    record: String,
+    table: TableOptions,
+    limits: Option<String>,
+    subject: Subject,
+) -> Result<u8, AllocError> {
+    let name = subject.program.clone()?;
+    let mut sources = Sources::new(rt, subject.explain);
     let mut sought = RecordFiles {
-        setup: sources.maybe(order.setup),
-        record: sources.file(order.record),
-        program: sources.file(order.program),
+        setup: sources.maybe(subject.setup),
+        record: sources.file(record),
+        program: sources.file(subject.program),
     };
-    let mut limits = sources.maybe(order.limits);
+    let mut limits = sources.maybe(limits);
     let mut sink = Writing::new(io::writer(&rt));
-    let form = text_of(order.form);
+    let form = text_of(form);
     let exported = export_record(
         rt.alloc(),
         name.as_str(),
         form,
-        order.table,
+        table,
         &mut limits,
         &mut sought,
         &mut sink,
@@ -111,23 +125,37 @@ pub fn export_of_record(rt: HostRuntime, order: RecordExport) -> Result<u8, Allo
         limits: file_of(rt, limits),
         ..record_files(rt, sought)
     };
-    Ok(export_end(rt, exported, files, order.explain))
+    Ok(export_end(rt, exported, files, subject.explain))
+}
+
+/// The order `export`: its exit status.
+pub fn export(rt: HostRuntime, order: Export) -> Result<u8, AllocError> {
+    let (table, limits, subject) = (order.table, order.limits, order.subject);
+    let measured = order.measured;
+    match measured {
+        Measured::Features(form, file) => {
+            export_of_features(rt, form, file, table, limits, subject)
+        }
+        Measured::Record(form, file) => export_of_record(rt, form, file, table, limits, subject),
+    }
 }
 
 /// The order `report`: its exit status.
 #[inline(never)]
 pub fn report_of_record(rt: HostRuntime, order: PartReport) -> Result<u8, AllocError> {
-    let name = order.program.clone()?;
-    let mut sources = Sources::new(rt, order.explain);
-    let source = sources.maybe(order.seal_key);
-    let key = match key_of(rt, source, order.explain) {
+    let recorded = order.recorded;
+    let subject = recorded.subject;
+    let name = subject.program.clone()?;
+    let mut sources = Sources::new(rt, subject.explain);
+    let source = sources.maybe(recorded.seal_key);
+    let key = match key_of(rt, source, subject.explain) {
         Ok(key) => key,
         Err(status) => return Ok(status),
     };
     let mut sought = RecordFiles {
-        setup: sources.maybe(order.setup),
-        record: sources.file(order.record),
-        program: sources.file(order.program),
+        setup: sources.maybe(subject.setup),
+        record: sources.file(recorded.record),
+        program: sources.file(subject.program),
     };
     let mut limits = sources.maybe(order.limits);
     let mut sink = Writing::new(io::writer(&rt));
@@ -143,7 +171,7 @@ pub fn report_of_record(rt: HostRuntime, order: PartReport) -> Result<u8, AllocE
             let _ = eprint!(rt; "{sentence}");
             Ok(missing.status())
         }
-        Err(fault) => Ok(refused(rt, fault, files, order.explain)),
+        Err(fault) => Ok(refused(rt, fault, files, subject.explain)),
     }
 }
 

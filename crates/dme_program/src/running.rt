@@ -7,9 +7,7 @@ ghost use Rattle.dme_program.specs.Blamed.{OnSetup};
 
 use crate::connecting::loop_program;
 use crate::explaining::{key_of, refused, tell_audit};
-use crate::exporting::{
-    explain_topic, export, export_of_record, report_of_record, summary_of_records,
-};
+use crate::exporting::{explain_topic, export, report_of_record, summary_of_records};
 use crate::faults::Fault;
 use crate::files::{NamedSource, Sources, file_of};
 use crate::serving::{read_recordings, run_program, serve, watch};
@@ -19,7 +17,7 @@ use dme_orders::{
     AuditFiles, Judged, JudgedLine, RecordFiles, SimulationFiles, audit_files, audit_record,
     check_under_setup, read_machine, review_program, simulate,
 };
-use dme_words::{Audit, Check, Lower, Order, RecordAudit, Review, Simulation, read_words};
+use dme_words::{Audit, Lower, Order, Recorded, Review, Simulation, Subject, read_words};
 use order_parts::{FilesFault, status};
 use program_lowering::{Choices, SourceNames, lower_program};
 use program_review::{FindingForm, FindingStyle, InputFile, InputFiles};
@@ -105,7 +103,7 @@ fn program_files(rt: HostRuntime, setup: Option<NamedSource>, program: NamedSour
 
 /// The order `check`: its exit status.
 #[inline(never)]
-fn check(rt: HostRuntime, order: Check) -> u8 {
+fn check(rt: HostRuntime, order: Subject) -> u8 {
     let mut sources = Sources::new(rt, order.explain);
     let mut setup = sources.maybe(order.setup);
     let mut program = sources.file(order.program);
@@ -151,6 +149,7 @@ fn lower(rt: HostRuntime, order: Lower) -> Result<u8, AllocError> {
         skip_manual: order.skip_manual,
         stored_frames: order.stored_frames,
     };
+    let order = order.subject;
     let (name, setup_name) = (order.program.clone()?, order.setup.clone()?);
     let names = SourceNames {
         program: name.as_str(),
@@ -264,18 +263,19 @@ fn audit(rt: HostRuntime, order: Audit) -> u8 {
 
 /// The order `audit` for a record: its exit status. Standard error shows the part, which features are missing, and the errors of the server.
 #[inline(never)]
-fn audit_of_record(rt: HostRuntime, order: RecordAudit) -> u8 {
-    let mut sources = Sources::new(rt, order.explain);
+fn audit_of_record(rt: HostRuntime, order: Recorded) -> u8 {
+    let subject = order.subject;
+    let mut sources = Sources::new(rt, subject.explain);
     let source = sources.maybe(order.seal_key);
-    let key = match key_of(rt, source, order.explain) {
+    let key = match key_of(rt, source, subject.explain) {
         Ok(key) => key,
         Err(status) => return status,
     };
-    let setup = sources.maybe(order.setup);
+    let setup = sources.maybe(subject.setup);
     let mut sought = RecordFiles {
         setup: setup.map(Judged::new),
         record: Judged::new(sources.file(order.record)),
-        program: Judged::new(sources.file(order.program)),
+        program: Judged::new(sources.file(subject.program)),
     };
     let mut sink = Writing::new(io::writer(&rt));
     let result = audit_record(rt.alloc(), &key, &mut sought, &mut sink).map(|(status, notes)| {
@@ -290,7 +290,7 @@ fn audit_of_record(rt: HostRuntime, order: RecordAudit) -> u8 {
         program: judged(rt, sought.program, is_done),
         ..InputFiles::unnamed(rt.alloc())
     };
-    audit_end(rt, result, files, order.explain)
+    audit_end(rt, result, files, subject.explain)
 }
 
 /// Carries out an order: its exit status. None is joined to this function, whose frame would have room for all of them.
@@ -307,7 +307,6 @@ fn carry_out(rt: HostRuntime, order: Order) -> Result<u8, Fault>
         Order::Run(order) => Ok(run_program(rt, order)),
         Order::Explain(topic) => Ok(explain_topic(rt, topic)),
         Order::Export(order) => Ok(export(rt, order)?),
-        Order::ExportRecord(order) => Ok(export_of_record(rt, order)?),
         Order::Review(order) => Ok(review(rt, order)?),
         Order::Ledger(order) => {
             let job = Job::Ledger(u64::from(order.connection));

@@ -39,67 +39,71 @@ no_help word words free answers = go (bytes_eq (codes "help") word) refl answers
     go true is answers = free words (ap (λ (name : Text). Some (name, words)) (sym ((bytes_eq-Decides (codes "help") word).0 is)))
     go false is answers = true≢false (sym answers)
 
-checked : (words : List Text) → level_fault (leaf check_line) [] nothing_held words false [] ≡ [] → Has check_line (rows_after (leaf check_line).rules [] words)
+-- words without a fault give the subcommand what it cannot do without
+abbrev Finds : App → Type 0
+Finds line = (words : List Text) → level_fault (leaf line) [] nothing_held words false [] ≡ [] → Has line (rows_after (leaf line).rules [] words)
+
+checked : Finds check_line
 checked words none = level_has (leaf check_line) words refl
     ((refl, inl (refl, refl)), ((refl, inr (inl (refl, omega arith))), ((refl, inl (refl, refl)), ((refl, inr (inr refl)), tt))))
     none
 
-simulation : (words : List Text) → level_fault (leaf simulate_line) [] nothing_held words false [] ≡ [] → Has simulate_line (rows_after (leaf simulate_line).rules [] words)
+simulation : Finds simulate_line
 simulation words none = level_has (leaf simulate_line) words refl
     ((refl, inl (refl, refl)), ((refl, inl (refl, refl)), ((refl, inl (refl, refl)), ((refl, inr (inl (refl, omega arith))), ((refl, inr (inl (refl, omega arith))), ((refl, inl (refl, refl)), ((refl, inr (inr refl)), tt)))))))
     none
 
-audit : (words : List Text) → level_fault (leaf audit_line) [] nothing_held words false [] ≡ [] → Has audit_line (rows_after (leaf audit_line).rules [] words)
+audit : Finds audit_line
 audit words none = level_has (leaf audit_line) words refl
     ((refl, inl (refl, refl)), ((refl, inl (refl, refl)), ((refl, inl (refl, refl)), ((refl, inl (refl, refl)), ((refl, inl (refl, refl)), ((refl, inr (inl (refl, omega arith))), ((refl, inl (refl, refl)), ((refl, inr (inr refl)), tt))))))))
     none
 
-loop : (words : List Text) → level_fault (leaf loop_line) [] nothing_held words false [] ≡ [] → Has loop_line (rows_after (leaf loop_line).rules [] words)
+loop : Finds loop_line
 loop words none = level_has (leaf loop_line) words refl
     ((refl, inl (refl, refl)), ((refl, inl (refl, refl)), ((refl, inr (inl (refl, omega arith))), ((refl, inr (inl (refl, omega arith))), ((refl, inr (inl (refl, omega arith))), ((refl, inl (refl, refl)), ((refl, inr (inr refl)), tt)))))))
     none
 
-service : (words : List Text) → level_fault (leaf serve_line) [] nothing_held words false [] ≡ [] → Has serve_line (rows_after (leaf serve_line).rules [] words)
+service : Finds serve_line
 service words none = level_has (leaf serve_line) words refl
     ((refl, inl (refl, refl)), ((refl, inl (refl, refl)), ((refl, inl (refl, refl)), ((refl, inl (refl, refl)), ((refl, inr (inl (refl, omega arith))), ((refl, inl (refl, refl)), ((refl, inr (inl (refl, omega arith))), ((refl, inr (inl (refl, omega arith))), ((refl, inl (refl, refl)), ((refl, inl (refl, refl)), ((refl, inl (refl, refl)), ((refl, inr (inl (refl, omega arith))), ((refl, inr (inr refl)), tt)))))))))))))
     none
 
-driven : (words : List Text) → level_fault (leaf run_line) [] nothing_held words false [] ≡ [] → Has run_line (rows_after (leaf run_line).rules [] words)
+driven : Finds run_line
 driven words none = level_has (leaf run_line) words refl
     ((refl, inl (refl, refl)), ((refl, inl (refl, refl)), ((refl, inl (refl, refl)), ((refl, inl (refl, refl)), ((refl, inl (refl, refl)), ((refl, inl (refl, refl)), ((refl, inl (refl, refl)), ((refl, inl (refl, refl)), ((refl, inl (refl, refl)), ((refl, inl (refl, refl)), ((refl, inl (refl, refl)), ((refl, inl (refl, refl)), ((refl, inr (inl (refl, omega arith))), ((refl, inr (inl (refl, omega arith))), ((refl, inl (refl, refl)), ((refl, inl (refl, refl)), ((refl, inl (refl, refl)), ((refl, inl (refl, refl)), ((refl, inr (inl (refl, omega arith))), ((refl, inr (inl (refl, omega arith))), ((refl, inr (inl (refl, omega arith))), ((refl, inl (refl, refl)), ((refl, inr (inr refl)), tt)))))))))))))))))))))))
     none
 
-explained : (words : List Text) → level_fault (leaf explain_line) [] nothing_held words false [] ≡ [] → Has explain_line (rows_after (leaf explain_line).rules [] words)
+explained : Finds explain_line
 explained words none = level_has (leaf explain_line) words refl
     ((refl, inl (refl, refl)), ((refl, inr (inr refl)), tt))
     none
 
-export : (words : List Text) → level_fault (leaf export_line) [] nothing_held words false [] ≡ [] → Has export_line (rows_after (leaf export_line).rules [] words)
+export : Finds export_line
 export words none = level_has (leaf export_line) words refl
     ((refl, inl (refl, refl)), ((refl, inl (refl, refl)), ((refl, inl (refl, refl)), ((refl, inl (refl, refl)), ((refl, inl (refl, refl)), ((refl, inl (refl, refl)), ((refl, inl (refl, refl)), ((refl, inr (inl (refl, omega arith))), ((refl, inr (inl (refl, omega arith))), ((refl, inl (refl, refl)), ((refl, inr (inr refl)), tt)))))))))))
     none
 
-witnessed : (words : List Text) → level_fault (leaf ledger_line) [] nothing_held words false [] ≡ [] → Has ledger_line (rows_after (leaf ledger_line).rules [] words)
+witnessed : Finds ledger_line
 witnessed words none = level_has (leaf ledger_line) words refl
     ((refl, inl (refl, refl)), ((refl, inl (refl, refl)), ((refl, inl (refl, refl)), ((refl, inr (inr refl)), tt))))
     none
 
-judged : (words : List Text) → level_fault (leaf judge_line) [] nothing_held words false [] ≡ [] → Has judge_line (rows_after (leaf judge_line).rules [] words)
+judged : Finds judge_line
 judged words none = level_has (leaf judge_line) words refl
     ((refl, inl (refl, refl)), ((refl, inl (refl, refl)), ((refl, inr (inr refl)), tt)))
     none
 
-relayed : (words : List Text) → level_fault (leaf watch_line) [] nothing_held words false [] ≡ [] → Has watch_line (rows_after (leaf watch_line).rules [] words)
+relayed : Finds watch_line
 relayed words none = level_has (leaf watch_line) words refl
     ((refl, inl (refl, refl)), ((refl, inl (refl, refl)), ((refl, inl (refl, refl)), ((refl, inl (refl, refl)), ((refl, inl (refl, refl)), ((refl, inl (refl, refl)), ((refl, inr (inl (refl, omega arith))), ((refl, inr (inl (refl, omega arith))), ((refl, inl (refl, refl)), ((refl, inl (refl, refl)), ((refl, inr (inr refl)), tt)))))))))))
     none
 
-lowered : (words : List Text) → level_fault (leaf lower_line) [] nothing_held words false [] ≡ [] → Has lower_line (rows_after (leaf lower_line).rules [] words)
+lowered : Finds lower_line
 lowered words none = level_has (leaf lower_line) words refl
     ((refl, inl (refl, refl)), ((refl, inr (inl (refl, omega arith))), ((refl, inr (inl (refl, omega arith))), ((refl, inr (inl (refl, omega arith))), ((refl, inr (inl (refl, omega arith))), ((refl, inr (inl (refl, omega arith))), ((refl, inl (refl, refl)), ((refl, inr (inr refl)), tt))))))))
     none
 
-reported : (words : List Text) → level_fault (leaf report_line) [] nothing_held words false [] ≡ [] → Has report_line (rows_after (leaf report_line).rules [] words)
+reported : Finds report_line
 reported words none = level_has (leaf report_line) words refl
     ((refl, inl (refl, refl)), ((refl, inl (refl, refl)), ((refl, inl (refl, refl)), ((refl, inl (refl, refl)), ((refl, inr (inl (refl, omega arith))), ((refl, inl (refl, refl)), ((refl, inr (inr refl)), tt)))))))
     none

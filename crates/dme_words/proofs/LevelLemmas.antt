@@ -1,8 +1,8 @@
 -- What a level of the command line without a fault has found: each value has passed the parser of its argument.
 use Rattle.dme_words.proofs.Names.{[], ◌&&◌, ◌++◌, ◌<◌, ◌∙◌, ◌∷◌, ◌≡◌, ◌⊎◌, action_fault, action_of, after_flag, after_step, ap, arg_by_id}
-use Rattle.dme_words.proofs.Names.{arg_by_index, arg_by_long, arg_by_short, arith, at_row, attached_value, Bool, bundle, bundle_fault, bundle_step}
-use Rattle.dme_words.proofs.Names.{bundle_step_fault, bytes_eq, bytes_eq-Decides, chars, CommandLine, cond, default_rows, defaults_fault, done, drop}
-use Rattle.dme_words.proofs.Names.{encode_utf8, false, find, flag_met, flag_word_fault, fold, has_row, Held, idle, inl, inr, is_pending, Kinds}
+use Rattle.dme_words.proofs.Names.{arg_by_index, arg_by_long, arg_by_short, arith, attached_value, Bool, bundle, bundle_fault, bundle_step}
+use Rattle.dme_words.proofs.Names.{bundle_step_fault, bytes_eq, bytes_eq-Decides, chars, CommandLine, cond, done, drop}
+use Rattle.dme_words.proofs.Names.{encode_utf8, false, find, flag_met, flag_word_fault, fold, Held, idle, inl, inr, is_pending, Kinds}
 use Rattle.dme_words.proofs.Names.{length, List, long_fault, long_met, long_of, long_or_other, more_values, most_values, next, None, none-some}
 use Rattle.dme_words.proofs.Names.{Option, option, option_fault, option_map_or, option_met, option_word, or_else, other_fault, Outcome, plain}
 use Rattle.dme_words.proofs.Names.{plain_word, positional, positional_fault, positional_held, range_kinds, react_fault, reacted, reading_by, refl}
@@ -10,7 +10,7 @@ use Rattle.dme_words.proofs.Names.{refused, repeat_fault, Row, Rule, same_Some, 
 use Rattle.dme_words.proofs.Names.{short_met, short_of, short_or_plain, slice_get, Some, Step, step_fault, subcommand, subcommand_met}
 use Rattle.dme_words.proofs.Names.{subcommand_or_other, subst, suc, sym, takes_several, takes_values, Text, to_positional, trailing, true, turn_fault}
 use Rattle.dme_words.proofs.Names.{unwrap_or_range, use_fault, used, used_as, value, ValueParser, values_fault, values_kinds, values_or_missing}
-use Rattle.dme_words.proofs.Names.{Waiting, waits, Walk, walked_from, with_default, with_values, without, word_fault, word_met, zero, ℕ}
+use Rattle.dme_words.proofs.Names.{Waiting, waits, Walk, walked_from, with_values, without, word_fault, word_met, zero, ℕ}
 use Rattle.clap.specs.Walk.{Names, bundle_met, walked}
 use Rattle.clap.specs.Faults.{flags_fault, walk_fault}
 use Rattle.clap.specs.declared.builder.action.ArgAction.{ArgAction}

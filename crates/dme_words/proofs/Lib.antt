@@ -1,6 +1,5 @@
 pub mod Names
 pub mod WordsLemmas
-pub mod LineLemmas
 pub mod NumberLemmas
 pub mod HelpLemmas
 pub mod LevelLemmas

@@ -8,7 +8,7 @@ use Rattle.std.specs.declared.alloc.Global.{Global}
 use Rattle.clap.specs.declared.parser.matches.ArgMatches.{ArgMatches}
 use Rattle.dme_words.specs.declared.orders.Order.{Order}
 use Rattle.dme_words.specs.declared.words.WordsFault.{WordsFault}
-use Rattle.dme_words.specs.declared.words.WordsFault.TheVariants.{Control, Line, Memory, Misfits, NoCode, NoFindingForm, NoForm, NoName, NoSeconds, NoSeparator, NoSign, NoSummaryForm}
+use Rattle.dme_words.specs.declared.words.WordsFault.TheVariants.{Control, Line, Memory, Misfits, NoValue}
 use Rattle.clap.specs.declared.error.Error.{Error}
 use Rattle.clap.specs.declared.error.kind.ErrorKind.TheVariants.{OutOfMemory}
 use Rattle.dme_words.proofs.AskedLemmas.{asked}
@@ -53,7 +53,9 @@ no_line p told (inr (inr (inr (inl (is, inl (inr (inr (inl none)))))))) = none
 no_line p told (inr (inr (inr (inl (is, inl (inr (inr (inr none)))))))) = none
 no_line p told (inr (inr (inr (inl (is, inr none))))) = none
 no_line p told (inr (inr (inr (inr (inl (is, none)))))) = none
-no_line p told (inr (inr (inr (inr (inr (inl (is, none))))))) = none
+no_line p told (inr (inr (inr (inr (inr (inl (is, inl none))))))) = none
+no_line p told (inr (inr (inr (inr (inr (inl (is, inr (inl none)))))))) = none
+no_line p told (inr (inr (inr (inr (inr (inl (is, inr (inr none)))))))) = none
 no_line p told (inr (inr (inr (inr (inr (inr (inl (is, none)))))))) = none
 no_line p told (inr (inr (inr (inr (inr (inr (inr (inl (is, none))))))))) = none
 no_line p told (inr (inr (inr (inr (inr (inr (inr (inr (is, none))))))))) = none
@@ -68,7 +70,9 @@ no_control p shown (inr (inr (inr (inl (is, inl (inr (inr (inl none)))))))) = no
 no_control p shown (inr (inr (inr (inl (is, inl (inr (inr (inr none)))))))) = none
 no_control p shown (inr (inr (inr (inl (is, inr none))))) = none
 no_control p shown (inr (inr (inr (inr (inl (is, none)))))) = none
-no_control p shown (inr (inr (inr (inr (inr (inl (is, none))))))) = none
+no_control p shown (inr (inr (inr (inr (inr (inl (is, inl none))))))) = none
+no_control p shown (inr (inr (inr (inr (inr (inl (is, inr (inl none)))))))) = none
+no_control p shown (inr (inr (inr (inr (inr (inl (is, inr (inr none)))))))) = none
 no_control p shown (inr (inr (inr (inr (inr (inr (inl (is, none)))))))) = none
 no_control p shown (inr (inr (inr (inr (inr (inr (inr (inl (is, none))))))))) = none
 no_control p shown (inr (inr (inr (inr (inr (inr (inr (inr (is, none))))))))) = none
@@ -86,14 +90,7 @@ refused_value : (a : App) (words : List Text) (m : ArgMatches) (fault : WordsFau
 refused_value a words m (Line told) is none has asks = absurd (none_called (subcommand_rows_of m) told asks)
 refused_value a words m (Control shown) is none has asks = absurd (none_controlled (subcommand_rows_of m) shown asks)
 refused_value a words m Memory is none has asks = tt
-refused_value a words m (NoCode code) is none has asks = has_no_value a words m (NoCode code) is none has asks
-refused_value a words m (NoForm word) is none has asks = has_no_value a words m (NoForm word) is none has asks
-refused_value a words m (NoFindingForm word) is none has asks = has_no_value a words m (NoFindingForm word) is none has asks
-refused_value a words m (NoSummaryForm word) is none has asks = has_no_value a words m (NoSummaryForm word) is none has asks
-refused_value a words m (NoSeparator word) is none has asks = has_no_value a words m (NoSeparator word) is none has asks
-refused_value a words m (NoSign word) is none has asks = has_no_value a words m (NoSign word) is none has asks
-refused_value a words m (NoSeconds option text) is none has asks = has_no_value a words m (NoSeconds option text) is none has asks
-refused_value a words m (NoName option text) is none has asks = has_no_value a words m (NoName option text) is none has asks
+refused_value a words m (NoValue wanted text) is none has asks = has_no_value a words m (NoValue wanted text) is none has asks
 refused_value a words m (Misfits why) is none has asks = has_no_value a words m (Misfits why) is none has asks
 
 -- what is asked or refused, by the answer of a parse
@@ -117,12 +114,5 @@ asked_or_refused a words (Err error) (Err (Line told)) is kinds has order_is tak
     (tt, of_this a words error told is kinds called.0 called.1)
 asked_or_refused a words (Err error) (Err Memory) is kinds has order_is taken called = (tt, tt)
 asked_or_refused a words (Err error) (Err (Control shown)) is kinds has order_is taken called = absurd called
-asked_or_refused a words (Err error) (Err (NoCode code)) is kinds has order_is taken called = absurd called
-asked_or_refused a words (Err error) (Err (NoForm word)) is kinds has order_is taken called = absurd called
-asked_or_refused a words (Err error) (Err (NoFindingForm word)) is kinds has order_is taken called = absurd called
-asked_or_refused a words (Err error) (Err (NoSummaryForm word)) is kinds has order_is taken called = absurd called
-asked_or_refused a words (Err error) (Err (NoSeparator word)) is kinds has order_is taken called = absurd called
-asked_or_refused a words (Err error) (Err (NoSign word)) is kinds has order_is taken called = absurd called
-asked_or_refused a words (Err error) (Err (NoSeconds option text)) is kinds has order_is taken called = absurd called
-asked_or_refused a words (Err error) (Err (NoName option text)) is kinds has order_is taken called = absurd called
+asked_or_refused a words (Err error) (Err (NoValue wanted text)) is kinds has order_is taken called = absurd called
 asked_or_refused a words (Err error) (Err (Misfits why)) is kinds has order_is taken called = absurd called

@@ -16,23 +16,31 @@ needed_rule name = record (text_rule name) { required = true }
 abbrev pub number_rule : Text → ℕ → Rule
 number_rule name most = record (text_rule name) { parser = Some (Signed (pos 1) (pos most)) }
 
--- the option `--window W`: a number from 1 to 16, 1 if none is named
+-- likewise, which must be named, or is this one if none is named
+abbrev pub needed_number_rule : Text → ℕ → Rule
+needed_number_rule name most = record (number_rule name most) { required = true }
+
+abbrev pub usual_number_rule : Text → ℕ → Text → Rule
+usual_number_rule name most usual = record (number_rule name most) { defaults = usual ∷ [] }
+
+-- the window, the port, and the count of connections
 abbrev pub window_rule : Rule
-window_rule = record (number_rule (codes "window") 16) { defaults = codes "1" ∷ [] }
+window_rule = usual_number_rule (codes "window") 16 (codes "1")
 
--- the option `--port N`, which must be named: a number from 1 to 65,535
 abbrev pub port_rule : Rule
-port_rule = record (number_rule (codes "port") 65535) { required = true }
+port_rule = needed_number_rule (codes "port") 65535
 
--- the option `--connections K`: a number from 1 to 4,000,000,000, this one if none is named
 abbrev pub connections_rule : Text → Rule
-connections_rule count = record (number_rule (codes "connections") 4000000000) { defaults = count ∷ [] }
+connections_rule = usual_number_rule (codes "connections") 4000000000
 
 -- the flag `--NAME`, which is set or not
 abbrev pub flag_rule : Text → Rule
 flag_rule name = record (new_rule name) { long = Some name; action = Some SetTrue }
 
--- the positional `PROGRAM`, `-` if none is named
+-- the positional `NAME`, which must be named; and `PROGRAM`, `-` if none is named
+abbrev pub word_rule : Text → Rule
+word_rule name = record (new_rule name) { required = true }
+
 abbrev pub program_rule : Rule
 program_rule = record (new_rule (codes "PROGRAM")) { defaults = codes "-" ∷ [] }
 
@@ -75,13 +83,9 @@ run_line = line_of (codes "run") (text_rule (codes "machine") ∷ needed_rule (c
     ∷ text_rule (codes "wait") ∷ text_rule (codes "stop") ∷ flag_rule (codes "confirm") ∷ flag_rule (codes "pause")
     ∷ flag_rule (codes "explain") ∷ program_rule ∷ [])
 
--- the positional `CODE`, which must be named
-abbrev pub code_rule : Rule
-code_rule = record (new_rule (codes "CODE")) { required = true }
-
 -- `explain CODE`
 abbrev pub explain_line : App
-explain_line = line_of (codes "explain") (code_rule ∷ [])
+explain_line = line_of (codes "explain") (word_rule (codes "CODE") ∷ [])
 
 -- `export --as FORM [--setup FILE] [--features FILE] [--record FILE] [--limits FILE] [--separator SIGN] [--decimal SIGN]
 -- [--with-part] [--explain] [PROGRAM]`
@@ -94,47 +98,36 @@ export_line = line_of (codes "export") (needed_rule (codes "as") ∷ text_rule (
 abbrev pub review_line : App
 review_line = line_of (codes "review") (text_rule (codes "as") ∷ text_rule (codes "setup") ∷ program_rule ∷ [])
 
--- the option `--connection N`: a number from 1 to 4,000,000,000, 1 if none is named
-abbrev pub connection_rule : Rule
-connection_rule = record (number_rule (codes "connection") 4000000000) { defaults = codes "1" ∷ [] }
-
 -- `ledger --up FILE --down FILE [--connection N]`
 abbrev pub ledger_line : App
-ledger_line = line_of (codes "ledger") (needed_rule (codes "up") ∷ needed_rule (codes "down") ∷ connection_rule ∷ [])
+ledger_line = line_of (codes "ledger") (needed_rule (codes "up") ∷ needed_rule (codes "down") ∷ usual_number_rule (codes "connection") 4000000000 (codes "1") ∷ [])
 
 -- `judge --up FILE --down FILE`
 abbrev pub judge_line : App
 judge_line = line_of (codes "judge") (needed_rule (codes "up") ∷ needed_rule (codes "down") ∷ [])
 
--- the option `--listen PORT` of a relay, which must be named: a number from 1 to 65,535
-abbrev pub listened_rule : Rule
-listened_rule = record (number_rule (codes "listen") 65535) { required = true }
-
 -- `watch --listen PORT --host H --port N --told FILE [--record-bytes FOLDER] [--connections K] [--endless] [--trace] [--log FILE]
 -- [--timeout SECONDS]`
 abbrev pub watch_line : App
-watch_line = line_of (codes "watch") (listened_rule ∷ needed_rule (codes "host") ∷ port_rule ∷ needed_rule (codes "told")
+watch_line = line_of (codes "watch") (needed_number_rule (codes "listen") 65535 ∷ needed_rule (codes "host") ∷ port_rule ∷ needed_rule (codes "told")
     ∷ text_rule (codes "record-bytes") ∷ connections_rule (codes "4000000000") ∷ flag_rule (codes "endless") ∷ flag_rule (codes "trace") ∷ text_rule (codes "log")
     ∷ text_rule (codes "timeout") ∷ [])
 
 -- `lower [--setup FILE] [--no-clearing] [--compensated] [--skip-manual] [--stored-frames] [--explain] [PROGRAM]`
 abbrev pub lower_line : App
 lower_line = line_of (codes "lower") (text_rule (codes "setup") ∷ flag_rule (codes "no-clearing") ∷ flag_rule (codes "compensated")
-    ∷ flag_rule (codes "skip-manual") ∷ flag_rule (codes "stored-frames") ∷ flag_rule (codes "explain") ∷ program_rule ∷ [])
+    ∷ flag_rule (codes "skip-manual") ∷ flag_rule (codes "stored-frames") ∷ flag_rule (codes "explain")
+    ∷ program_rule ∷ [])
 
 -- `report --record FILE [--setup FILE] [--limits FILE] [--seal-key FILE] [--explain] [PROGRAM]`
 abbrev pub report_line : App
 report_line = line_of (codes "report") (needed_rule (codes "record") ∷ text_rule (codes "setup") ∷ text_rule (codes "limits")
     ∷ text_rule (codes "seal-key") ∷ flag_rule (codes "explain") ∷ program_rule ∷ [])
 
--- the positional `RECORD ..`, of which one must be named
-abbrev pub records_rule : Rule
-records_rule = record (new_rule (codes "RECORD")) { required = true; action = Some Append }
-
 -- `summary [--as FORM] [--setup FILE] [--limits FILE] [--seal-key FILE] [--program FILE] RECORD ..`
 abbrev pub summary_line : App
 summary_line = line_of (codes "summary") (text_rule (codes "as") ∷ text_rule (codes "setup") ∷ text_rule (codes "limits")
-    ∷ text_rule (codes "seal-key") ∷ text_rule (codes "program") ∷ records_rule ∷ [])
+    ∷ text_rule (codes "seal-key") ∷ text_rule (codes "program") ∷ record (word_rule (codes "RECORD")) { action = Some Append } ∷ [])
 
 -- the command without its subcommands, of which one is required
 abbrev pub bare_line : App

@@ -12,6 +12,8 @@ use Rattle.clap.specs.Walk.{Rule}
 use Rattle.clap.specs.Simple.{App, Shape, built_leaf, inherited, marked_built, on_top, with_leaf_noted}
 use Rattle.clap.specs.declared.builder.value_parser.ValueParser.{ValueParser}
 use Rattle.clap.specs.declared.builder.value_parser.ValueParser.TheVariants.{Bool as OfBool, Signed}
+use Rattle.clap.specs.declared.parser.matches.ArgMatches.{ArgMatches}
+use Rattle.clap.specs.Words.{found_of, rows_of}
 use Rattle.clap.specs.Words.{IsAmong, IsSignedIn, Row, Text, all_of, fault_of, first_of, kind_of, one_of, subcommand_of, without_minus}
 use Rattle.client_core.specs.Clients.{is_window}
 use Rattle.program_review.specs.Codes.{is_code_of}
@@ -22,28 +24,30 @@ use Rattle.dme_words.specs.Folders.{part_record}
 use Rattle.dme_words.specs.CommandLine.{audit_line, check_line, explain_line, export_line, judge_line, ledger_line, loop_line, lower_line, report_line, run_line, serve_line, simulate_line, watch_line, whole_line}
 use Rattle.dme_words.specs.declared.orders.Audit.{Audit}
 use Rattle.dme_words.specs.declared.orders.BatchSummary.{BatchSummary}
-use Rattle.dme_words.specs.declared.orders.Check.{Check}
 use Rattle.dme_words.specs.declared.orders.Export.{Export}
 use Rattle.dme_words.specs.declared.orders.Judge.{Judge}
 use Rattle.dme_words.specs.declared.orders.Ledger.{Ledger}
 use Rattle.dme_words.specs.declared.orders.Loop.{Loop}
 use Rattle.dme_words.specs.declared.orders.Lower.{Lower}
+use Rattle.dme_words.specs.declared.orders.Measured.{Measured}
+use Rattle.dme_words.specs.declared.orders.Measured.TheVariants as measured
 use Rattle.dme_words.specs.declared.orders.Order.{Order}
 use Rattle.dme_words.specs.declared.orders.Order.TheVariants as order
 use Rattle.dme_words.specs.declared.orders.PartReport.{PartReport}
-use Rattle.dme_words.specs.declared.orders.RecordAudit.{RecordAudit}
-use Rattle.dme_words.specs.declared.orders.RecordExport.{RecordExport}
 use Rattle.dme_words.specs.declared.orders.RecordForm.{RecordForm}
 use Rattle.dme_words.specs.declared.orders.SummaryForm.{SummaryForm}
 use Rattle.dme_words.specs.declared.orders.SummaryForm.TheVariants as summary
 use Rattle.dme_words.specs.declared.orders.RecordForm.TheVariants.{Table, Features, Contacts}
+use Rattle.dme_words.specs.declared.orders.Recorded.{Recorded}
 use Rattle.dme_words.specs.declared.orders.Review.{Review}
 use Rattle.dme_words.specs.declared.orders.Run.{Run}
 use Rattle.dme_words.specs.declared.orders.Service.{Service}
 use Rattle.dme_words.specs.declared.orders.Simulation.{Simulation}
+use Rattle.dme_words.specs.declared.orders.Subject.{Subject}
 use Rattle.dme_words.specs.declared.orders.Watch.{Watch}
+use Rattle.dme_words.specs.declared.words.Wanted.TheVariants as wanted
 use Rattle.dme_words.specs.declared.words.WordsFault.{WordsFault}
-use Rattle.dme_words.specs.declared.words.WordsFault.TheVariants.{Control, Line, Memory, Misfits, NoCode, NoFindingForm, NoForm, NoName, NoSeconds, NoSeparator, NoSign, NoSummaryForm}
+use Rattle.dme_words.specs.declared.words.WordsFault.TheVariants.{Control, Line, Memory, Misfits, NoValue}
 use Rattle.deviations.specs.declared.styles.DecimalSign.{DecimalSign}
 use Rattle.deviations.specs.declared.styles.DecimalSign.TheVariants as sign
 use Rattle.deviations.specs.declared.styles.Separator.{Separator}
@@ -52,6 +56,10 @@ use Rattle.deviations.specs.declared.styles.TableOptions.{TableOptions}
 use Rattle.dme_words.specs.declared.misfits.Misfit.{Misfit}
 use Rattle.dme_words.specs.declared.misfits.Misfit.TheVariants as misfit
 use Rattle.dme_words.specs.declared.misfits.Lacks.{Lacks}
+
+-- what `clap` has found of a command's arguments
+abbrev pub rows_in : ArgMatches → List Row
+rows_in values = rows_of (found_of values)
 
 -- the name is the value of the option with this id
 abbrev pub IsValueOf : Text → List Row → Text → Type 0
@@ -68,10 +76,6 @@ HasNone id rows = first_of id rows ≡ None
 -- the name is the value of the argument with this id, or standard input if none is named
 abbrev pub IsValueOrInput : Text → List Row → Text → Type 0
 IsValueOrInput id rows name = name ≡ unwrap_or (first_of id rows) (codes "-")
-
--- the program is the named one, or standard input if none is named
-abbrev pub IsProgramOf : List Row → Text → Type 0
-IsProgramOf rows name = name ≡ unwrap_or (first_of (codes "PROGRAM") rows) (codes "-")
 
 -- the text writes this number, as Rust reads a number, and it is from 1 to `most`
 abbrev pub IsNumber : ℕ → ℕ → Text → Type 0
@@ -107,18 +111,24 @@ IsConnectionsOf rows number = (IsFlagOf (codes "endless") rows true × (number �
 abbrev pub IsExplainedOf : List Row → Bool → Type 0
 IsExplainedOf = IsFlagOf (codes "explain")
 
--- a check of the program with the named setup, or with none if none is named
-abbrev pub IsCheckOf : List Row → Check → Type 0
-IsCheckOf rows o =
+-- the program is the named one, or standard input, under the named setup, or none if none is named
+abbrev pub IsSubjectOf : List Row → Subject → Type 0
+IsSubjectOf rows o =
     IsMaybeOf (codes "setup") rows (option_map string_bytes o.setup) × IsExplainedOf rows o.explain
-    × IsProgramOf rows (string_bytes o.program)
+    × IsValueOrInput (codes "PROGRAM") rows (string_bytes o.program)
+
+-- it is about the named record, with the key of its seals if one is named
+abbrev pub IsRecordedOf : List Row → Recorded → Type 0
+IsRecordedOf rows o =
+    IsValueOf (codes "record") rows (string_bytes o.record) × IsMaybeOf (codes "seal-key") rows (option_map string_bytes o.seal_key)
+    × IsSubjectOf rows o.subject
 
 -- a simulation of the program with the named setup and schedule, and the named window
 abbrev pub IsSimulateOf : List Row → Simulation → Type 0
 IsSimulateOf rows o =
     IsValueOf (codes "setup") rows (string_bytes o.setup) × IsValueOf (codes "schedule") rows (string_bytes o.schedule)
     × IsWindowOf rows o.window × IsFlagOf (codes "trace") rows o.trace × IsExplainedOf rows o.explain
-    × IsProgramOf rows (string_bytes o.program)
+    × IsValueOrInput (codes "PROGRAM") rows (string_bytes o.program)
 
 -- an audit of the program with the named setup, features and contacts; no record is named
 abbrev pub IsAuditOf : List Row → Audit → Type 0
@@ -126,15 +136,11 @@ IsAuditOf rows o =
     IsValueOf (codes "setup") rows (string_bytes o.setup) × IsValueOf (codes "features") rows (string_bytes o.features)
     × IsValueOf (codes "contacts") rows (string_bytes o.contacts) × HasNone (codes "record") rows × HasNone (codes "seal-key") rows
     × IsExplainedOf rows o.explain
-    × IsProgramOf rows (string_bytes o.program)
+    × IsValueOrInput (codes "PROGRAM") rows (string_bytes o.program)
 
--- an audit of the program with the named record, and with the named setup or with none if none is named; no features or contacts are named
-abbrev pub IsRecordAuditOf : List Row → RecordAudit → Type 0
-IsRecordAuditOf rows o =
-    IsMaybeOf (codes "setup") rows (option_map string_bytes o.setup) × IsValueOf (codes "record") rows (string_bytes o.record)
-    × HasNone (codes "features") rows × HasNone (codes "contacts") rows
-    × IsMaybeOf (codes "seal-key") rows (option_map string_bytes o.seal_key) × IsExplainedOf rows o.explain
-    × IsProgramOf rows (string_bytes o.program)
+-- an audit of the named record; no features or contacts are named
+abbrev pub IsRecordAuditOf : List Row → Recorded → Type 0
+IsRecordAuditOf rows o = HasNone (codes "features") rows × HasNone (codes "contacts") rows × IsRecordedOf rows o
 
 -- the order of `audit`: that of a record just if one is named
 abbrev pub IsAnyAuditOf : List Row → Order → Type 0
@@ -146,7 +152,7 @@ IsAnyAuditOf rows _ = ⊥
 abbrev pub IsLoopOf : List Row → Loop → Type 0
 IsLoopOf rows o =
     IsValueOf (codes "setup") rows (string_bytes o.setup) × IsWindowOf rows o.window × IsFlagOf (codes "progress") rows o.progress
-    × IsFlagOf (codes "trace") rows o.trace × IsExplainedOf rows o.explain × IsProgramOf rows (string_bytes o.program)
+    × IsFlagOf (codes "trace") rows o.trace × IsExplainedOf rows o.explain × IsValueOrInput (codes "PROGRAM") rows (string_bytes o.program)
 
 -- a server with the named setup at the named port, for that many connections, with the named address, file for its contacts, log, time limit
 -- and stop file, if any
@@ -167,17 +173,11 @@ is_lacking id rows = not (is_some (first_of id rows))
 abbrev pub is_unrecorded : List Row → Bool
 is_unrecorded rows = is_lacking (codes "record") rows && is_lacking (codes "records") rows
 
--- a part is named if a record is, or its folder, and only then
-abbrev pub NamesItsPart : List Row → Type 0
-NamesItsPart rows = is_unrecorded rows ≡ is_lacking (codes "part") rows
-
--- an operator is named only if a record is, or its folder
-abbrev pub KeepsItsOperator : List Row → Type 0
-KeepsItsOperator rows = is_unrecorded rows ≡ true → is_lacking (codes "operator") rows ≡ true
-
--- and so is a key
-abbrev pub KeepsItsKey : List Row → Type 0
-KeepsItsKey rows = is_unrecorded rows ≡ true → is_lacking (codes "seal-key") rows ≡ true
+-- a part is named if a record is, or its folder, and only then; an operator and a key are named only if one of these is
+abbrev pub FitsRun : List Row → Type 0
+FitsRun rows = (is_unrecorded rows ≡ is_lacking (codes "part") rows)
+    × (is_unrecorded rows ≡ true → is_lacking (codes "operator") rows ≡ true)
+    × (is_unrecorded rows ≡ true → is_lacking (codes "seal-key") rows ≡ true)
 
 -- the record is the named file; if none is named, that of the part in the named folder
 abbrev pub IsRecordOf : List Row → Option Text → Type 0
@@ -203,7 +203,7 @@ IsRunOf rows o =
     × IsSecondsOf (codes "timeout") rows o.timeout × IsSecondsOf (codes "wait") rows o.wait
     × IsMaybeOf (codes "stop") rows (option_map string_bytes o.stop) × IsFlagOf (codes "confirm") rows o.confirm
     × IsFlagOf (codes "pause") rows o.pause
-    × IsExplainedOf rows o.explain × IsProgramOf rows (string_bytes o.program)
+    × IsExplainedOf rows o.explain × IsValueOrInput (codes "PROGRAM") rows (string_bytes o.program)
 
 -- a code that names a refusal, its letters in any case, or a server's own errors
 abbrev pub IsCodeOf : Topic → Text → Type 0
@@ -251,31 +251,22 @@ KeepsItsTable rows (Table Csv) table = Unit {0}
 KeepsItsTable rows (Table Json) table = NamesNoSign rows
 KeepsItsTable rows _ table = NamesNoSign rows × (table.with_part ≡ false)
 
--- what was measured of the program, in the named form, with the named features, and with the named setup and limits, each if one is named;
--- no record is named
+-- the named features, in the named form, or the named record, if only one of them is named
+abbrev pub IsMeasuredOf : List Row → Measured → Type 0
+IsMeasuredOf rows (measured.Features form file) = IsValueOf (codes "as") rows (form_word (Table form))
+    × IsValueOf (codes "features") rows (string_bytes file) × HasNone (codes "record") rows
+IsMeasuredOf rows (measured.Record form file) = IsValueOf (codes "as") rows (form_word form)
+    × IsValueOf (codes "record") rows (string_bytes file) × HasNone (codes "features") rows
+
+abbrev pub form_in : Measured → RecordForm
+form_in (measured.Features form file) = Table form
+form_in (measured.Record form file) = form
+
+-- what was measured of the program, in a table of the named style, with the named limits, if they are named
 abbrev pub IsExportOf : List Row → Export → Type 0
 IsExportOf rows o =
-    IsValueOf (codes "as") rows (form_word (Table o.form)) × IsMaybeOf (codes "setup") rows (option_map string_bytes o.setup)
-    × IsTableOf rows o.table × KeepsItsTable rows (Table o.form) o.table
-    × IsValueOf (codes "features") rows (string_bytes o.features) × HasNone (codes "record") rows
-    × IsMaybeOf (codes "limits") rows (option_map string_bytes o.limits) × IsExplainedOf rows o.explain
-    × IsProgramOf rows (string_bytes o.program)
-
--- what the named record holds, in the named form, under the program and the named setup and limits, each if one is named; no features are
--- named
-abbrev pub IsRecordExportOf : List Row → RecordExport → Type 0
-IsRecordExportOf rows o =
-    IsValueOf (codes "as") rows (form_word o.form) × IsMaybeOf (codes "setup") rows (option_map string_bytes o.setup)
-    × IsTableOf rows o.table × KeepsItsTable rows o.form o.table
-    × IsValueOf (codes "record") rows (string_bytes o.record) × HasNone (codes "features") rows
-    × IsMaybeOf (codes "limits") rows (option_map string_bytes o.limits) × IsExplainedOf rows o.explain
-    × IsProgramOf rows (string_bytes o.program)
-
--- the order of `export`: that of a record just if one is named
-abbrev pub IsAnyExportOf : List Row → Order → Type 0
-IsAnyExportOf rows (order.Export o) = IsExportOf rows o
-IsAnyExportOf rows (order.ExportRecord o) = IsRecordExportOf rows o
-IsAnyExportOf rows _ = ⊥
+    IsMeasuredOf rows o.measured × IsTableOf rows o.table × KeepsItsTable rows (form_in o.measured) o.table
+    × IsMaybeOf (codes "limits") rows (option_map string_bytes o.limits) × IsSubjectOf rows o.subject
 
 -- findings are printed as JSON if that is the named form, as lines if none is named
 abbrev pub IsFindingFormOf : List Row → Bool → Type 0
@@ -286,7 +277,7 @@ IsFindingFormOf rows false = HasNone (codes "as") rows
 abbrev pub IsReviewOf : List Row → Review → Type 0
 IsReviewOf rows o =
     IsFindingFormOf rows o.is_json × IsMaybeOf (codes "setup") rows (option_map string_bytes o.setup)
-    × IsProgramOf rows (string_bytes o.program)
+    × IsValueOrInput (codes "PROGRAM") rows (string_bytes o.program)
 
 -- what a server told by the named bytes of both ends, on the connection of the named number
 abbrev pub IsLedgerOf : List Row → Ledger → Type 0
@@ -307,21 +298,16 @@ IsWatchOf rows o =
     × IsConnectionsOf rows o.connections × IsFlagOf (codes "trace") rows o.trace
     × IsMaybeOf (codes "log") rows (option_map string_bytes o.log) × IsSecondsOf (codes "timeout") rows o.timeout
 
--- the flat program of the program with the named setup, or with none if none is named, and with these choices
+-- the flat program of the program, with these choices
 abbrev pub IsLowerOf : List Row → Lower → Type 0
 IsLowerOf rows o =
-    IsMaybeOf (codes "setup") rows (option_map string_bytes o.setup) × IsFlagOf (codes "no-clearing") rows o.no_clearing
-    × IsFlagOf (codes "compensated") rows o.compensated × IsFlagOf (codes "skip-manual") rows o.skip_manual
-    × IsFlagOf (codes "stored-frames") rows o.stored_frames × IsExplainedOf rows o.explain
-    × IsProgramOf rows (string_bytes o.program)
+    IsFlagOf (codes "no-clearing") rows o.no_clearing × IsFlagOf (codes "compensated") rows o.compensated
+    × IsFlagOf (codes "skip-manual") rows o.skip_manual × IsFlagOf (codes "stored-frames") rows o.stored_frames
+    × IsSubjectOf rows o.subject
 
--- the page of the named record, under the program and the named setup and limits, each if one is named
+-- the page of the named record, under the named limits, if they are named
 abbrev pub IsReportOf : List Row → PartReport → Type 0
-IsReportOf rows o =
-    IsMaybeOf (codes "setup") rows (option_map string_bytes o.setup) × IsValueOf (codes "record") rows (string_bytes o.record)
-    × IsMaybeOf (codes "seal-key") rows (option_map string_bytes o.seal_key)
-    × IsMaybeOf (codes "limits") rows (option_map string_bytes o.limits) × IsExplainedOf rows o.explain
-    × IsProgramOf rows (string_bytes o.program)
+IsReportOf rows o = IsMaybeOf (codes "limits") rows (option_map string_bytes o.limits) × IsRecordedOf rows o.recorded
 
 -- a summary is printed as comma-separated values or as a page if that is the named form, as text if it is that or none is named
 abbrev pub IsSummaryFormOf : List Row → SummaryForm → Type 0
@@ -339,16 +325,15 @@ IsSummaryOf rows o =
 
 -- the order of a subcommand with its values, by its name
 abbrev pub IsNamedOrderOf : Text × List Row → Order → Type 0
-IsNamedOrderOf p (order.Check o) = (p.0 ≡ codes "check") × IsCheckOf p.1 o
+IsNamedOrderOf p (order.Check o) = (p.0 ≡ codes "check") × IsSubjectOf p.1 o
 IsNamedOrderOf p (order.Simulate o) = (p.0 ≡ codes "simulate") × IsSimulateOf p.1 o
 IsNamedOrderOf p (order.Audit o) = (p.0 ≡ codes "audit") × IsAuditOf p.1 o
 IsNamedOrderOf p (order.AuditRecord o) = (p.0 ≡ codes "audit") × IsRecordAuditOf p.1 o
 IsNamedOrderOf p (order.Loop o) = (p.0 ≡ codes "loop") × IsLoopOf p.1 o
 IsNamedOrderOf p (order.Serve o) = (p.0 ≡ codes "serve") × IsServeOf p.1 o
-IsNamedOrderOf p (order.Run o) = (p.0 ≡ codes "run") × IsRunOf p.1 o × NamesItsPart p.1 × KeepsItsOperator p.1 × KeepsItsKey p.1
+IsNamedOrderOf p (order.Run o) = (p.0 ≡ codes "run") × IsRunOf p.1 o × FitsRun p.1
 IsNamedOrderOf p (order.Explain topic) = (p.0 ≡ codes "explain") × IsExplainOf p.1 topic
 IsNamedOrderOf p (order.Export o) = (p.0 ≡ codes "export") × IsExportOf p.1 o
-IsNamedOrderOf p (order.ExportRecord o) = (p.0 ≡ codes "export") × IsRecordExportOf p.1 o
 IsNamedOrderOf p (order.Review o) = (p.0 ≡ codes "review") × IsReviewOf p.1 o
 IsNamedOrderOf p (order.Ledger o) = (p.0 ≡ codes "ledger") × IsLedgerOf p.1 o
 IsNamedOrderOf p (order.Judge o) = (p.0 ≡ codes "judge") × IsJudgeOf p.1 o
@@ -435,7 +420,6 @@ IsReady (order.Serve o) = (1 ≤ o.port) × (1 ≤ o.connections) × (o.connecti
 IsReady (order.Run o) = (1 ≤ o.port) × (is_window o.window ≡ true)
 IsReady (order.Explain topic) = Unit {0}
 IsReady (order.Export o) = Unit {0}
-IsReady (order.ExportRecord o) = Unit {0}
 IsReady (order.Review o) = Unit {0}
 IsReady (order.Ledger o) = (1 ≤ o.connection) × (o.connection ≤ 4000000000)
 IsReady (order.Judge o) = Unit {0}
@@ -471,7 +455,7 @@ IsNoSign word = (s : DecimalSign) → word ≡ sign_word s → ⊥
 
 -- no refusal has the named code; or memory ran out
 abbrev pub HasNoTopic : List Row → WordsFault → Type 0
-HasNoTopic rows (NoCode code) = IsValueOf (codes "CODE") rows (string_bytes code) × IsNoCode (string_bytes code)
+HasNoTopic rows (NoValue wanted.Code code) = IsValueOf (codes "CODE") rows (string_bytes code) × IsNoCode (string_bytes code)
 HasNoTopic rows Memory = Unit {0}
 HasNoTopic rows _ = ⊥
 
@@ -482,6 +466,12 @@ pub record AreLacking (rows : List Row) (lacks : Lacks) : Type 0 where
   pub contacts : lacks.contacts ≡ is_lacking (codes "contacts") rows
   pub some : (lacks.setup || lacks.features || lacks.contacts) ≡ true
 
+-- features or contacts are named if no record is, and a key only with a record
+abbrev pub FitsAudit : List Row → Type 0
+FitsAudit rows = (is_lacking (codes "record") rows ≡ false → HasNone (codes "features") rows × HasNone (codes "contacts") rows)
+    × (is_lacking (codes "record") rows ≡ true → HasNone (codes "seal-key") rows × HasValue (codes "setup") rows
+    × HasValue (codes "features") rows × HasValue (codes "contacts") rows)
+
 -- the options of an audit that do not go together
 abbrev pub AuditMisfits : List Row → Misfit → Type 0
 AuditMisfits rows misfit.RecordAndFeatures = HasValue (codes "record") rows × HasValue (codes "features") rows
@@ -489,6 +479,11 @@ AuditMisfits rows misfit.RecordAndContacts = HasValue (codes "record") rows × H
 AuditMisfits rows misfit.KeyWithoutRecord = HasNone (codes "record") rows × HasValue (codes "seal-key") rows
 AuditMisfits rows (misfit.AuditLacks lacks) = HasNone (codes "record") rows × AreLacking rows lacks
 AuditMisfits rows _ = ⊥
+
+-- features are named just if no record is
+abbrev pub NamesOneFile : List Row → Type 0
+NamesOneFile rows = (is_lacking (codes "record") rows ≡ false → HasNone (codes "features") rows)
+    × (is_lacking (codes "record") rows ≡ true → HasValue (codes "features") rows)
 
 -- the options of an export that do not go together
 abbrev pub ExportMisfits : List Row → Misfit → Type 0
@@ -501,38 +496,32 @@ ExportMisfits rows misfit.PartWithoutTable = IsFlagOf (codes "with-part") rows t
 ExportMisfits rows (misfit.ExportLacks is_named) = HasNone (codes "record") rows × HasNone (codes "features") rows
 ExportMisfits rows _ = ⊥
 
--- options of a table that are not those of a form
-abbrev pub TableMisfits : List Row → RecordForm → TableOptions → Misfit → Type 0
-TableMisfits rows form table misfit.SignsWithoutCsv = (NamesNoSign rows → ⊥) × (form_word form ≢ codes "csv")
-TableMisfits rows form table misfit.PartWithoutTable = (table.with_part ≡ true) × (form_word form ≢ codes "csv") × (form_word form ≢ codes "json")
-TableMisfits rows form table _ = ⊥
-
 -- the word names no separator or no decimal sign; or memory ran out
 abbrev pub HasNoTable : List Row → WordsFault → Type 0
-HasNoTable rows (NoSeparator word) = IsValueOf (codes "separator") rows (string_bytes word) × IsNoSeparator (string_bytes word)
-HasNoTable rows (NoSign word) = IsValueOf (codes "decimal") rows (string_bytes word) × IsNoSign (string_bytes word)
+HasNoTable rows (NoValue wanted.Separator word) = IsValueOf (codes "separator") rows (string_bytes word) × IsNoSeparator (string_bytes word)
+HasNoTable rows (NoValue wanted.Sign word) = IsValueOf (codes "decimal") rows (string_bytes word) × IsNoSign (string_bytes word)
 HasNoTable rows Memory = Unit {0}
 HasNoTable rows _ = ⊥
 
--- the options of an audit do not go together; or memory ran out
-abbrev pub HasNoAudit : List Row → WordsFault → Type 0
-HasNoAudit rows (Misfits why) = AuditMisfits rows why
-HasNoAudit rows Memory = Unit {0}
-HasNoAudit rows _ = ⊥
-
--- the named word is not a form, or the options of an export do not go together; or memory ran out
-abbrev pub HasNoExport : List Row → WordsFault → Type 0
-HasNoExport rows (NoForm word) = IsValueOf (codes "as") rows (string_bytes word) × IsNoForm (string_bytes word)
-HasNoExport rows (Misfits why) = ExportMisfits rows why
-HasNoExport rows (NoSeparator word) = HasNoTable rows (NoSeparator word)
-HasNoExport rows (NoSign word) = HasNoTable rows (NoSign word)
-HasNoExport rows Memory = Unit {0}
-HasNoExport rows _ = ⊥
-
--- the options do not go together in this way
+-- the options do not go together in this way; or memory ran out
 abbrev pub IsMisfitOf : (Misfit → Type 0) → WordsFault → Type 0
 IsMisfitOf fits (Misfits why) = fits why
+IsMisfitOf fits Memory = Unit {0}
 IsMisfitOf fits _ = ⊥
+
+-- the options of an audit do not go together; or memory ran out
+abbrev pub HasNoAudit : List Row → WordsFault → Type 0
+HasNoAudit rows fault = IsMisfitOf (AuditMisfits rows) fault
+
+-- the named word is no form; or memory ran out
+abbrev pub HasNoForm : List Row → WordsFault → Type 0
+HasNoForm rows (NoValue wanted.Form word) = IsValueOf (codes "as") rows (string_bytes word) × IsNoForm (string_bytes word)
+HasNoForm rows Memory = Unit {0}
+HasNoForm rows _ = ⊥
+
+-- the options of an export are bad, or do not go together
+abbrev pub HasNoExport : List Row → WordsFault → Type 0
+HasNoExport rows fault = HasNoForm rows fault ⊎ HasNoTable rows fault ⊎ IsMisfitOf (ExportMisfits rows) fault
 
 -- the options of a run that do not go together
 abbrev pub RunMisfits : List Row → Misfit → Type 0
@@ -545,14 +534,14 @@ RunMisfits rows _ = ⊥
 
 -- the value of the option with this id is no number of seconds; or memory ran out
 abbrev pub HasNoSeconds : Text → List Row → WordsFault → Type 0
-HasNoSeconds id rows (NoSeconds option text) =
+HasNoSeconds id rows (NoValue (wanted.Seconds option) text) =
     (option.now ≡ id) × IsValueOf id rows (string_bytes text) × IsNoSeconds (string_bytes text)
 HasNoSeconds id rows Memory = Unit {0}
 HasNoSeconds id rows _ = ⊥
 
 -- the value of the option with this id may not be the name of a part; or memory ran out
 abbrev pub HasNoName : Text → List Row → WordsFault → Type 0
-HasNoName id rows (NoName option text) =
+HasNoName id rows (NoValue (wanted.Name option) text) =
     (option.now ≡ id) × IsValueOf id rows (string_bytes text) × (IsPart (string_bytes text) → ⊥)
 HasNoName id rows Memory = Unit {0}
 HasNoName id rows _ = ⊥
@@ -569,13 +558,13 @@ HasNoRun rows fault = HasNoRunValue rows fault ⊎ IsMisfitOf (RunMisfits rows) 
 
 -- the named word is no form of findings; or memory ran out
 abbrev pub HasNoReview : List Row → WordsFault → Type 0
-HasNoReview rows (NoFindingForm word) = IsValueOf (codes "as") rows (string_bytes word) × (string_bytes word ≢ codes "json")
+HasNoReview rows (NoValue wanted.FindingForm word) = IsValueOf (codes "as") rows (string_bytes word) × (string_bytes word ≢ codes "json")
 HasNoReview rows Memory = Unit {0}
 HasNoReview rows _ = ⊥
 
 -- the named word is no form of a summary; or memory ran out
 abbrev pub HasNoSummary : List Row → WordsFault → Type 0
-HasNoSummary rows (NoSummaryForm word) =
+HasNoSummary rows (NoValue wanted.SummaryForm word) =
     IsValueOf (codes "as") rows (string_bytes word) × (string_bytes word ≢ codes "text") × (string_bytes word ≢ codes "csv")
     × (string_bytes word ≢ codes "html")
 HasNoSummary rows Memory = Unit {0}

@@ -75,96 +75,24 @@ const ALL: u32 = 4_000_000_000;
 
 const SETUP_HELP: &str = "The machine's setup; - is standard input";
 
-const SCHEDULE_HELP: &str = "The schedule of the link's events; - is standard input";
-
-const HELD_HELP: &str = "The features that the client holds; - is standard input";
-
-const MADE_HELP: &str = "The contacts that the server made; - is standard input";
-
 const RECORD_HELP: &str =
     "The record of a run, in place of features and contacts; - is standard input";
-
-const MEASURED_HELP: &str = "The features that were measured; - is standard input";
-
-const REPORTED_RECORD_HELP: &str = "The record of a run; - is standard input";
 
 const LIMITS_HELP: &str =
     "The limits that the points are compared with, along the normal; - is standard input";
 
-const FEATURES_HELP: &str =
-    "The features that are there already, and the file that they are written to";
-
-const CONTACTS_HELP: &str = "The file that the contacts are written to";
-
-const KEPT_HELP: &str = "The record of the run: begun, or continued from what it holds";
-
-const FOLDER_HELP: &str = "The folder that the records of parts are kept in, each as PART.record";
-
-const MACHINE_HELP: &str =
-    "A file of what is the same every day: SETUP, HOST, PORT, TIMEOUT, WAIT, WINDOW, RECORDS, SEALKEY; what is named here goes over it";
-
-const PART_HELP: &str = "Which part is measured: 1 to 64 printable bytes, kept in the record";
-
-const OPERATOR_HELP: &str =
-    "Who operates the machine: 1 to 64 printable bytes. The record then also has the program, the setup, the server and the times";
-
-const REPORTED_HELP: &str = "The file that the contacts which the server reports are written to";
-
 const WINDOW_HELP: &str = "How many commands may be open at once, from 1 to 16";
 
 const HOST_HELP: &str = "The server's host, as a name or as an address";
-
-const LISTEN_HELP: &str = "The address that is listened on, 127.0.0.1 if none is named";
-
-const CALLED_HELP: &str = "The port of 127.0.0.1 that the client is to call, from 1 to 65535";
-
-const OWN_PORT_HELP: &str = "The port that is listened on, from 1 to 65535";
-
-const PORT_HELP: &str = "The server's port, from 1 to 65535";
 
 const CONNECTIONS_HELP: &str =
     "How many connections are served, one after the other, from 1 to 4000000000";
 
 const ENDLESS_HELP: &str = "Serves all connections that come, one after the other";
 
-const CONNECTION_HELP: &str = "The number of the connection, from 1 to 4000000000";
-
 const UP_HELP: &str = "The bytes that the client sent; - is standard input";
 
 const DOWN_HELP: &str = "The bytes that the server sent; - is standard input";
-
-const TOLD_HELP: &str = "The file that what the server reports is written to";
-
-const BYTES_HELP: &str =
-    "The folder that the bytes of each connection are kept in, as 1.up and 1.down";
-
-const FORM_HELP: &str =
-    "The form that is printed: csv, comma-separated values; json; svg, a drawing; of a record also features or contacts";
-
-const SEPARATOR_HELP: &str =
-    "What is between the fields of --as csv: ',', ';' or tab; a comma if none is named";
-
-const DECIMAL_HELP: &str =
-    "What is before the decimals of --as csv: point or comma; a point if none is named";
-
-const WITH_PART_HELP: &str =
-    "Says in each row of a table its part, its program, and whether its point is missing";
-
-const FINDING_FORM_HELP: &str =
-    "The form that is printed: json, for other programs; lines if none is named";
-
-const SUMMARY_FORM_HELP: &str =
-    "The form that is printed: text; csv, comma-separated values; html, a page; text if none is named";
-
-const RUN_PROGRAM_HELP: &str =
-    "The DMIS program that was run; - is standard input, as if none is named";
-
-const RECORDS_HELP: &str = "The records of the runs, one for each part; - is standard input";
-
-const CODE_HELP: &str =
-    "The code of a refusal, as P5, or the number of a server's error, as 9012; in any letter case";
-
-const PROGRESS_HELP: &str = "Reports on standard error how far it is";
 
 const TRACE_HELP: &str = "Shows on standard error each line that either side writes";
 
@@ -173,30 +101,9 @@ const LOG_HELP: &str = "The file that each line that either side writes is added
 const TIMEOUT_HELP: &str =
     "How long the other end may be silent if something is due from it, from 1 to 86400";
 
-const WAIT_HELP: &str = "How long it tries to connect, from 1 to 86400";
-
-const STOP_HELP: &str = "The file that ends it when it appears";
-
-const CONFIRM_HELP: &str =
-    "Shows what comes first, and waits for an empty line before anything moves";
-
-const PAUSE_HELP: &str =
-    "Waits at each text for the operator between features until an empty line is read";
-
 const SEAL_KEY_HELP: &str = "The file of the key of the record's seals";
 
 const EXPLAIN_HELP: &str = "Shows the line of a file that is refused, and what is wrong with it";
-
-const NO_CLEARING_HELP: &str =
-    "Leaves out statements on clearing: nothing moves between features by itself";
-
-const COMPENSATED_HELP: &str = "Says that the machine corrects for temperature";
-
-const SKIP_MANUAL_HELP: &str = "Leaves out what the operator would measure, from MODE/MAN on";
-
-const STORED_FRAMES_HELP: &str = "Takes the frames of the setup for the alignments of their names";
-
-const PROGRAM_HELP: &str = "The DMIS program; - is standard input";
 
 const SETUP: Argument = Text("setup", "FILE", SETUP_HELP);
 
@@ -208,13 +115,13 @@ const SEAL_KEY: Argument = Text("seal-key", "FILE", SEAL_KEY_HELP);
 
 const HOST: Argument = Needed("host", "H", HOST_HELP);
 
-const PORT: Argument = Number("port", "N", 65_535, PORT_HELP);
+const PORT: Argument = Number("port", "N", 65_535, "The server's port, from 1 to 65535");
 
 const WINDOW: Argument = NumberOr("window", "W", 16, "1", WINDOW_HELP);
 
 const ENDLESS: Argument = Flag("endless", ENDLESS_HELP);
 
-const PROGRESS: Argument = Flag("progress", PROGRESS_HELP);
+const PROGRESS: Argument = Flag("progress", "Reports on standard error how far it is");
 
 const TRACE: Argument = Flag("trace", TRACE_HELP);
 
@@ -222,197 +129,131 @@ const LOG: Argument = Text("log", "FILE", LOG_HELP);
 
 const TIMEOUT: Argument = Text("timeout", "SECONDS", TIMEOUT_HELP);
 
-const STOP: Argument = Text("stop", "FILE", STOP_HELP);
+const STOP: Argument = Text("stop", "FILE", "The file that ends it when it appears");
 
 const EXPLAIN: Argument = Flag("explain", EXPLAIN_HELP);
 
-const PROGRAM: Argument = WordOr("PROGRAM", "-", PROGRAM_HELP);
+const PROGRAM: Argument = WordOr("PROGRAM", "-", "The DMIS program; - is standard input");
 
 const UP: Argument = Needed("up", "FILE", UP_HELP);
 
 const DOWN: Argument = Needed("down", "FILE", DOWN_HELP);
 
+/// A table of commands: each with its line of help, and a row for each argument.
+macro_rules! lines {
+    ($($name:literal: $about:literal { $($row:expr;)* })*) => {
+        [$(Line($name, $about, &[$($row),*])),*]
+    };
+}
+
 /// The commands.
-const LINES: [Line; 6] = [
-    Line(
-        "check",
-        "Prints the I++ DME command lines of a DMIS program",
-        &[SETUP, EXPLAIN, PROGRAM],
-    ),
-    Line(
-        "simulate",
-        "Runs a DMIS program on a simulated machine, event by event, and prints the report",
-        &[
-            NEEDED_SETUP,
-            Needed("schedule", "FILE", SCHEDULE_HELP),
-            WINDOW,
-            TRACE,
-            EXPLAIN,
-            PROGRAM,
-        ],
-    ),
-    Line(
-        "audit",
-        "Says in which runs of the server's contacts the client's features were measured",
-        &[
-            SETUP,
-            Text("features", "FILE", HELD_HELP),
-            Text("contacts", "FILE", MADE_HELP),
-            RECORD,
-            SEAL_KEY,
-            EXPLAIN,
-            PROGRAM,
-        ],
-    ),
-    Line(
-        "loop",
-        "Runs a DMIS program on a simulated machine over a connection to itself, and prints the report",
-        &[NEEDED_SETUP, WINDOW, PROGRESS, TRACE, EXPLAIN, PROGRAM],
-    ),
-    Line(
-        "serve",
-        "Is the server of a simulated machine, and prints the contacts that it made",
-        &[
-            NEEDED_SETUP,
-            Text("listen", "ADDRESS", LISTEN_HELP),
-            Number("port", "N", 65_535, OWN_PORT_HELP),
-            NumberOr("connections", "K", ALL, "1", CONNECTIONS_HELP),
-            ENDLESS,
-            Text("contacts", "FILE", CONTACTS_HELP),
-            PROGRESS,
-            TRACE,
-            LOG,
-            TIMEOUT,
-            STOP,
-            EXPLAIN,
-        ],
-    ),
-    Line(
-        "run",
-        "Runs a DMIS program on the machine of a server, and prints the report",
-        &[
-            Text("machine", "FILE", MACHINE_HELP),
-            NEEDED_SETUP,
-            HOST,
-            PORT,
-            WINDOW,
-            Text("features", "FILE", FEATURES_HELP),
-            Text("record", "FILE", KEPT_HELP),
-            Text("records", "FOLDER", FOLDER_HELP),
-            Text("part", "TEXT", PART_HELP),
-            Text("operator", "TEXT", OPERATOR_HELP),
-            SEAL_KEY,
-            Text("contacts", "FILE", REPORTED_HELP),
-            PROGRESS,
-            TRACE,
-            LOG,
-            TIMEOUT,
-            Text("wait", "SECONDS", WAIT_HELP),
-            STOP,
-            Flag("confirm", CONFIRM_HELP),
-            Flag("pause", PAUSE_HELP),
-            EXPLAIN,
-            PROGRAM,
-        ],
-    ),
-];
+const LINES: [Line; 6] = lines! {
+    "check": "Prints the I++ DME command lines of a DMIS program" {
+        SETUP; EXPLAIN; PROGRAM;
+    }
+    "simulate": "Runs a DMIS program on a simulated machine, event by event, and prints the report" {
+        NEEDED_SETUP;
+        Needed("schedule", "FILE", "The schedule of the link's events; - is standard input");
+        WINDOW; TRACE; EXPLAIN; PROGRAM;
+    }
+    "audit": "Says in which runs of the server's contacts the client's features were measured" {
+        SETUP;
+        Text("features", "FILE", "The features that the client holds; - is standard input");
+        Text("contacts", "FILE", "The contacts that the server made; - is standard input");
+        RECORD; SEAL_KEY; EXPLAIN; PROGRAM;
+    }
+    "loop": "Runs a DMIS program on a simulated machine over a connection to itself, and prints the report" {
+        NEEDED_SETUP; WINDOW; PROGRESS; TRACE; EXPLAIN; PROGRAM;
+    }
+    "serve": "Is the server of a simulated machine, and prints the contacts that it made" {
+        NEEDED_SETUP;
+        Text("listen", "ADDRESS", "The address that is listened on, 127.0.0.1 if none is named");
+        Number("port", "N", 65_535, "The port that is listened on, from 1 to 65535");
+        NumberOr("connections", "K", ALL, "1", CONNECTIONS_HELP);
+        ENDLESS;
+        Text("contacts", "FILE", "The file that the contacts are written to");
+        PROGRESS; TRACE; LOG; TIMEOUT; STOP; EXPLAIN;
+    }
+    "run": "Runs a DMIS program on the machine of a server, and prints the report" {
+        Text("machine", "FILE", "A file of what is the same every day: SETUP, HOST, PORT, TIMEOUT, WAIT, WINDOW, RECORDS, SEALKEY; \
+            what is named here goes over it");
+        NEEDED_SETUP; HOST; PORT; WINDOW;
+        Text("features", "FILE", "The features that are there already, and the file that they are written to");
+        Text("record", "FILE", "The record of the run: begun, or continued from what it holds");
+        Text("records", "FOLDER", "The folder that the records of parts are kept in, each as PART.record");
+        Text("part", "TEXT", "Which part is measured: 1 to 64 printable bytes, kept in the record");
+        Text("operator", "TEXT", "Who operates the machine: 1 to 64 printable bytes. \
+            The record then also has the program, the setup, the server and the times");
+        SEAL_KEY;
+        Text("contacts", "FILE", "The file that the contacts which the server reports are written to");
+        PROGRESS; TRACE; LOG; TIMEOUT;
+        Text("wait", "SECONDS", "How long it tries to connect, from 1 to 86400");
+        STOP;
+        Flag("confirm", "Shows what comes first, and waits for an empty line before anything moves");
+        Flag("pause", "Waits at each text for the operator between features until an empty line is read");
+        EXPLAIN; PROGRAM;
+    }
+};
 
 /// The others.
-const LATER_LINES: [Line; 9] = [
-    Line(
-        "explain",
-        "Says what a refusal means and what to do about it",
-        &[Word("CODE", CODE_HELP)],
-    ),
-    Line(
-        "export",
-        "Prints how far the measured points of features lie from their nominal points",
-        &[
-            Needed("as", "FORM", FORM_HELP),
-            SETUP,
-            Text("features", "FILE", MEASURED_HELP),
-            RECORD,
-            Text("limits", "FILE", LIMITS_HELP),
-            Text("separator", "SIGN", SEPARATOR_HELP),
-            Text("decimal", "SIGN", DECIMAL_HELP),
-            Flag("with-part", WITH_PART_HELP),
-            EXPLAIN,
-            PROGRAM,
-        ],
-    ),
-    Line(
-        "review",
-        "Lists everything that stands between a DMIS program and its run",
-        &[Text("as", "FORM", FINDING_FORM_HELP), SETUP, PROGRAM],
-    ),
-    Line(
-        "ledger",
-        "Prints what a server told that it did, from the bytes of both ends",
-        &[
-            UP,
-            DOWN,
-            NumberOr("connection", "N", ALL, "1", CONNECTION_HELP),
-        ],
-    ),
-    Line(
-        "judge",
-        "Shows which line of a client or a server first breaks a rule, from the bytes of both ends",
-        &[UP, DOWN],
-    ),
-    Line(
-        "watch",
-        "Stands between a client and a server, and writes what the server reports that it did",
-        &[
-            Number("listen", "PORT", 65_535, CALLED_HELP),
-            HOST,
-            PORT,
-            Needed("told", "FILE", TOLD_HELP),
-            Text("record-bytes", "FOLDER", BYTES_HELP),
-            NumberOr("connections", "K", ALL, "4000000000", CONNECTIONS_HELP),
-            ENDLESS,
-            TRACE,
-            LOG,
-            TIMEOUT,
-        ],
-    ),
-    Line(
-        "lower",
-        "Writes the flat program that a DMIS program stands for",
-        &[
-            SETUP,
-            Flag("no-clearing", NO_CLEARING_HELP),
-            Flag("compensated", COMPENSATED_HELP),
-            Flag("skip-manual", SKIP_MANUAL_HELP),
-            Flag("stored-frames", STORED_FRAMES_HELP),
-            EXPLAIN,
-            PROGRAM,
-        ],
-    ),
-    Line(
-        "report",
-        "Prints a page of a part, for a browser or a printer",
-        &[
-            Needed("record", "FILE", REPORTED_RECORD_HELP),
-            SETUP,
-            Text("limits", "FILE", LIMITS_HELP),
-            SEAL_KEY,
-            EXPLAIN,
-            PROGRAM,
-        ],
-    ),
-    Line(
-        "summary",
-        "Prints statistics over the parts of a batch, a record each",
-        &[
-            Text("as", "FORM", SUMMARY_FORM_HELP),
-            SETUP,
-            Text("limits", "FILE", LIMITS_HELP),
-            SEAL_KEY,
-            Text("program", "FILE", RUN_PROGRAM_HELP),
-            Words("RECORD", RECORDS_HELP),
-        ],
-    ),
-];
+const LATER_LINES: [Line; 9] = lines! {
+    "explain": "Says what a refusal means and what to do about it" {
+        Word("CODE", "The code of a refusal, as P5, or the number of a server's error, as 9012; in any letter case");
+    }
+    "export": "Prints how far the measured points of features lie from their nominal points" {
+        Needed("as", "FORM", "The form that is printed: csv, comma-separated values; json; svg, a drawing; \
+            of a record also features or contacts");
+        SETUP;
+        Text("features", "FILE", "The features that were measured; - is standard input");
+        RECORD;
+        Text("limits", "FILE", LIMITS_HELP);
+        Text("separator", "SIGN", "What is between the fields of --as csv: ',', ';' or tab; a comma if none is named");
+        Text("decimal", "SIGN", "What is before the decimals of --as csv: point or comma; a point if none is named");
+        Flag("with-part", "Says in each row of a table its part, its program, and whether its point is missing");
+        EXPLAIN; PROGRAM;
+    }
+    "review": "Lists everything that stands between a DMIS program and its run" {
+        Text("as", "FORM", "The form that is printed: json, for other programs; lines if none is named");
+        SETUP; PROGRAM;
+    }
+    "ledger": "Prints what a server told that it did, from the bytes of both ends" {
+        UP; DOWN;
+        NumberOr("connection", "N", ALL, "1", "The number of the connection, from 1 to 4000000000");
+    }
+    "judge": "Shows which line of a client or a server first breaks a rule, from the bytes of both ends" {
+        UP; DOWN;
+    }
+    "watch": "Stands between a client and a server, and writes what the server reports that it did" {
+        Number("listen", "PORT", 65_535, "The port of 127.0.0.1 that the client is to call, from 1 to 65535");
+        HOST; PORT;
+        Needed("told", "FILE", "The file that what the server reports is written to");
+        Text("record-bytes", "FOLDER", "The folder that the bytes of each connection are kept in, as 1.up and 1.down");
+        NumberOr("connections", "K", ALL, "4000000000", CONNECTIONS_HELP);
+        ENDLESS; TRACE; LOG; TIMEOUT;
+    }
+    "lower": "Writes the flat program that a DMIS program stands for" {
+        SETUP;
+        Flag("no-clearing", "Leaves out statements on clearing: nothing moves between features by itself");
+        Flag("compensated", "Says that the machine corrects for temperature");
+        Flag("skip-manual", "Leaves out what the operator would measure, from MODE/MAN on");
+        Flag("stored-frames", "Takes the frames of the setup for the alignments of their names");
+        EXPLAIN; PROGRAM;
+    }
+    "report": "Prints a page of a part, for a browser or a printer" {
+        Needed("record", "FILE", "The record of a run; - is standard input");
+        SETUP;
+        Text("limits", "FILE", LIMITS_HELP);
+        SEAL_KEY; EXPLAIN; PROGRAM;
+    }
+    "summary": "Prints statistics over the parts of a batch, a record each" {
+        Text("as", "FORM", "The form that is printed: text; csv, comma-separated values; html, a page; text if none is named");
+        SETUP;
+        Text("limits", "FILE", LIMITS_HELP);
+        SEAL_KEY;
+        Text("program", "FILE", "The DMIS program that was run; - is standard input, as if none is named");
+        Words("RECORD", "The records of the runs, one for each part; - is standard input");
+    }
+};
 
 /// `--NAME TEXT`.
 fn text_argument<'a>(alloc: Global, name: &'a str, value: &'a str, help: &'a str) -> Arg<'a>

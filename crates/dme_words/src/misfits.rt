@@ -2,6 +2,13 @@
 
 use std::fmt;
 
+/// The last line of a refusal.
+pub(crate) const MORE: &str = "For more information, try '--help'.\n";
+
+const RECORD: &str = "--record <FILE>";
+
+const SIGNS: &str = "--separator <SIGN>' and '--decimal <SIGN>";
+
 /// Which of the options that an audit without a record needs are not named, and whether its program is named.
 #[derive(Clone, Copy, Debug, PartialEq, Eq)]
 pub struct Lacks {
@@ -46,9 +53,20 @@ pub enum Misfit {
     ExportLacks(bool),
 }
 
-/// Writes a refusal as `clap` does.
-fn write_refusal<W: fmt::Write>(f: &mut fmt::Formatter<W>, why: &str) -> fmt::Result {
-    write!(f, "error: {why}\n\nFor more information, try '--help'.\n")
+/// Writes that an argument requires another, as `clap` does.
+fn write_need<W: fmt::Write>(f: &mut fmt::Formatter<W>, first: &str, second: &str) -> fmt::Result {
+    write!(
+        f,
+        "error: the argument '{first}' requires '{second}'\n\n{MORE}"
+    )
+}
+
+/// Writes that `--record` may not be named with an argument.
+fn write_clash<W: fmt::Write>(f: &mut fmt::Formatter<W>, second: &str) -> fmt::Result {
+    write!(
+        f,
+        "error: the argument '{RECORD}' cannot be used with '{second}'\n\n{MORE}"
+    )
 }
 
 /// Writes which options are lacking, and a usage that has them.
@@ -59,10 +77,8 @@ fn write_lacking<W: fmt::Write>(
     is_named: bool,
 ) -> fmt::Result {
     let program = if is_named { "<PROGRAM>" } else { "[PROGRAM]" };
-    write!(
-        f,
-        "error: the following required arguments were not provided:\n{lines}\nUsage: dme {usage} {program}\n\nFor more information, try '--help'.\n"
-    )
+    f.write_str("error: the following required arguments were not provided:\n")?;
+    write!(f, "{lines}\nUsage: dme {usage} {program}\n\n{MORE}")
 }
 
 /// The options of an audit that are lacking next to the others of its files.
@@ -78,54 +94,36 @@ fn file_lines(lacks: Lacks) -> &'static str {
 
 impl fmt::Display for Misfit {
     fn fmt<W: fmt::Write>(&self, f: &mut fmt::Formatter<W>) -> fmt::Result {
-        let why = match self {
-            Misfit::RecordAndFeatures => {
-                "the argument '--record <FILE>' cannot be used with '--features <FILE>'"
-            }
-            Misfit::RecordAndContacts => {
-                "the argument '--record <FILE>' cannot be used with '--contacts <FILE>'"
-            }
-            Misfit::RecordWithoutPart => {
-                "the argument '--record <FILE>' requires '--part <TEXT>'"
-            }
-            Misfit::FolderWithoutPart => {
-                "the argument '--records <FOLDER>' requires '--part <TEXT>'"
-            }
-            Misfit::PartWithoutRecord => {
-                "the argument '--part <TEXT>' requires '--record <FILE>'"
-            }
-            Misfit::OperatorWithoutRecord => {
-                "the argument '--operator <TEXT>' requires '--record <FILE>'"
-            }
-            Misfit::KeyWithoutRecord => {
-                "the argument '--seal-key <FILE>' requires '--record <FILE>'"
-            }
-            Misfit::FeaturesWithoutRecord => {
-                "the argument '--as features' requires '--record <FILE>'"
-            }
-            Misfit::ContactsWithoutRecord => {
-                "the argument '--as contacts' requires '--record <FILE>'"
-            }
+        match self {
+            Misfit::RecordAndFeatures => write_clash(f, "--features <FILE>"),
+            Misfit::RecordAndContacts => write_clash(f, "--contacts <FILE>"),
+            Misfit::RecordWithoutPart => write_need(f, RECORD, "--part <TEXT>"),
+            Misfit::FolderWithoutPart => write_need(f, "--records <FOLDER>", "--part <TEXT>"),
+            Misfit::PartWithoutRecord => write_need(f, "--part <TEXT>", RECORD),
+            Misfit::OperatorWithoutRecord => write_need(f, "--operator <TEXT>", RECORD),
+            Misfit::KeyWithoutRecord => write_need(f, "--seal-key <FILE>", RECORD),
+            Misfit::FeaturesWithoutRecord => write_need(f, "--as features", RECORD),
+            Misfit::ContactsWithoutRecord => write_need(f, "--as contacts", RECORD),
+            Misfit::PartWithoutTable => write_need(f, "--with-part", "--as csv' or '--as json"),
             Misfit::SignsWithoutCsv => {
-                "the arguments '--separator <SIGN>' and '--decimal <SIGN>' require '--as csv'"
-            }
-            Misfit::PartWithoutTable => {
-                "the argument '--with-part' requires '--as csv' or '--as json'"
+                write!(
+                    f,
+                    "error: the arguments '{SIGNS}' require '--as csv'\n\n{MORE}"
+                )
             }
             Misfit::AuditLacks(lacks) if lacks.features && lacks.contacts => {
                 let lines =
                     "  --record <FILE>, or --setup <FILE>, --features <FILE> and --contacts <FILE>\n";
-                return write_lacking(f, lines, "audit --record <FILE>", lacks.is_named);
+                write_lacking(f, lines, "audit --record <FILE>", lacks.is_named)
             }
             Misfit::AuditLacks(lacks) => {
                 let usage = "audit --setup <FILE> --features <FILE> --contacts <FILE>";
-                return write_lacking(f, file_lines(*lacks), usage, lacks.is_named);
+                write_lacking(f, file_lines(*lacks), usage, lacks.is_named)
             }
             Misfit::ExportLacks(is_named) => {
                 let lines = "  --record <FILE>, or --features <FILE>\n";
-                return write_lacking(f, lines, "export --as <FORM> --record <FILE>", *is_named);
+                write_lacking(f, lines, "export --as <FORM> --record <FILE>", *is_named)
             }
-        };
-        write_refusal(f, why)
+        }
     }
 }

@@ -7,13 +7,13 @@ use program_review::Topic;
 #[derive(Debug, Drop)]
 pub enum Order {
     /// Print the command lines of a program's plan.
-    Check(Check),
+    Check(Subject),
     /// Run a program on a simulated machine by a schedule, and print the report.
     Simulate(Simulation),
     /// Say in which runs of the server's contacts the client's features were measured.
     Audit(Audit),
     /// Say likewise of a record: in which runs of the reported contacts its features were measured.
-    AuditRecord(RecordAudit),
+    AuditRecord(Recorded),
     /// Run a program on a simulated machine over one connection to itself, and print the report.
     Loop(Loop),
     /// Be the server of a simulated machine, and print the contacts that it made.
@@ -22,10 +22,8 @@ pub enum Order {
     Run(Run),
     /// Say what a refusal means and what to do about it.
     Explain(Topic),
-    /// Print how far the measured points of features lie from their nominal points.
+    /// Print how far the measured points of features lie from their nominal points, or the text of one of the two ledgers of a record.
     Export(Export),
-    /// Print likewise what a record holds, or the text of one of its two ledgers.
-    ExportRecord(RecordExport),
     /// List everything that stands between a program and its run.
     Review(Review),
     /// Print what a server told, by the bytes that both ends of a connection sent.
@@ -42,9 +40,9 @@ pub enum Order {
     Summary(BatchSummary),
 }
 
-/// The values of `check`.
+/// The program that an order is about. All that `check` needs.
 #[derive(Debug, Drop)]
-pub struct Check {
+pub struct Subject {
     /// The file of the machine's setup, whose frames the program may recall; `-` is standard input.
     pub setup: Option<String>,
     /// Whether a line that is refused is shown, with what is wrong with it.
@@ -85,19 +83,15 @@ pub struct Audit {
     pub program: String,
 }
 
-/// The values of `audit` for a record.
+/// A record of the program. All that `audit` needs of it.
 #[derive(Debug, Drop)]
-pub struct RecordAudit {
-    /// The file of the machine's setup, whose frames the program may recall; `-` is standard input.
-    pub setup: Option<String>,
+pub struct Recorded {
     /// The file of the record; `-` is standard input.
     pub record: String,
-    /// The file of the key of its seals, if they are to stand for all of it; `-` is standard input.
+    /// The file of the key of its seals, if they are to be judged; `-` is standard input.
     pub seal_key: Option<String>,
-    /// Whether a line that is refused is shown, with what is wrong with it.
-    pub explain: bool,
-    /// The file of the program; `-` is standard input.
-    pub program: String,
+    /// The program.
+    pub subject: Subject,
 }
 
 /// The values of `loop`.
@@ -189,25 +183,6 @@ pub struct Run {
     pub program: String,
 }
 
-/// The values of `export`.
-#[derive(Debug, Drop)]
-pub struct Export {
-    /// The form that is printed.
-    pub form: Form,
-    /// How a table is written.
-    pub table: TableOptions,
-    /// The file of the machine's setup, whose frames the program may recall; `-` is standard input.
-    pub setup: Option<String>,
-    /// The file of the features that were measured; `-` is standard input.
-    pub features: String,
-    /// The file of the limits that the points are compared with; `-` is standard input.
-    pub limits: Option<String>,
-    /// Whether a line that is refused is shown, with what is wrong with it.
-    pub explain: bool,
-    /// The file of the program; `-` is standard input.
-    pub program: String,
-}
-
 /// A form in which a record is printed.
 #[derive(Clone, Copy, Debug, PartialEq, Eq)]
 pub enum RecordForm {
@@ -219,23 +194,26 @@ pub enum RecordForm {
     Contacts,
 }
 
-/// The values of `export` for a record.
+/// What an export prints, and the file of it; `-` is standard input.
 #[derive(Debug, Drop)]
-pub struct RecordExport {
-    /// The form that is printed.
-    pub form: RecordForm,
+pub enum Measured {
+    /// The features that were measured.
+    Features(Form, String),
+    /// A record.
+    Record(RecordForm, String),
+}
+
+/// The values of `export`.
+#[derive(Debug, Drop)]
+pub struct Export {
+    /// What is printed.
+    pub measured: Measured,
     /// How a table is written.
     pub table: TableOptions,
-    /// The file of the machine's setup, whose frames the program may recall; `-` is standard input.
-    pub setup: Option<String>,
-    /// The file of the record; `-` is standard input.
-    pub record: String,
     /// The file of the limits that the points are compared with; `-` is standard input.
     pub limits: Option<String>,
-    /// Whether a line that is refused is shown, with what is wrong with it.
-    pub explain: bool,
-    /// The file of the program; `-` is standard input.
-    pub program: String,
+    /// The program.
+    pub subject: Subject,
 }
 
 /// The values of `review`.
@@ -295,8 +273,6 @@ pub struct Watch {
 /// The values of `lower`.
 #[derive(Debug, Drop)]
 pub struct Lower {
-    /// The file of the machine's setup, whose frames the program may recall; `-` is standard input.
-    pub setup: Option<String>,
     /// Whether statements on clearing are left out.
     pub no_clearing: bool,
     /// Whether the machine corrects for temperature.
@@ -305,27 +281,17 @@ pub struct Lower {
     pub skip_manual: bool,
     /// Whether alignments select the stored frames of their names.
     pub stored_frames: bool,
-    /// Whether a line that is refused is shown, with what is wrong with it.
-    pub explain: bool,
-    /// The file of the program; `-` is standard input.
-    pub program: String,
+    /// The program.
+    pub subject: Subject,
 }
 
 /// The values of `report`.
 #[derive(Debug, Drop)]
 pub struct PartReport {
-    /// The file of the machine's setup, whose frames the program may recall; `-` is standard input.
-    pub setup: Option<String>,
-    /// The file of the record; `-` is standard input.
-    pub record: String,
-    /// The file of the key by which its seals are judged; `-` is standard input.
-    pub seal_key: Option<String>,
     /// The file of the limits that the points are compared with; `-` is standard input.
     pub limits: Option<String>,
-    /// Whether a line that is refused is shown, with what is wrong with it.
-    pub explain: bool,
-    /// The file of the program; `-` is standard input.
-    pub program: String,
+    /// The record of the part.
+    pub recorded: Recorded,
 }
 
 /// The form of a summary.

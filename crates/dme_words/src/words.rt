@@ -1,44 +1,76 @@
-// The command line.
+// Which order the words of a command line ask for, or why they ask for nothing.
 
-ghost use Rattle.std.specs.Prelude.{◌≡◌, ◌≤◌, [], IfOk, IfErr, IfSome, OnOk, IsErrAnd, IsSomeAnd, MatchOption, Some, map, true, codes, string_bytes, unwrap_or};
+ghost use Rattle.std.specs.Prelude.{◌≡◌, ◌≤◌, IfOk, IfErr, IfSome, OnOk, IsErrAnd, IsSomeAnd, MatchOption, Some, map, true, codes, string_bytes};
 ghost use Rattle.std.specs.Option.{option_map};
-ghost use Rattle.clap.specs.Words.{all_of, first_of, found_of, rows_of, subcommand_rows_of};
+ghost use Rattle.clap.specs.Words.{found_of, rows_of, subcommand_rows_of};
 ghost use Rattle.client_core.specs.Clients.{is_window};
 ghost use Rattle.dme_words.specs.Ordered as spec;
 ghost use Rattle.dme_words.specs.CommandLine.{audit_line, check_line, explain_line, export_line, judge_line, ledger_line, loop_line, lower_line, report_line, run_line, serve_line, simulate_line, watch_line};
-ghost use Rattle.dme_words.specs.Ordered.{Asks, AsksForNothing, ExportMisfits, Has, HasFlag, HasNoAudit, HasNoExport, HasNoName, HasNoReview, HasNoRun, HasNoRunValue, HasNoSeconds, HasNoSummary, HasNoTable, HasNoTopic, HasNone, HasNumber, HasValue, IsAnyAuditOf, IsAnyExportOf, IsAskable, IsCalled, IsCheckOf, IsCodeOf, IsConnectionsOf, IsExplainOf, IsFindingFormOf, IsFlagOf, IsGivenOf, IsJudgeOf, IsLaterAskable, IsLedgerOf, IsLoopOf, IsLowerOf, IsMaybeOf, IsNoCode, IsNoForm, IsNoSeconds, IsNumber, IsNumberOf, IsOrderOf, IsProgramOf, IsReady, IsRecordOf, IsRefusal, IsRefusedOf, IsReportOf, IsReviewOf, IsRunOf, IsSecondsOf, IsSeparatorOf, IsServeOf, IsSignOf, IsSimulateOf, IsSummaryFormOf, IsSummaryOf, IsTableOf, IsValueOf, IsValueOrInput, IsWatchOf, IsWindowOf, KeepsItsKey, KeepsItsOperator, KeepsItsTable, NamesItsPart, RunMisfits, TableMisfits, form_word, is_lacking};
+ghost use Rattle.dme_words.specs.Ordered.{Asks, AsksForNothing, AuditMisfits, ExportMisfits, FitsAudit, FitsRun, Has, HasFlag, HasNoAudit, HasNoExport, HasNoReview, HasNoForm, HasNoRun, HasNoRunValue, HasNoSeconds, HasNoSummary, HasNoTable, HasNoTopic, HasValue, IsAnyAuditOf, IsAskable, IsCalled, IsExplainOf, IsExportOf, IsFindingFormOf, IsJudgeOf, IsLaterAskable, IsLedgerOf, IsLoopOf, IsLowerOf, IsMeasuredOf, IsOrderOf, IsReady, IsRecordOf, IsRecordedOf, IsRefusal, IsRefusedOf, IsReportOf, IsReviewOf, IsRunOf, IsSeparatorOf, IsServeOf, IsSignOf, IsSimulateOf, IsSubjectOf, IsSummaryFormOf, IsSummaryOf, IsTableOf, IsValueOf, IsWatchOf, KeepsItsTable, NamesOneFile, RunMisfits, form_in, form_word, rows_in};
 
 use crate::folders::record_in;
 use crate::line::whole_command;
-use crate::misfits::{Lacks, Misfit};
+use crate::misfits::{Lacks, MORE, Misfit};
 use crate::orders::{
-    Audit, BatchSummary, Check, Export, Judge, Ledger, Loop, Lower, Order, PartReport, RecordAudit,
-    RecordExport, RecordForm, Review, Run, Service, Simulation, SummaryForm, Watch,
+    Audit, BatchSummary, Export, Judge, Ledger, Loop, Lower, Measured, Order, PartReport,
+    RecordForm, Recorded, Review, Run, Service, Simulation, Subject, SummaryForm, Watch,
+};
+use crate::values::{
+    all_values, connections_of, flag_of, is_lacking, maybe, name_of, needed, number_of, or_input,
+    port_of, seconds_of, value_of, window_of,
 };
 use clap::error::ErrorKind;
 use clap::parser::ValueSource;
 use clap::{ArgMatches, Error};
 use deviations::{DecimalSign, Form, Separator, TableOptions};
 use program_review::Topic;
-use record_text::is_part;
 use session_telling::visible;
 use std::alloc::{AllocError, Global};
 use std::fmt;
 
-/// The forms of what was measured, as `clap` would list them.
-const FORMS: &str = "\n  [possible values: csv, json, svg, features, contacts]";
+/// What an argument takes.
+#[derive(Clone, Copy, Debug, PartialEq, Eq)]
+pub enum Wanted {
+    /// The code of a refusal.
+    Code,
+    /// The word for a form of what was measured.
+    Form,
+    /// The word for a form of a review's findings.
+    FindingForm,
+    /// The word for a form of a summary.
+    SummaryForm,
+    /// The word for a separator of a table.
+    Separator,
+    /// The word for a decimal sign.
+    Sign,
+    /// A number of seconds; of this option.
+    Seconds(&'static str),
+    /// The name of a part or of an operator; of this option.
+    Name(&'static str),
+}
 
-/// Likewise, of a review's findings.
-const FINDING_FORMS: &str = "\n  [possible values: json]";
-
-/// Likewise, of a summary.
-const SUMMARY_FORMS: &str = "\n  [possible values: text, csv, html]";
-
-/// The separators of a table.
-const SEPARATORS: &str = "\n  [possible values: ',', ';', tab]";
-
-/// Its decimal signs.
-const SIGNS: &str = "\n  [possible values: point, comma]";
+/// Shown as `clap` shows the argument, and why it does not take a value.
+impl fmt::Display for Wanted {
+    fn fmt<W: fmt::Write>(&self, f: &mut fmt::Formatter<W>) -> fmt::Result {
+        let shown = match self {
+            Wanted::Code => "'<CODE>': no refusal has this code",
+            Wanted::Form => {
+                "'--as <FORM>'\n  [possible values: csv, json, svg, features, contacts]"
+            }
+            Wanted::FindingForm => "'--as <FORM>'\n  [possible values: json]",
+            Wanted::SummaryForm => "'--as <FORM>'\n  [possible values: text, csv, html]",
+            Wanted::Separator => "'--separator <SIGN>'\n  [possible values: ',', ';', tab]",
+            Wanted::Sign => "'--decimal <SIGN>'\n  [possible values: point, comma]",
+            Wanted::Seconds(option) => {
+                return write!(f, "'--{option} <SECONDS>': a number from 1 to 86400");
+            }
+            Wanted::Name(option) => {
+                return write!(f, "'--{option} <TEXT>': 1 to 64 printable bytes");
+            }
+        };
+        f.write_str(shown)
+    }
+}
 
 /// Why words ask for nothing. Shown as `clap` shows its own faults.
 #[derive(Debug, Drop)]
@@ -47,22 +79,8 @@ pub enum WordsFault {
     Line(Error),
     /// A word with a control character, as people read it.
     Control(String),
-    /// A code that names no refusal.
-    NoCode(String),
-    /// A word that names no form.
-    NoForm(String),
-    /// A word that names no form of a review's findings.
-    NoFindingForm(String),
-    /// A word that names no form of a summary.
-    NoSummaryForm(String),
-    /// A word that names no separator of a table.
-    NoSeparator(String),
-    /// A word that names no decimal sign.
-    NoSign(String),
-    /// A text that is no number of seconds, and the option that it was given to.
-    NoSeconds(&'static str, String),
-    /// A text that may not be the name of a part or of an operator, and the option that it was given to.
-    NoName(&'static str, String),
+    /// A text that an argument does not take.
+    NoValue(Wanted, String),
     /// Options that do not go together.
     Misfits(Misfit),
     /// Out of memory.
@@ -80,208 +98,67 @@ impl From<AllocError> for WordsFault {
     }
 }
 
-/// Writes why an option does not take a value.
-fn write_value<W: fmt::Write>(
-    f: &mut fmt::Formatter<W>,
-    value: &str,
-    option: &str,
-    why: &str,
-) -> fmt::Result {
-    write!(f, "error: invalid value '{value}' for '{option}'")?;
-    write!(f, "{why}\n\nFor more information, try '--help'.\n")
-}
-
 impl fmt::Display for WordsFault {
     fn fmt<W: fmt::Write>(&self, f: &mut fmt::Formatter<W>) -> fmt::Result {
         match self {
             WordsFault::Line(error) => write!(f, "{error}"),
-            WordsFault::Control(word) => write!(
-                f,
-                "error: control character in '{word}'\n\nFor more information, try '--help'.\n"
-            ),
-            WordsFault::NoCode(code) => {
-                write_value(f, code, "<CODE>", ": no refusal has this code")
+            WordsFault::Control(word) => {
+                write!(f, "error: control character in '{word}'\n\n{MORE}")
             }
-            WordsFault::NoForm(word) => write_value(f, word, "--as <FORM>", FORMS),
-            WordsFault::NoFindingForm(word) => write_value(f, word, "--as <FORM>", FINDING_FORMS),
-            WordsFault::NoSummaryForm(word) => write_value(f, word, "--as <FORM>", SUMMARY_FORMS),
-            WordsFault::NoSeparator(word) => write_value(f, word, "--separator <SIGN>", SEPARATORS),
-            WordsFault::NoSign(word) => write_value(f, word, "--decimal <SIGN>", SIGNS),
-            WordsFault::NoSeconds(option, text) => write!(
-                f,
-                "error: invalid value '{text}' for '--{option} <SECONDS>': a number from 1 to 86400\n\nFor more information, try '--help'.\n"
-            ),
-            WordsFault::NoName(option, text) => write!(
-                f,
-                "error: invalid value '{text}' for '--{option} <TEXT>': 1 to 64 printable bytes\n\nFor more information, try '--help'.\n"
-            ),
+            WordsFault::NoValue(wanted, text) => {
+                write!(f, "error: invalid value '{text}' for {wanted}\n\n{MORE}")
+            }
             WordsFault::Misfits(why) => write!(f, "{why}"),
             WordsFault::Memory => f.write_str("dme: out of memory\n"),
         }
     }
 }
 
-fn value_of<'a>(values: &ArgMatches<'a>, id: &str) -> Option<&'a str>
-    ensures { option_map (λ text. text.now) result
-        ≡ first_of id.now (rows_of (found_of values.now)) }
+/// The program of an order, and its setup if one is named.
+fn subject_of(alloc: Global, values: &ArgMatches) -> Result<Subject, AllocError>
+    requires { HasFlag (codes "explain") (rows_in values.now) }
+    ensures { IfOk result (IsSubjectOf (rows_in values.now)) }
 {
-    values.get_str(id)
-}
-
-fn copied_value(alloc: Global, values: &ArgMatches, id: &str) -> Result<String, AllocError>
-    requires { HasValue id.now (rows_of (found_of values.now)) }
-    ensures { IfOk result (λ copy. IsValueOf id.now (rows_of (found_of values.now))
-        (string_bytes copy)) }
-{
-    match value_of(values, id) {
-        Some(text) => String::from_str(alloc, text),
-        None => unreachable!(),
-    }
-}
-
-fn copied_or_input(alloc: Global, values: &ArgMatches, id: &str) -> Result<String, AllocError>
-    ensures { IfOk result (λ copy. IsValueOrInput id.now (rows_of (found_of values.now))
-        (string_bytes copy)) }
-{
-    String::from_str(alloc, value_of(values, id).unwrap_or("-"))
-}
-
-/// A copy of the value of `PROGRAM`.
-fn copied_program(alloc: Global, values: &ArgMatches) -> Result<String, AllocError>
-    ensures { IfOk result (λ copy. IsProgramOf (rows_of (found_of values.now))
-        (string_bytes copy)) }
-{
-    copied_or_input(alloc, values, "PROGRAM")
-}
-
-fn copied_maybe(alloc: Global, values: &ArgMatches, id: &str) -> Result<Option<String>, AllocError>
-    ensures { IfOk result (λ copy. IsMaybeOf id.now (rows_of (found_of values.now))
-        (option_map string_bytes copy)) }
-{
-    match value_of(values, id) {
-        Some(text) => Ok(Some(String::from_str(alloc, text)?)),
-        None => Ok(None),
-    }
-}
-
-/// The value of an option that has a number, which `clap` has found in its range.
-fn number_of(values: &ArgMatches, id: &str, most: u32) -> u32
-    requires number { HasNumber id.now most (rows_of (found_of values.now)) }
-    requires most { most ≤ 4000000000 }
-    ensures named { IsNumberOf id.now most (rows_of (found_of values.now)) result }
-    ensures ready { (1 ≤ result) × (result ≤ most) }
-{
-    match values.get_one::<u32>(id) {
-        Some(number) => number,
-        None => unreachable!(),
-    }
-}
-
-/// The value of `--window`.
-fn window_of(values: &ArgMatches) -> u8
-    requires { HasNumber (codes "window") 16 (rows_of (found_of values.now)) }
-    ensures named { IsWindowOf (rows_of (found_of values.now)) result }
-    ensures ready { is_window result ≡ true }
-{
-    number_of(values, "window", 16) as u8
-}
-
-fn port_of(values: &ArgMatches, id: &str) -> u16
-    requires { HasNumber id.now 65535 (rows_of (found_of values.now)) }
-    ensures named { IsNumberOf id.now 65535 (rows_of (found_of values.now)) result }
-    ensures ready { 1 ≤ result }
-{
-    number_of(values, id, 65_535) as u16
-}
-
-/// How many connections are taken: with `--endless` as many as can be numbered.
-fn connections_of(values: &ArgMatches) -> u32
-    requires count { HasNumber (codes "connections") 4000000000 (rows_of (found_of values.now)) }
-    requires endless { HasFlag (codes "endless") (rows_of (found_of values.now)) }
-    ensures named { IsConnectionsOf (rows_of (found_of values.now)) result }
-    ensures ready { (1 ≤ result) × (result ≤ 4000000000) }
-{
-    if flag_of(values, "endless") {
-        4_000_000_000
-    } else {
-        number_of(values, "connections", 4_000_000_000)
-    }
-}
-
-/// The number of seconds that a text writes, from 1 to 86,400, which is a day.
-fn seconds_in(text: &str) -> Option<u32>
-    ensures { MatchOption result (IsNoSeconds text.now)
-        (λ seconds. IsNumber 86400 seconds text.now) }
-{
-    match text.parse::<i64>() {
-        Ok(seconds) => {
-            if 1 <= seconds && seconds <= 86_400 {
-                Some(seconds as u32)
-            } else {
-                None
-            }
-        }
-        Err(_) => None,
-    }
-}
-
-/// The number of seconds that an option is given, if it is.
-fn seconds_of(
-    alloc: Global,
-    values: &ArgMatches,
-    id: &'static str,
-) -> Result<Option<u32>, WordsFault>
-    ensures named { IfOk result (IsSecondsOf id.now (rows_of (found_of values.now))) }
-    ensures none { IfErr result (HasNoSeconds id.now (rows_of (found_of values.now))) }
-{
-    let Some(text) = value_of(values, id) else {
-        return Ok(None);
-    };
-    match seconds_in(text) {
-        Some(seconds) => Ok(Some(seconds)),
-        None => Err(WordsFault::NoSeconds(id, String::from_str(alloc, text)?)),
-    }
-}
-
-fn flag_of(values: &ArgMatches, id: &str) -> bool
-    requires { HasFlag id.now (rows_of (found_of values.now)) }
-    ensures { IsFlagOf id.now (rows_of (found_of values.now)) result }
-{
-    values.get_flag(id)
-}
-
-/// The values of `check`. Fails only if out of memory.
-fn check_order(alloc: Global, values: &ArgMatches) -> Result<Check, AllocError>
-    requires { Has check_line (rows_of (found_of values.now)) }
-    ensures { IfOk result (IsCheckOf (rows_of (found_of values.now))) }
-{
-    Ok(Check {
-        setup: copied_maybe(alloc, values, "setup")?,
+    Ok(Subject {
+        setup: maybe(alloc, values, "setup")?,
         explain: flag_of(values, "explain"),
-        program: copied_program(alloc, values)?,
+        program: or_input(alloc, values, "PROGRAM")?,
     })
 }
 
-/// The values of `simulate`. Fails only if out of memory.
+/// The named record, its key and the program.
+fn recorded_of(alloc: Global, values: &ArgMatches) -> Result<Recorded, AllocError>
+    requires explain { HasFlag (codes "explain") (rows_in values.now) }
+    requires record { HasValue (codes "record") (rows_in values.now) }
+    ensures { IfOk result (IsRecordedOf (rows_in values.now)) }
+{
+    Ok(Recorded {
+        record: needed(alloc, values, "record")?,
+        seal_key: maybe(alloc, values, "seal-key")?,
+        subject: subject_of(alloc, values)?,
+    })
+}
+
+fn check_order(alloc: Global, values: &ArgMatches) -> Result<Subject, AllocError>
+    requires { Has check_line (rows_in values.now) }
+    ensures { IfOk result (IsSubjectOf (rows_in values.now)) }
+{
+    subject_of(alloc, values)
+}
+
 fn simulate_order(alloc: Global, values: &ArgMatches) -> Result<Simulation, AllocError>
-    requires { Has simulate_line (rows_of (found_of values.now)) }
-    ensures named { IfOk result (IsSimulateOf (rows_of (found_of values.now))) }
+    requires { Has simulate_line (rows_in values.now) }
+    ensures named { IfOk result (IsSimulateOf (rows_in values.now)) }
     ensures ready { IfOk result (λ order. is_window order.window ≡ true) }
 {
     Ok(Simulation {
-        setup: copied_value(alloc, values, "setup")?,
-        schedule: copied_value(alloc, values, "schedule")?,
+        setup: needed(alloc, values, "setup")?,
+        schedule: needed(alloc, values, "schedule")?,
         window: window_of(values),
         trace: flag_of(values, "trace"),
         explain: flag_of(values, "explain"),
-        program: copied_program(alloc, values)?,
+        program: or_input(alloc, values, "PROGRAM")?,
     })
-}
-
-fn is_lacking(values: &ArgMatches, id: &str) -> bool
-    ensures { result ≡ is_lacking id.now (rows_of (found_of values.now)) }
-{
-    value_of(values, id).is_none()
 }
 
 /// Whether the command line names a program.
@@ -292,135 +169,91 @@ fn names_program(values: &ArgMatches) -> bool {
     )
 }
 
-/// The values of `audit` for the record that is named.
-fn record_audit(alloc: Global, values: &ArgMatches, file: String) -> Result<Order, WordsFault>
-    requires explain { HasFlag (codes "explain") (rows_of (found_of values.now)) }
-    requires recorded { IsValueOf (codes "record") (rows_of (found_of values.now))
-        (string_bytes file) }
-    ensures named { IfOk result (IsAnyAuditOf (rows_of (found_of values.now))) }
-    ensures none { IfErr result (HasNoAudit (rows_of (found_of values.now))) }
+/// Why the options of an audit do not go together, if they do not.
+fn audit_misfit(values: &ArgMatches) -> Option<Misfit>
+    ensures { MatchOption result (FitsAudit (rows_in values.now))
+        (AuditMisfits (rows_in values.now)) }
 {
-    if !is_lacking(values, "features") {
-        return Err(WordsFault::Misfits(Misfit::RecordAndFeatures));
-    }
-    if !is_lacking(values, "contacts") {
-        return Err(WordsFault::Misfits(Misfit::RecordAndContacts));
-    }
-    Ok(Order::AuditRecord(RecordAudit {
-        setup: copied_maybe(alloc, values, "setup")?,
-        record: file,
-        seal_key: copied_maybe(alloc, values, "seal-key")?,
-        explain: flag_of(values, "explain"),
-        program: copied_program(alloc, values)?,
-    }))
-}
-
-/// The values of `audit` without a record.
-fn files_audit(alloc: Global, values: &ArgMatches) -> Result<Order, WordsFault>
-    requires explain { HasFlag (codes "explain") (rows_of (found_of values.now)) }
-    requires recorded { HasNone (codes "record") (rows_of (found_of values.now)) }
-    ensures named { IfOk result (IsAnyAuditOf (rows_of (found_of values.now))) }
-    ensures none { IfErr result (HasNoAudit (rows_of (found_of values.now))) }
-{
-    if !is_lacking(values, "seal-key") {
-        return Err(WordsFault::Misfits(Misfit::KeyWithoutRecord));
-    }
     let lacks = Lacks {
         setup: is_lacking(values, "setup"),
         features: is_lacking(values, "features"),
         contacts: is_lacking(values, "contacts"),
         is_named: names_program(values),
     };
-    if lacks.setup || lacks.features || lacks.contacts {
-        return Err(WordsFault::Misfits(Misfit::AuditLacks(lacks)));
+    match is_lacking(values, "record") {
+        false if !lacks.features => Some(Misfit::RecordAndFeatures),
+        false if !lacks.contacts => Some(Misfit::RecordAndContacts),
+        false => None,
+        true if !is_lacking(values, "seal-key") => Some(Misfit::KeyWithoutRecord),
+        true if lacks.setup || lacks.features || lacks.contacts => Some(Misfit::AuditLacks(lacks)),
+        true => None,
     }
-    Ok(Order::Audit(Audit {
-        setup: copied_value(alloc, values, "setup")?,
-        features: copied_value(alloc, values, "features")?,
-        contacts: copied_value(alloc, values, "contacts")?,
-        explain: flag_of(values, "explain"),
-        program: copied_program(alloc, values)?,
-    }))
 }
 
 /// The values of `audit`: of a record, if one is named.
 fn audit_order(alloc: Global, values: &ArgMatches) -> Result<Order, WordsFault>
-    requires { Has audit_line (rows_of (found_of values.now)) }
-    ensures named { IfOk result (IsAnyAuditOf (rows_of (found_of values.now))) }
-    ensures none { IfErr result (HasNoAudit (rows_of (found_of values.now))) }
+    requires { Has audit_line (rows_in values.now) }
+    ensures named { IfOk result (IsAnyAuditOf (rows_in values.now)) }
+    ensures none { IfErr result (HasNoAudit (rows_in values.now)) }
 {
-    match copied_maybe(alloc, values, "record")? {
-        Some(file) => record_audit(alloc, values, file),
-        None => files_audit(alloc, values),
+    if let Some(why) = audit_misfit(values) {
+        return Err(WordsFault::Misfits(why));
     }
+    if !is_lacking(values, "record") {
+        return Ok(Order::AuditRecord(recorded_of(alloc, values)?));
+    }
+    Ok(Order::Audit(Audit {
+        setup: needed(alloc, values, "setup")?,
+        features: needed(alloc, values, "features")?,
+        contacts: needed(alloc, values, "contacts")?,
+        explain: flag_of(values, "explain"),
+        program: or_input(alloc, values, "PROGRAM")?,
+    }))
 }
 
-/// The values of `loop`. Fails only if out of memory.
 fn loop_order(alloc: Global, values: &ArgMatches) -> Result<Loop, AllocError>
-    requires { Has loop_line (rows_of (found_of values.now)) }
-    ensures named { IfOk result (IsLoopOf (rows_of (found_of values.now))) }
+    requires { Has loop_line (rows_in values.now) }
+    ensures named { IfOk result (IsLoopOf (rows_in values.now)) }
     ensures ready { IfOk result (λ order. is_window order.window ≡ true) }
 {
     Ok(Loop {
-        setup: copied_value(alloc, values, "setup")?,
+        setup: needed(alloc, values, "setup")?,
         window: window_of(values),
         progress: flag_of(values, "progress"),
         trace: flag_of(values, "trace"),
         explain: flag_of(values, "explain"),
-        program: copied_program(alloc, values)?,
+        program: or_input(alloc, values, "PROGRAM")?,
     })
 }
 
-/// The values of `serve`.
 fn serve_order(alloc: Global, values: &ArgMatches) -> Result<Service, WordsFault>
-    requires { Has serve_line (rows_of (found_of values.now)) }
-    ensures named { IfOk result (IsServeOf (rows_of (found_of values.now))) }
-    ensures none { IfErr result (HasNoSeconds (codes "timeout") (rows_of (found_of values.now))) }
+    requires { Has serve_line (rows_in values.now) }
+    ensures named { IfOk result (IsServeOf (rows_in values.now)) }
+    ensures none { IfErr result (HasNoSeconds (codes "timeout") (rows_in values.now)) }
     ensures ready { IfOk result (λ order. (1 ≤ order.port)
         × (1 ≤ order.connections) × (order.connections ≤ 4000000000)) }
 {
     Ok(Service {
-        setup: copied_value(alloc, values, "setup")?,
-        listen: copied_maybe(alloc, values, "listen")?,
+        setup: needed(alloc, values, "setup")?,
+        listen: maybe(alloc, values, "listen")?,
         port: port_of(values, "port"),
         connections: connections_of(values),
-        contacts: copied_maybe(alloc, values, "contacts")?,
+        contacts: maybe(alloc, values, "contacts")?,
         progress: flag_of(values, "progress"),
         trace: flag_of(values, "trace"),
-        log: copied_maybe(alloc, values, "log")?,
+        log: maybe(alloc, values, "log")?,
         timeout: seconds_of(alloc, values, "timeout")?,
-        stop: copied_maybe(alloc, values, "stop")?,
+        stop: maybe(alloc, values, "stop")?,
         explain: flag_of(values, "explain"),
     })
 }
 
-fn given_of(
-    alloc: Global,
-    values: &ArgMatches,
-    id: &'static str,
-) -> Result<Option<String>, WordsFault>
-    ensures named { IfOk result (λ text. IsGivenOf id.now (rows_of (found_of values.now))
-        (option_map string_bytes text)) }
-    ensures none { IfErr result (HasNoName id.now (rows_of (found_of values.now))) }
-{
-    match copied_maybe(alloc, values, id)? {
-        Some(text) => {
-            if is_part(text.as_bytes()) {
-                Ok(Some(text))
-            } else {
-                Err(WordsFault::NoName(id, text))
-            }
-        }
-        None => Ok(None),
-    }
-}
-
 /// The file of the record: the named one, or else that of the part in the named folder.
 fn record_of(alloc: Global, values: &ArgMatches) -> Result<Option<String>, AllocError>
-    ensures { IfOk result (λ file. IsRecordOf (rows_of (found_of values.now))
+    ensures { IfOk result (λ file. IsRecordOf (rows_in values.now)
         (option_map string_bytes file)) }
 {
-    if let Some(file) = copied_maybe(alloc, values, "record")? {
+    if let Some(file) = maybe(alloc, values, "record")? {
         return Ok(Some(file));
     }
     match (value_of(values, "records"), value_of(values, "part")) {
@@ -429,46 +262,42 @@ fn record_of(alloc: Global, values: &ArgMatches) -> Result<Option<String>, Alloc
     }
 }
 
-/// The values of `run`.
 fn run_values(alloc: Global, values: &ArgMatches) -> Result<Run, WordsFault>
-    requires { Has run_line (rows_of (found_of values.now)) }
-    ensures named { IfOk result (IsRunOf (rows_of (found_of values.now))) }
+    requires { Has run_line (rows_in values.now) }
+    ensures named { IfOk result (IsRunOf (rows_in values.now)) }
     ensures ready { IfOk result (λ order. (1 ≤ order.port)
         × (is_window order.window ≡ true)) }
-    ensures none { IfErr result (HasNoRunValue (rows_of (found_of values.now))) }
+    ensures none { IfErr result (HasNoRunValue (rows_in values.now)) }
 {
     let timeout = seconds_of(alloc, values, "timeout")?;
     let wait = seconds_of(alloc, values, "wait")?;
     Ok(Run {
-        setup: copied_value(alloc, values, "setup")?,
-        host: copied_value(alloc, values, "host")?,
+        setup: needed(alloc, values, "setup")?,
+        host: needed(alloc, values, "host")?,
         port: port_of(values, "port"),
         window: window_of(values),
-        features: copied_maybe(alloc, values, "features")?,
+        features: maybe(alloc, values, "features")?,
         record: record_of(alloc, values)?,
-        part: given_of(alloc, values, "part")?,
-        operator: given_of(alloc, values, "operator")?,
-        seal_key: copied_maybe(alloc, values, "seal-key")?,
-        contacts: copied_maybe(alloc, values, "contacts")?,
+        part: name_of(alloc, values, "part")?,
+        operator: name_of(alloc, values, "operator")?,
+        seal_key: maybe(alloc, values, "seal-key")?,
+        contacts: maybe(alloc, values, "contacts")?,
         progress: flag_of(values, "progress"),
         trace: flag_of(values, "trace"),
-        log: copied_maybe(alloc, values, "log")?,
+        log: maybe(alloc, values, "log")?,
         timeout,
         wait,
-        stop: copied_maybe(alloc, values, "stop")?,
+        stop: maybe(alloc, values, "stop")?,
         confirm: flag_of(values, "confirm"),
         pause: flag_of(values, "pause"),
         explain: flag_of(values, "explain"),
-        program: copied_program(alloc, values)?,
+        program: or_input(alloc, values, "PROGRAM")?,
     })
 }
 
 /// Why the options of a run do not go together, if they do not.
 fn run_misfit(values: &ArgMatches) -> Option<Misfit>
-    ensures { MatchOption result (NamesItsPart (rows_of (found_of values.now))
-        × (KeepsItsOperator (rows_of (found_of values.now))
-        × KeepsItsKey (rows_of (found_of values.now))))
-        (RunMisfits (rows_of (found_of values.now))) }
+    ensures { MatchOption result (FitsRun (rows_in values.now)) (RunMisfits (rows_in values.now)) }
 {
     let (no_record, no_part) = (is_lacking(values, "record"), is_lacking(values, "part"));
     let is_unrecorded = no_record && is_lacking(values, "records");
@@ -485,14 +314,12 @@ fn run_misfit(values: &ArgMatches) -> Option<Misfit>
 /// The values of `run`. A record is of a part, so that its points are not taken for those of another; a part, an operator and a key are
 /// those of a record.
 fn run_order(alloc: Global, values: &ArgMatches) -> Result<Run, WordsFault>
-    requires { Has run_line (rows_of (found_of values.now)) }
-    ensures named { IfOk result (IsRunOf (rows_of (found_of values.now))) }
-    ensures part { OnOk result (NamesItsPart (rows_of (found_of values.now))) }
-    ensures operator { OnOk result (KeepsItsOperator (rows_of (found_of values.now))) }
-    ensures key { OnOk result (KeepsItsKey (rows_of (found_of values.now))) }
+    requires { Has run_line (rows_in values.now) }
+    ensures named { IfOk result (IsRunOf (rows_in values.now)) }
+    ensures fits { OnOk result (FitsRun (rows_in values.now)) }
     ensures ready { IfOk result (λ order. (1 ≤ order.port)
         × (is_window order.window ≡ true)) }
-    ensures none { IfErr result (HasNoRun (rows_of (found_of values.now))) }
+    ensures none { IfErr result (HasNoRun (rows_in values.now)) }
 {
     match run_misfit(values) {
         Some(why) => Err(WordsFault::Misfits(why)),
@@ -500,71 +327,64 @@ fn run_order(alloc: Global, values: &ArgMatches) -> Result<Run, WordsFault>
     }
 }
 
-/// The refusal that this code names, its letters in any case.
-fn topic_of(code: String) -> Result<Topic, WordsFault>
-    ensures ok { IfOk result (λ topic. IsCodeOf topic (string_bytes code)) }
-    ensures err { IfErr result (λ fault. (fault ≡ WordsFault.NoCode code)
-        × IsNoCode (string_bytes code)) }
+/// The refusal that `explain` names, its letters in any case.
+fn explain_order(alloc: Global, values: &ArgMatches) -> Result<Topic, WordsFault>
+    requires { Has explain_line (rows_in values.now) }
+    ensures named { IfOk result (IsExplainOf (rows_in values.now)) }
+    ensures none { IfErr result (HasNoTopic (rows_in values.now)) }
 {
+    let code = needed(alloc, values, "CODE")?;
     match Topic::of_code(code.as_bytes()) {
         Some(topic) => Ok(topic),
-        None => Err(WordsFault::NoCode(code)),
+        None => Err(WordsFault::NoValue(Wanted::Code, code)),
     }
 }
 
-/// The refusal that `explain` names.
-fn explain_order(alloc: Global, values: &ArgMatches) -> Result<Topic, WordsFault>
-    requires { Has explain_line (rows_of (found_of values.now)) }
-    ensures named { IfOk result (IsExplainOf (rows_of (found_of values.now))) }
-    ensures none { IfErr result (HasNoTopic (rows_of (found_of values.now))) }
+fn form_of(alloc: Global, values: &ArgMatches) -> Result<RecordForm, WordsFault>
+    requires { HasValue (codes "as") (rows_in values.now) }
+    ensures named { IfOk result (λ form. IsValueOf (codes "as") (rows_in values.now)
+        (form_word form)) }
+    ensures none { IfErr result (HasNoForm (rows_in values.now)) }
 {
-    let code = copied_value(alloc, values, "CODE")?;
-    topic_of(code)
-}
-
-fn form_of(word: String) -> Result<RecordForm, WordsFault>
-    ensures ok { IfOk result (λ form. string_bytes word ≡ form_word form) }
-    ensures err { IfErr result (λ fault. (fault ≡ WordsFault.NoForm word)
-        × IsNoForm (string_bytes word)) }
-{
-    match word.as_str() {
-        "csv" => Ok(RecordForm::Table(Form::Csv)),
-        "json" => Ok(RecordForm::Table(Form::Json)),
-        "svg" => Ok(RecordForm::Table(Form::Svg)),
-        "features" => Ok(RecordForm::Features),
-        "contacts" => Ok(RecordForm::Contacts),
-        _ => Err(WordsFault::NoForm(word)),
+    match value_of(values, "as") {
+        Some("csv") => Ok(RecordForm::Table(Form::Csv)),
+        Some("json") => Ok(RecordForm::Table(Form::Json)),
+        Some("svg") => Ok(RecordForm::Table(Form::Svg)),
+        Some("features") => Ok(RecordForm::Features),
+        Some("contacts") => Ok(RecordForm::Contacts),
+        Some(word) => Err(WordsFault::NoValue(Wanted::Form, String::from_str(alloc, word)?)),
+        None => unreachable!(),
     }
 }
 
 fn separator_of(alloc: Global, values: &ArgMatches) -> Result<Separator, WordsFault>
-    ensures named { IfOk result (IsSeparatorOf (rows_of (found_of values.now))) }
-    ensures none { IfErr result (HasNoTable (rows_of (found_of values.now))) }
+    ensures named { IfOk result (IsSeparatorOf (rows_in values.now)) }
+    ensures none { IfErr result (HasNoTable (rows_in values.now)) }
 {
     match value_of(values, "separator") {
         None | Some(",") => Ok(Separator::Comma),
         Some(";") => Ok(Separator::Semicolon),
         Some("tab") => Ok(Separator::Tab),
-        Some(word) => Err(WordsFault::NoSeparator(String::from_str(alloc, word)?)),
+        Some(word) => Err(WordsFault::NoValue(Wanted::Separator, String::from_str(alloc, word)?)),
     }
 }
 
 fn sign_of(alloc: Global, values: &ArgMatches) -> Result<DecimalSign, WordsFault>
-    ensures named { IfOk result (IsSignOf (rows_of (found_of values.now))) }
-    ensures none { IfErr result (HasNoTable (rows_of (found_of values.now))) }
+    ensures named { IfOk result (IsSignOf (rows_in values.now)) }
+    ensures none { IfErr result (HasNoTable (rows_in values.now)) }
 {
     match value_of(values, "decimal") {
         None | Some("point") => Ok(DecimalSign::Point),
         Some("comma") => Ok(DecimalSign::Comma),
-        Some(word) => Err(WordsFault::NoSign(String::from_str(alloc, word)?)),
+        Some(word) => Err(WordsFault::NoValue(Wanted::Sign, String::from_str(alloc, word)?)),
     }
 }
 
 /// How a table is written.
 fn table_of(alloc: Global, values: &ArgMatches) -> Result<TableOptions, WordsFault>
-    requires { HasFlag (codes "with-part") (rows_of (found_of values.now)) }
-    ensures named { IfOk result (IsTableOf (rows_of (found_of values.now))) }
-    ensures none { IfErr result (HasNoTable (rows_of (found_of values.now))) }
+    requires { HasFlag (codes "with-part") (rows_in values.now) }
+    ensures named { IfOk result (IsTableOf (rows_in values.now)) }
+    ensures none { IfErr result (HasNoTable (rows_in values.now)) }
 {
     Ok(TableOptions {
         separator: separator_of(alloc, values)?,
@@ -575,8 +395,10 @@ fn table_of(alloc: Global, values: &ArgMatches) -> Result<TableOptions, WordsFau
 
 /// Why options of a table are not those of a form, if they are not.
 fn table_misfit(values: &ArgMatches, form: RecordForm, table: TableOptions) -> Option<Misfit>
-    ensures { MatchOption result (KeepsItsTable (rows_of (found_of values.now)) form table)
-        (TableMisfits (rows_of (found_of values.now)) form table) }
+    requires form { IsValueOf (codes "as") (rows_in values.now) (form_word form) }
+    requires table { IsTableOf (rows_in values.now) table }
+    ensures { MatchOption result (KeepsItsTable (rows_in values.now) form table)
+        (ExportMisfits (rows_in values.now)) }
 {
     let is_plain = is_lacking(values, "separator") && is_lacking(values, "decimal");
     match form {
@@ -588,305 +410,190 @@ fn table_misfit(values: &ArgMatches, form: RecordForm, table: TableOptions) -> O
     }
 }
 
-/// The form of an export by its word, and how a table is written.
-fn shown_of(
-    alloc: Global,
-    values: &ArgMatches,
-    word: String,
-) -> Result<(RecordForm, TableOptions), WordsFault>
-    requires flag { HasFlag (codes "with-part") (rows_of (found_of values.now)) }
-    requires word { IsValueOf (codes "as") (rows_of (found_of values.now)) (string_bytes word) }
-    ensures form { IfOk result (λ shown. IsValueOf (codes "as") (rows_of (found_of values.now))
-        (form_word shown.0)) }
-    ensures table { IfOk result (λ shown. IsTableOf (rows_of (found_of values.now)) shown.1) }
-    ensures keeps { IfOk result (λ shown. KeepsItsTable (rows_of (found_of values.now)) shown.0
-        shown.1) }
-    ensures none { IfErr result (HasNoExport (rows_of (found_of values.now))) }
+/// Why the files of an export do not go together, if they do not. Two of the forms are those of a record only.
+fn file_misfit(values: &ArgMatches) -> Option<Misfit>
+    ensures { MatchOption result (NamesOneFile (rows_in values.now))
+        (ExportMisfits (rows_in values.now)) }
 {
-    let form = form_of(word)?;
+    let (no_record, no_features) = (is_lacking(values, "record"), is_lacking(values, "features"));
+    match (no_record, no_features, value_of(values, "as")) {
+        (false, false, _) => Some(Misfit::RecordAndFeatures),
+        (true, true, Some("features")) => Some(Misfit::FeaturesWithoutRecord),
+        (true, true, Some("contacts")) => Some(Misfit::ContactsWithoutRecord),
+        (true, true, _) => Some(Misfit::ExportLacks(names_program(values))),
+        _ => None,
+    }
+}
+
+/// What is printed of the file that is named.
+fn measured_of(alloc: Global, values: &ArgMatches, form: RecordForm) -> Result<Measured, WordsFault>
+    requires one { NamesOneFile (rows_in values.now) }
+    requires form { IsValueOf (codes "as") (rows_in values.now) (form_word form) }
+    ensures named { IfOk result (IsMeasuredOf (rows_in values.now)) }
+    ensures form { IfOk result (λ measured. form_in measured ≡ form) }
+    ensures none { IfErr result (HasNoExport (rows_in values.now)) }
+{
+    if !is_lacking(values, "record") {
+        return Ok(Measured::Record(form, needed(alloc, values, "record")?));
+    }
+    match form {
+        RecordForm::Table(form) => {
+            Ok(Measured::Features(form, needed(alloc, values, "features")?))
+        }
+        RecordForm::Features => Err(WordsFault::Misfits(Misfit::FeaturesWithoutRecord)),
+        RecordForm::Contacts => Err(WordsFault::Misfits(Misfit::ContactsWithoutRecord)),
+    }
+}
+
+fn export_order(alloc: Global, values: &ArgMatches) -> Result<Export, WordsFault>
+    requires { Has export_line (rows_in values.now) }
+    ensures named { IfOk result (IsExportOf (rows_in values.now)) }
+    ensures none { IfErr result (HasNoExport (rows_in values.now)) }
+{
+    if let Some(why) = file_misfit(values) {
+        return Err(WordsFault::Misfits(why));
+    }
+    let form = form_of(alloc, values)?;
     let table = table_of(alloc, values)?;
-    match table_misfit(values, form, table) {
-        Some(why) => Err(WordsFault::Misfits(why)),
-        None => Ok((form, table)),
+    if let Some(why) = table_misfit(values, form, table) {
+        return Err(WordsFault::Misfits(why));
     }
-}
-
-/// The values of `export` for the record that is named.
-fn record_export(
-    alloc: Global,
-    values: &ArgMatches,
-    form: RecordForm,
-    table: TableOptions,
-    file: String,
-) -> Result<Order, WordsFault>
-    requires explain { HasFlag (codes "explain") (rows_of (found_of values.now)) }
-    requires form { IsValueOf (codes "as") (rows_of (found_of values.now)) (form_word form) }
-    requires table { IsTableOf (rows_of (found_of values.now)) table }
-    requires keeps { KeepsItsTable (rows_of (found_of values.now)) form table }
-    requires recorded { IsValueOf (codes "record") (rows_of (found_of values.now))
-        (string_bytes file) }
-    requires features { HasNone (codes "features") (rows_of (found_of values.now)) }
-    ensures named { IfOk result (IsAnyExportOf (rows_of (found_of values.now))) }
-    ensures none { IfErr result (HasNoExport (rows_of (found_of values.now))) }
-{
-    Ok(Order::ExportRecord(RecordExport {
-        form,
+    Ok(Export {
+        measured: measured_of(alloc, values, form)?,
         table,
-        setup: copied_maybe(alloc, values, "setup")?,
-        record: file,
-        limits: copied_maybe(alloc, values, "limits")?,
-        explain: flag_of(values, "explain"),
-        program: copied_program(alloc, values)?,
-    }))
-}
-
-/// The values of `export` for the features that are named. Two of the forms are those of a record only.
-fn features_export(
-    alloc: Global,
-    values: &ArgMatches,
-    form: RecordForm,
-    table: TableOptions,
-    features: String,
-) -> Result<Order, WordsFault>
-    requires explain { HasFlag (codes "explain") (rows_of (found_of values.now)) }
-    requires form { IsValueOf (codes "as") (rows_of (found_of values.now)) (form_word form) }
-    requires table { IsTableOf (rows_of (found_of values.now)) table }
-    requires keeps { KeepsItsTable (rows_of (found_of values.now)) form table }
-    requires features { IsValueOf (codes "features") (rows_of (found_of values.now))
-        (string_bytes features) }
-    requires recorded { HasNone (codes "record") (rows_of (found_of values.now)) }
-    ensures named { IfOk result (IsAnyExportOf (rows_of (found_of values.now))) }
-    ensures none { IfErr result (HasNoExport (rows_of (found_of values.now))) }
-{
-    let form = match form {
-        RecordForm::Table(form) => form,
-        RecordForm::Features => {
-            return Err(WordsFault::Misfits(Misfit::FeaturesWithoutRecord));
-        }
-        RecordForm::Contacts => {
-            return Err(WordsFault::Misfits(Misfit::ContactsWithoutRecord));
-        }
-    };
-    Ok(Order::Export(Export {
-        form,
-        table,
-        setup: copied_maybe(alloc, values, "setup")?,
-        features,
-        limits: copied_maybe(alloc, values, "limits")?,
-        explain: flag_of(values, "explain"),
-        program: copied_program(alloc, values)?,
-    }))
-}
-
-/// What an export with neither record nor features lacks, by the word for its form.
-fn export_lacks(values: &ArgMatches, word: &str) -> Misfit
-    requires form { IsValueOf (codes "as") (rows_of (found_of values.now)) word.now }
-    requires recorded { HasNone (codes "record") (rows_of (found_of values.now)) }
-    requires features { HasNone (codes "features") (rows_of (found_of values.now)) }
-    ensures { ExportMisfits (rows_of (found_of values.now)) result }
-{
-    match word {
-        "features" => Misfit::FeaturesWithoutRecord,
-        "contacts" => Misfit::ContactsWithoutRecord,
-        _ => Misfit::ExportLacks(names_program(values)),
-    }
-}
-
-/// The values of `export`: of a record, if one is named.
-fn export_order(alloc: Global, values: &ArgMatches) -> Result<Order, WordsFault>
-    requires { Has export_line (rows_of (found_of values.now)) }
-    ensures named { IfOk result (IsAnyExportOf (rows_of (found_of values.now))) }
-    ensures none { IfErr result (HasNoExport (rows_of (found_of values.now))) }
-{
-    let word = copied_value(alloc, values, "as")?;
-    let record = copied_maybe(alloc, values, "record")?;
-    let features = copied_maybe(alloc, values, "features")?;
-    match (record, features) {
-        (Some(_), Some(_)) => Err(WordsFault::Misfits(Misfit::RecordAndFeatures)),
-        (Some(record), None) => {
-            let (form, table) = shown_of(alloc, values, word)?;
-            record_export(alloc, values, form, table, record)
-        }
-        (None, Some(features)) => {
-            let (form, table) = shown_of(alloc, values, word)?;
-            features_export(alloc, values, form, table, features)
-        }
-        (None, None) => Err(WordsFault::Misfits(export_lacks(values, word.as_str()))),
-    }
+        limits: maybe(alloc, values, "limits")?,
+        subject: subject_of(alloc, values)?,
+    })
 }
 
 /// Whether findings are printed as JSON; as lines if no form is named.
 fn is_json(alloc: Global, values: &ArgMatches) -> Result<bool, WordsFault>
-    ensures named { IfOk result (IsFindingFormOf (rows_of (found_of values.now))) }
-    ensures none { IfErr result (HasNoReview (rows_of (found_of values.now))) }
+    ensures named { IfOk result (IsFindingFormOf (rows_in values.now)) }
+    ensures none { IfErr result (HasNoReview (rows_in values.now)) }
 {
     match value_of(values, "as") {
         Some("json") => Ok(true),
-        Some(word) => Err(WordsFault::NoFindingForm(String::from_str(alloc, word)?)),
+        Some(word) => Err(WordsFault::NoValue(Wanted::FindingForm, String::from_str(alloc, word)?)),
         None => Ok(false),
     }
 }
 
-/// The values of `review`.
 fn review_order(alloc: Global, values: &ArgMatches) -> Result<Review, WordsFault>
-    ensures named { IfOk result (IsReviewOf (rows_of (found_of values.now))) }
-    ensures none { IfErr result (HasNoReview (rows_of (found_of values.now))) }
+    ensures named { IfOk result (IsReviewOf (rows_in values.now)) }
+    ensures none { IfErr result (HasNoReview (rows_in values.now)) }
 {
     Ok(Review {
         is_json: is_json(alloc, values)?,
-        setup: copied_maybe(alloc, values, "setup")?,
-        program: copied_program(alloc, values)?,
+        setup: maybe(alloc, values, "setup")?,
+        program: or_input(alloc, values, "PROGRAM")?,
     })
 }
 
-/// The values of `ledger`. Fails only if out of memory.
 fn ledger_order(alloc: Global, values: &ArgMatches) -> Result<Ledger, AllocError>
-    requires { Has ledger_line (rows_of (found_of values.now)) }
-    ensures named { IfOk result (IsLedgerOf (rows_of (found_of values.now))) }
+    requires { Has ledger_line (rows_in values.now) }
+    ensures named { IfOk result (IsLedgerOf (rows_in values.now)) }
     ensures ready { IfOk result (λ order. (1 ≤ order.connection)
         × (order.connection ≤ 4000000000)) }
 {
     Ok(Ledger {
-        up: copied_value(alloc, values, "up")?,
-        down: copied_value(alloc, values, "down")?,
+        up: needed(alloc, values, "up")?,
+        down: needed(alloc, values, "down")?,
         connection: number_of(values, "connection", 4_000_000_000),
     })
 }
 
-/// The values of `judge`. Fails only if out of memory.
 fn judge_order(alloc: Global, values: &ArgMatches) -> Result<Judge, AllocError>
-    requires { Has judge_line (rows_of (found_of values.now)) }
-    ensures { IfOk result (IsJudgeOf (rows_of (found_of values.now))) }
+    requires { Has judge_line (rows_in values.now) }
+    ensures { IfOk result (IsJudgeOf (rows_in values.now)) }
 {
     Ok(Judge {
-        up: copied_value(alloc, values, "up")?,
-        down: copied_value(alloc, values, "down")?,
+        up: needed(alloc, values, "up")?,
+        down: needed(alloc, values, "down")?,
     })
 }
 
-/// The values of `watch`.
 fn watch_order(alloc: Global, values: &ArgMatches) -> Result<Watch, WordsFault>
-    requires { Has watch_line (rows_of (found_of values.now)) }
-    ensures named { IfOk result (IsWatchOf (rows_of (found_of values.now))) }
-    ensures none { IfErr result (HasNoSeconds (codes "timeout") (rows_of (found_of values.now))) }
+    requires { Has watch_line (rows_in values.now) }
+    ensures named { IfOk result (IsWatchOf (rows_in values.now)) }
+    ensures none { IfErr result (HasNoSeconds (codes "timeout") (rows_in values.now)) }
     ensures ready { IfOk result (λ order. (1 ≤ order.listen) × (1 ≤ order.port)
         × (1 ≤ order.connections) × (order.connections ≤ 4000000000)) }
 {
     Ok(Watch {
         listen: port_of(values, "listen"),
-        host: copied_value(alloc, values, "host")?,
+        host: needed(alloc, values, "host")?,
         port: port_of(values, "port"),
-        told: copied_value(alloc, values, "told")?,
-        record_bytes: copied_maybe(alloc, values, "record-bytes")?,
+        told: needed(alloc, values, "told")?,
+        record_bytes: maybe(alloc, values, "record-bytes")?,
         connections: connections_of(values),
         trace: flag_of(values, "trace"),
-        log: copied_maybe(alloc, values, "log")?,
+        log: maybe(alloc, values, "log")?,
         timeout: seconds_of(alloc, values, "timeout")?,
     })
 }
 
-/// The values of `lower`. Fails only if out of memory.
 fn lower_order(alloc: Global, values: &ArgMatches) -> Result<Lower, AllocError>
-    requires { Has lower_line (rows_of (found_of values.now)) }
-    ensures { IfOk result (IsLowerOf (rows_of (found_of values.now))) }
+    requires { Has lower_line (rows_in values.now) }
+    ensures { IfOk result (IsLowerOf (rows_in values.now)) }
 {
     Ok(Lower {
-        setup: copied_maybe(alloc, values, "setup")?,
         no_clearing: flag_of(values, "no-clearing"),
         compensated: flag_of(values, "compensated"),
         skip_manual: flag_of(values, "skip-manual"),
         stored_frames: flag_of(values, "stored-frames"),
-        explain: flag_of(values, "explain"),
-        program: copied_program(alloc, values)?,
+        subject: subject_of(alloc, values)?,
     })
 }
 
-/// The values of `report`. Fails only if out of memory.
 fn report_order(alloc: Global, values: &ArgMatches) -> Result<PartReport, AllocError>
-    requires { Has report_line (rows_of (found_of values.now)) }
-    ensures { IfOk result (IsReportOf (rows_of (found_of values.now))) }
+    requires { Has report_line (rows_in values.now) }
+    ensures { IfOk result (IsReportOf (rows_in values.now)) }
 {
     Ok(PartReport {
-        setup: copied_maybe(alloc, values, "setup")?,
-        record: copied_value(alloc, values, "record")?,
-        seal_key: copied_maybe(alloc, values, "seal-key")?,
-        limits: copied_maybe(alloc, values, "limits")?,
-        explain: flag_of(values, "explain"),
-        program: copied_program(alloc, values)?,
+        limits: maybe(alloc, values, "limits")?,
+        recorded: recorded_of(alloc, values)?,
     })
 }
 
 /// The form of a summary: text if none is named.
 fn summary_form(alloc: Global, values: &ArgMatches) -> Result<SummaryForm, WordsFault>
-    ensures named { IfOk result (IsSummaryFormOf (rows_of (found_of values.now))) }
-    ensures none { IfErr result (HasNoSummary (rows_of (found_of values.now))) }
+    ensures named { IfOk result (IsSummaryFormOf (rows_in values.now)) }
+    ensures none { IfErr result (HasNoSummary (rows_in values.now)) }
 {
     match value_of(values, "as") {
         None | Some("text") => Ok(SummaryForm::Text),
         Some("csv") => Ok(SummaryForm::Csv),
         Some("html") => Ok(SummaryForm::Html),
-        Some(word) => Err(WordsFault::NoSummaryForm(String::from_str(alloc, word)?)),
+        Some(word) => Err(WordsFault::NoValue(Wanted::SummaryForm, String::from_str(alloc, word)?)),
     }
 }
 
-fn copied_texts(alloc: Global, texts: &[&str]) -> Result<Vec<String>, AllocError>
-    ensures { IfOk result (λ copies. map string_bytes copies.items
-        ≡ map (λ text. text.now) texts.now) }
-{
-    let mut copies = Vec::new(alloc);
-    let mut left = texts;
-    while let [text, others @ ..] = left {
-        copies.push(String::from_str(alloc, text)?)?;
-        left = others;
-    }
-    Ok(copies)
-}
-
-fn values_of<'a, 'b>(values: &'b ArgMatches<'a>, id: &str) -> Option<&'b [&'a str]>
-    ensures { option_map (λ texts. map (λ text. text.now) texts.now) result
-        ≡ all_of id.now (rows_of (found_of values.now)) }
-{
-    values.get_strs(id)
-}
-
-/// Copies of the values of an argument that may have several.
-fn copied_all(alloc: Global, values: &ArgMatches, id: &str) -> Result<Vec<String>, AllocError>
-    ensures { IfOk result (λ copies. map string_bytes copies.items
-        ≡ unwrap_or (all_of id.now (rows_of (found_of values.now))) []) }
-{
-    match values_of(values, id) {
-        Some(texts) => copied_texts(alloc, texts),
-        None => Ok(Vec::new(alloc)),
-    }
-}
-
-/// The values of `summary`.
 fn summary_order(alloc: Global, values: &ArgMatches) -> Result<BatchSummary, WordsFault>
-    ensures named { IfOk result (IsSummaryOf (rows_of (found_of values.now))) }
-    ensures none { IfErr result (HasNoSummary (rows_of (found_of values.now))) }
+    ensures named { IfOk result (IsSummaryOf (rows_in values.now)) }
+    ensures none { IfErr result (HasNoSummary (rows_in values.now)) }
 {
     Ok(BatchSummary {
         form: summary_form(alloc, values)?,
-        setup: copied_maybe(alloc, values, "setup")?,
-        limits: copied_maybe(alloc, values, "limits")?,
-        seal_key: copied_maybe(alloc, values, "seal-key")?,
-        program: copied_or_input(alloc, values, "program")?,
-        records: copied_all(alloc, values, "RECORD")?,
+        setup: maybe(alloc, values, "setup")?,
+        limits: maybe(alloc, values, "limits")?,
+        seal_key: maybe(alloc, values, "seal-key")?,
+        program: or_input(alloc, values, "program")?,
+        records: all_values(alloc, values, "RECORD")?,
     })
 }
 
 /// The order of one of the last ten subcommands, with its values.
 fn later_order(alloc: Global, name: &str, values: &ArgMatches) -> Result<Order, WordsFault>
-    requires { IsLaterAskable (name.now, rows_of (found_of values.now)) }
-    ensures named { IfOk result (IsOrderOf (Some (name.now, rows_of (found_of values.now)))) }
+    requires { IsLaterAskable (name.now, rows_in values.now) }
+    ensures named { IfOk result (IsOrderOf (Some (name.now, rows_in values.now))) }
     ensures ready { IfOk result IsReady }
-    ensures none { IfErr result (IsRefusedOf (name.now, rows_of (found_of values.now))) }
+    ensures none { IfErr result (IsRefusedOf (name.now, rows_in values.now)) }
 {
     match name {
         "serve" => Ok(Order::Serve(serve_order(alloc, values)?)),
         "run" => Ok(Order::Run(run_order(alloc, values)?)),
         "explain" => Ok(Order::Explain(explain_order(alloc, values)?)),
-        "export" => export_order(alloc, values),
+        "export" => Ok(Order::Export(export_order(alloc, values)?)),
         "review" => Ok(Order::Review(review_order(alloc, values)?)),
         "ledger" => Ok(Order::Ledger(ledger_order(alloc, values)?)),
         "judge" => Ok(Order::Judge(judge_order(alloc, values)?)),

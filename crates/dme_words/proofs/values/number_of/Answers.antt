@@ -1,7 +1,7 @@
 use Rattle.dme_words.proofs.Names.{◌∙◌, arith, ExplainsUnsignedError, found_of, HasUnsignedDigitsIfOk, IsNumber, IsSomeAnd, List, none-some}
 use Rattle.dme_words.proofs.Names.{one_text-rows, Option, ParsesUnsigned, same_Some, subst, sym, without_minus, ℕ}
 use Rattle.dme_words.proofs.NumberLemmas.{number_reads}
-use Rattle.dme_words.proofs.words.number_of.Goals as goal
+use Rattle.dme_words.proofs.values.number_of.Goals as goal
 
 pub unreachable-requires : goal.unreachable-requires
 unreachable-requires c =
