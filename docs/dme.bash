@@ -34,7 +34,7 @@ _dme()
         report) options="--record --setup --limits --seal-key --explain" ;;
         summary) options="--as --setup --limits --seal-key --program" ;;
         review) options="--as --setup" ;;
-        lower) options="--setup --no-clearing --compensated --skip-manual --stored-frames --explain" ;;
+        lower) options="--setup --no-clearing --compensated --skip-manual --stored-frames --even-touches --explain" ;;
         ledger) options="--up --down --connection" ;;
         judge) options="--up --down" ;;
         watch) options="--listen --host --port --told --record-bytes --connections --endless --trace --log --timeout" ;;

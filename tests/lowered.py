@@ -1,9 +1,9 @@
 """Programs with variables, branches, selections, loops, jumps and macros, made at random and lowered.
 
 Each is carried out here, too, by a second reading: of the tree that its text is written from, with exact fractions, and with power series for
-the functions. The moves, in Cartesian coordinates, their lines, their order and where each decision leads have to be those of `dme lower`; or
-the line of the first statement that cannot be carried out that of its refusal. Some of the programs are flat already. What is lowered is
-lowered again, and stays.
+the functions. The moves, in Cartesian coordinates, the touches that bores are given, their lines, their order and where each decision leads
+have to be those of `dme lower`; or the line of the first statement that cannot be carried out that of its refusal. Some of the programs are
+flat already. What is lowered is lowered again, and stays.
 
 `run` calls this with a few programs; by itself: tests/lowered.py [COUNT], 3000 by default.
 """
@@ -218,6 +218,28 @@ class Made:
 
         return carry_out
 
+    def bore(self):
+        """A block that is given its touches, but for a circle of two."""
+        plane, count = self.random.choice(list(PLANES)[:3]), self.random.choice((2, 3, 3, 4, 4, 5, 7, 12))
+        centre = [fractions.Fraction(self.random.randint(-400, 400), 8) for _ in range(3)]
+        diameter, axis = fractions.Fraction(self.random.randint(1, 200), 4), ["0", "0", "0"]
+        axis[PLANES[plane][2]] = self.random.choice(("1", "-1"))
+        self.add(f"F(B)=FEAT/CIRCLE,INNER,CART,{','.join(str(float(it)) for it in centre)},{','.join(axis)},{float(diameter)}")
+        first = self.add(f"MEAS/CIRCLE,F(B),{count}")
+        last = self.add("ENDMES")
+
+        def carry_out(flow):
+            if count == 2:
+                raise Refused(last)
+            flow.out.append(f"MEAS/CIRCLE,F(B),{count} $$ line {first}")
+            for it in range(count):
+                flow.move(last, centre)
+                flow.touch_outwards(last, centre, diameter / 2, turned(fractions.Fraction(360 * it, count), PI / 180), PLANES[plane])
+            flow.out.append(f"ENDMES $$ line {last}")
+            flow.place = None
+
+        return carry_out
+
     def plane(self):
         name = self.random.choices(list(PLANES), (4, 4, 4, 1))[0]
         self.add(f"WKPLAN/{name}")
@@ -372,7 +394,7 @@ class Made:
         return carry_out
 
     def part(self, depth, targets):
-        kinds = ["move"] * 6 + ["touch"] * 3 + ["assignment"] * 3 + ["plane", "unit"]
+        kinds = ["move"] * 6 + ["touch"] * 3 + ["assignment"] * 3 + ["bore", "plane", "unit"]
         kinds += 3 * ((["branch", "selection", "loop", "jump"] if depth else []) + ["call"] * bool(self.called))
         kind = self.random.choice(kinds)
         if kind in ("branch", "selection", "loop"):
@@ -409,6 +431,13 @@ class Flow:
     def move(self, line, values):
         self.out.append(f"GOTO/CART,{','.join(map(written, self.micrometres(line, values)))} $$ line {line}")
         self.place = values
+
+    def touch_outwards(self, line, centre, radius, turn, plane):
+        """A touch from the centre: the surface looks back to it."""
+        way = [value for _, value in sorted(zip(plane, (wave(turn, 0), wave(turn, 1), fractions.Fraction(0))))]
+        place = ",".join(map(written, self.micrometres(line, [at + rounded(radius * it, 6) for at, it in zip(centre, way)])))
+        direction = ",".join(written(int(rounded(-it, 6) * 10**6), 6) for it in way)
+        self.out.append(f"PTMEAS/CART,{place},{direction} $$ line {line}")
 
     def decimals(self, line, texts):
         """Values of coordinates: one that is not whole is written with six decimals."""
@@ -473,8 +502,9 @@ class Flow:
                 at = to[0]
 
 
-def written(micrometres):
-    return f"{'-' if micrometres < 0 else ''}{abs(micrometres) // 1000}.{abs(micrometres) % 1000:03}"
+def written(units, places=3):
+    """Units of the last place, as a decimal."""
+    return f"{'-' if units < 0 else ''}{abs(units) // 10**places}.{abs(units) % 10**places:0{places}}"
 
 
 def made(seed, again=0):
@@ -517,7 +547,7 @@ def flat_move(program):
 
 
 def lowered(text):
-    it = subprocess.run([str(PROGRAM), "lower"], input=text, capture_output=True, text=True, check=False)
+    it = subprocess.run([str(PROGRAM), "lower", "--even-touches"], input=text, capture_output=True, text=True, check=False)
     return it.returncode, it.stdout, it.stderr
 
 

@@ -148,6 +148,7 @@ fn lower(rt: HostRuntime, order: Lower) -> Result<u8, AllocError> {
         compensated: order.compensated,
         skip_manual: order.skip_manual,
         stored_frames: order.stored_frames,
+        even_touches: order.even_touches,
     };
     let order = order.subject;
     let (name, setup_name) = (order.program.clone()?, order.setup.clone()?);

@@ -113,10 +113,10 @@ watch_line = line_of (codes "watch") (needed_number_rule (codes "listen") 65535 
     ∷ text_rule (codes "record-bytes") ∷ connections_rule (codes "4000000000") ∷ flag_rule (codes "endless") ∷ flag_rule (codes "trace") ∷ text_rule (codes "log")
     ∷ text_rule (codes "timeout") ∷ [])
 
--- `lower [--setup FILE] [--no-clearing] [--compensated] [--skip-manual] [--stored-frames] [--explain] [PROGRAM]`
+-- `lower [--setup FILE] [--no-clearing] [--compensated] [--skip-manual] [--stored-frames] [--even-touches] [--explain] [PROGRAM]`
 abbrev pub lower_line : App
 lower_line = line_of (codes "lower") (text_rule (codes "setup") ∷ flag_rule (codes "no-clearing") ∷ flag_rule (codes "compensated")
-    ∷ flag_rule (codes "skip-manual") ∷ flag_rule (codes "stored-frames") ∷ flag_rule (codes "explain")
+    ∷ flag_rule (codes "skip-manual") ∷ flag_rule (codes "stored-frames") ∷ flag_rule (codes "even-touches") ∷ flag_rule (codes "explain")
     ∷ program_rule ∷ [])
 
 -- `report --record FILE [--setup FILE] [--limits FILE] [--seal-key FILE] [--explain] [PROGRAM]`

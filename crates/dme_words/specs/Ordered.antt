@@ -303,7 +303,7 @@ abbrev pub IsLowerOf : List Row → Lower → Type 0
 IsLowerOf rows o =
     IsFlagOf (codes "no-clearing") rows o.no_clearing × IsFlagOf (codes "compensated") rows o.compensated
     × IsFlagOf (codes "skip-manual") rows o.skip_manual × IsFlagOf (codes "stored-frames") rows o.stored_frames
-    × IsSubjectOf rows o.subject
+    × IsFlagOf (codes "even-touches") rows o.even_touches × IsSubjectOf rows o.subject
 
 -- the page of the named record, under the named limits, if they are named
 abbrev pub IsReportOf : List Row → PartReport → Type 0

@@ -281,6 +281,8 @@ pub struct Lower {
     pub skip_manual: bool,
     /// Whether alignments select the stored frames of their names.
     pub stored_frames: bool,
+    /// Whether inner circles without touches are given even ones.
+    pub even_touches: bool,
     /// The program.
     pub subject: Subject,
 }

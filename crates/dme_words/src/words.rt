@@ -541,6 +541,7 @@ fn lower_order(alloc: Global, values: &ArgMatches) -> Result<Lower, AllocError>
         compensated: flag_of(values, "compensated"),
         skip_manual: flag_of(values, "skip-manual"),
         stored_frames: flag_of(values, "stored-frames"),
+        even_touches: flag_of(values, "even-touches"),
         subject: subject_of(alloc, values)?,
     })
 }

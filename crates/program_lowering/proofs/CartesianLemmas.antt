@@ -8,14 +8,12 @@ use Rattle.dmis_program.specs.Parameters.{is_other_coordinates}
 use Rattle.program_flow.specs.declared.faults.ValueFault.{ValueFault}
 use Rattle.program_lowering.specs.Carried.{GivesLine, line_if, line_with}
 use Rattle.program_lowering.specs.Cartesian.{cartesian, cartesian_params, made_cartesian}
+use Rattle.program_lowering.specs.EvenTouches.{moving}
 use Rattle.program_lowering.specs.Valued.{with_params}
 use Rattle.program_lowering.specs.declared.cartesian.Reference.{Reference}
 use Rattle.program_lowering.proofs.ValuedLemmas.{GoodWord, among_all, read_is}
 
-abbrev moving : List (List ℕ)
-moving = codes "GOTO" ∷ codes "PTMEAS" ∷ []
-
-moving_good : (word : List ℕ) → is_among word moving ≡ true → GoodWord word
+pub moving_good : (word : List ℕ) → is_among word moving ≡ true → GoodWord word
 moving_good word e = among_all GoodWord word moving
     (record { solid = refl; some = omega arith; short = omega arith }, (record { solid = refl; some = omega arith; short = omega arith }, tt)) e
 

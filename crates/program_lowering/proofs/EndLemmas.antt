@@ -1,8 +1,8 @@
 -- What the code gives at each end of a text.
-use Rattle.program_lowering.proofs.Names.{[], ◌∙◌, ◌∷◌, ◌≡◌, ap, AreLines, Carried, Choices, ended_lines, Err, false, fault_at, flat_lines}
+use Rattle.program_lowering.proofs.Names.{[], ◌∙◌, ◌≡◌, ap, AreLines, Carried, Choices, ended_lines, Err, false, fault_at, flat_lines}
 use Rattle.program_lowering.proofs.Names.{GivesLines, GivesStep, kept, length, lines, List, lowered_meaning, meaning_with, meant}
 use Rattle.program_lowering.proofs.Names.{notes_from, nothing_carried, Ok, Option, Point, refl, Refusal, refused_at, Result, Statement}
-use Rattle.program_lowering.proofs.Names.{Step, step, sym, text_reading, TextFault, true, ℕ}
+use Rattle.program_lowering.proofs.Names.{Step, sym, text_reading, TextFault, true, ℕ}
 use Rattle.dmis_program.specs.Meaning.{ended, meaning_of}
 use Rattle.dmis_program.specs.declared.faults.ProgramFault.{ProgramFault}
 use Rattle.dmis_program.specs.declared.faults.ProgramFault.TheVariants as program
@@ -15,13 +15,14 @@ use Rattle.program_lowering.proofs.Runs.{Written, run, steps_up_to}
 use Rattle.program_lowering.specs.declared.lowering.Lowered.{Lowered}
 use Rattle.program_lowering.specs.Inches.{all_stated}
 use Rattle.program_lowering.proofs.Names.{◌++◌}
-use Rattle.program_lowering.specs.Carried.{frames_closed}
-use Rattle.program_lowering.specs.Lowering.{valued_statements}
+use Rattle.program_lowering.specs.Carried.{all_steps, frames_closed}
+use Rattle.program_lowering.proofs.EvenLemmas.{AllOn, run_through}
+use Rattle.program_lowering.specs.Lowering.{prepared}
 use Rattle.program_lowering.specs.StoredFrames.{frame_notes, if_stored}
 
 -- all of a text
 abbrev pub run_of : List (List ℕ × Point) → Choices → List ℕ → Result Written (Refusal × ℕ)
-run_of frames choices text = run frames choices (text_reading text).fault (length (lines text)) (valued_statements text) nothing_carried
+run_of frames choices text = run frames choices (text_reading text).fault (length (lines text)) (prepared choices text) nothing_carried
 
 record HasTexts (r : Result (List Step) (Refusal × ℕ)) (text notes about : List ℕ) (w : Written) : Type 0 where
   steps : List Step
@@ -52,7 +53,7 @@ pub written_of : (frames : List (List ℕ × Point)) (choices : Choices) (text :
     → AreLines frames choices text w.text (w.notes ++ if_stored choices w.frames)
 unfolding meaning_of
 written_of frames choices text w h =
-    let statements = valued_statements text in
+    let statements = prepared choices text in
     let t = has_texts (steps_up_to frames (text_reading text).fault (length (lines text)) [] (all_stated [] (kept choices statements)))
     (ended_lines (flat_lines (all_stated [] (kept choices statements)))) (notes_from choices [] statements)
     (frame_notes (all_stated [] (kept choices statements))) w
@@ -68,41 +69,41 @@ pub refused_of : (frames : List (List ℕ × Point)) (choices : Choices) (text :
     → lowered_meaning frames choices text ≡ Err e
 unfolding meaning_of
 refused_of frames choices text e h =
-    let statements = valued_statements text in
+    let statements = prepared choices text in
     has_refusal (steps_up_to frames (text_reading text).fault (length (lines text)) [] (all_stated [] (kept choices statements)))
     (ended_lines (flat_lines (all_stated [] (kept choices statements)))) (notes_from choices [] statements)
     (frame_notes (all_stated [] (kept choices statements))) e
     (sym (run_from_start frames choices (text_reading text).fault (length (lines text)) statements) ∙ h)
 
--- one statement more, by what the code gives at it
-pub goes_past : (frames : List (List ℕ × Point)) (choices : Choices) (fault : Option TextFault) (n : ℕ) (s : Statement) (all left : List Statement)
-    (c d : Carried) → all ≡ s ∷ left → step frames choices c s ≡ Ok (false, d)
+-- one statement more with what is given before it, by what the code gives at it
+pub goes_past : (frames : List (List ℕ × Point)) (choices : Choices) (fault : Option TextFault) (n line : ℕ) (xs all left : List Statement)
+    (c d : Carried) → all ≡ xs ++ left → AllOn line xs → all_steps frames choices c xs ≡ Ok (false, d)
     → run frames choices fault n left d ≡ run frames choices fault n all c
-goes_past frames choices fault n s all left c d split e = rw (split, e) refl
+goes_past frames choices fault n line xs all left c d split on e = rw (split, run_through frames choices fault n line xs left c on, e) refl
 
-pub closes_at : (frames : List (List ℕ × Point)) (choices : Choices) (fault : Option TextFault) (n : ℕ) (s : Statement) (all left : List Statement)
-    (c d : Carried) → all ≡ s ∷ left → step frames choices c s ≡ Ok (true, d)
+pub closes_at : (frames : List (List ℕ × Point)) (choices : Choices) (fault : Option TextFault) (n line : ℕ) (xs all left : List Statement)
+    (c d : Carried) → all ≡ xs ++ left → AllOn line xs → all_steps frames choices c xs ≡ Ok (true, d)
     → run frames choices fault n all c ≡ Ok (record { text = d.text; notes = d.notes; frames = frames_closed d.frames d.since })
-closes_at frames choices fault n s all left c d split e = rw (split, e) refl
+closes_at frames choices fault n line xs all left c d split on e = rw (split, run_through frames choices fault n line xs left c on, e) refl
 
-pub refused_at_statement : (frames : List (List ℕ × Point)) (choices : Choices) (fault : Option TextFault) (n : ℕ) (s : Statement)
-    (all left : List Statement) (c : Carried) (refusal : Refusal) → all ≡ s ∷ left → step frames choices c s ≡ Err refusal
-    → run frames choices fault n all c ≡ Err (refusal, s.line)
-refused_at_statement frames choices fault n s all left c refusal split e = rw (split, e) refl
+pub refused_at_statement : (frames : List (List ℕ × Point)) (choices : Choices) (fault : Option TextFault) (n line : ℕ) (xs all left : List Statement)
+    (c : Carried) (refusal : Refusal) → all ≡ xs ++ left → AllOn line xs → all_steps frames choices c xs ≡ Err refusal
+    → run frames choices fault n all c ≡ Err (refusal, line)
+refused_at_statement frames choices fault n line xs all left c refusal split on e =
+    rw (split, run_through frames choices fault n line xs left c on, e) refl
 
 pub ends_at : (frames : List (List ℕ × Point)) (choices : Choices) (fault : Option TextFault) (n : ℕ) (all : List Statement) (c : Carried)
     → all ≡ [] → run frames choices fault n all c ≡ Err (ended fault c.above.number n)
 ends_at frames choices fault n all c e = rw e refl
 
 -- what is answered where a statement is refused
-pub at_statement : (frames : List (List ℕ × Point)) (choices : Choices) (text : List ℕ) (refused : StatementFault) (s : Statement)
-    (fault : Option TextFault) (n : ℕ) (all left : List Statement) (c d : Carried) → all ≡ s ∷ left
-    → GivesStep (Err refused) d (step frames choices c s) → run frames choices fault n all c ≡ run_of frames choices text
-    → GivesLines frames choices text (Err (fault_at refused s.line))
-at_statement frames choices text (faults.Refused refusal) s fault n all left c d split given same =
-    refused_of frames choices text (refusal, s.line)
-    (sym same ∙ refused_at_statement frames choices fault n s all left c refusal split given)
-at_statement frames choices text faults.Memory s fault n all left c d split given same = tt
+pub at_statement : (frames : List (List ℕ × Point)) (choices : Choices) (text : List ℕ) (refused : StatementFault) (fault : Option TextFault) (n line : ℕ)
+    (xs all left : List Statement) (c d : Carried) → all ≡ xs ++ left → AllOn line xs → GivesStep (Err refused) d (all_steps frames choices c xs)
+    → run frames choices fault n all c ≡ run_of frames choices text → GivesLines frames choices text (Err (fault_at refused line))
+at_statement frames choices text (faults.Refused refusal) fault n line xs all left c d split on given same =
+    refused_of frames choices text (refusal, line)
+    (sym same ∙ refused_at_statement frames choices fault n line xs all left c refusal split on given)
+at_statement frames choices text faults.Memory fault n line xs all left c d split on given same = tt
 
 -- where nothing is left
 pub at_end : (frames : List (List ℕ × Point)) (choices : Choices) (text : List ℕ) (all : List Statement) (c : Carried) → all ≡ []

@@ -44,6 +44,8 @@ use Rattle.program_lowering.proofs.Names.{subst, ◌+◌, ◌≤◌, and_parts, 
 use Rattle.program_lowering.specs.Cartesian.{all_cartesian, cartesian, no_reference, reference_after}
 use Rattle.program_lowering.specs.declared.cartesian.Reference.{Reference}
 use Rattle.program_lowering.proofs.CartesianLemmas.{accepted_already}
+use Rattle.program_lowering.proofs.EvenLemmas.{accepted_as_it_is}
+use Rattle.program_lowering.specs.EvenTouches.{all_touched, touched_from}
 use Rattle.program_lowering.specs.Valued.{all_valued, assigned_params, commanding, has_variables, held_or_none, valued, valued_params, with_params}
 
 -- the steps of some statements, of which one line can hold each text for the operator up to the statement that closes the program
@@ -344,6 +346,25 @@ cartesian_alike frames fault lines ref aboves (s ∷ below) steps h =
       behind = λ more g. cartesian_alike frames fault lines after (s ∷ aboves) below more g;
     }) h
 
+-- and each block has its touches
+touched_alike : (frames : List (List ℕ × Point)) (fault : Option TextFault) (lines : ℕ) (aboves below : List Statement)
+    (steps : List Step) → Alike frames fault lines aboves below steps → Alike frames fault lines aboves (all_touched aboves below) steps
+touched_alike frames fault lines aboves [] steps h = h
+touched_alike frames fault lines aboves (s ∷ below) steps h =
+    alike_next frames fault lines aboves s below (all_touched aboves (s ∷ below)) steps (λ m e. record {
+      other = all_touched (s ∷ aboves) below;
+      is = ap (λ (given : List Statement). given ++ (s ∷ all_touched (s ∷ aboves) below)) (accepted_as_it_is frames aboves s m e);
+      behind = λ more g. touched_alike frames fault lines (s ∷ aboves) below more g;
+    }) h
+
+chosen_alike : (frames : List (List ℕ × Point)) (choices : Choices) (fault : Option TextFault) (lines : ℕ) (below : List Statement)
+    (steps : List Step) → Alike frames fault lines [] below steps → Alike frames fault lines [] (touched_from choices [] below) steps
+chosen_alike frames choices fault lines below steps h = go choices.even_touches
+  where
+    go : (b : Bool) → Alike frames fault lines [] (cond b (all_touched [] below) below) steps
+    go true = touched_alike frames fault lines [] below steps h
+    go false = h
+
 -- nor has it a word of control flow, so each statement comes out in its place
 label_unknown : (word : List ℕ) → is_label word ≡ true → is_unknown (keyword_of word) ≡ true
 unfolding keyword_of
@@ -470,15 +491,16 @@ flow_alike frames fault lines aboves above text all n place (s ∷ below) steps 
 
 pub valued_source : (frames : List (List ℕ × Point)) (choices : Choices) (fault : Option TextFault) (lines : ℕ) (statements : List Statement)
     (m : Meaning) → AllByRecursion (λ (s : Statement). text_refusal s ≡ None) statements → meant (steps_from frames fault lines [] statements) ≡ Ok m
-    → meant (steps_up_to frames fault lines [] (all_stated [] (kept choices (all_cartesian no_reference (all_valued [] (carried_out statements)))))) ≡ Ok m
+    → meant (steps_up_to frames fault lines [] (all_stated [] (kept choices (touched_from choices [] (all_cartesian no_reference (all_valued [] (carried_out statements))))))) ≡ Ok m
 valued_source frames choices fault lines statements m fit h =
     let found = meant_steps m (steps_from frames fault lines [] statements) h in
     let source : Alike frames fault lines [] statements found.0 = record { steps_are = found.1; fits = all_fit_to frames [] statements fit } in
     let flows = flow_alike frames fault lines [] [] statements (outside statements) 1000000 0 statements found.0 refl (omega arith) source in
     let values = valued_alike frames fault lines [] [] (carried_out statements) found.0 refl flows in
-    let all = all_cartesian no_reference (all_valued [] (carried_out statements)) in
+    let all = touched_from choices [] (all_cartesian no_reference (all_valued [] (carried_out statements))) in
     let places = cartesian_alike frames fault lines no_reference [] (all_valued [] (carried_out statements)) found.0 values in
-    let counts = all_kept frames choices fault lines [] all found.0 refl places in
+    let touches = chosen_alike frames choices fault lines (all_cartesian no_reference (all_valued [] (carried_out statements))) found.0 places in
+    let counts = all_kept frames choices fault lines [] all found.0 refl touches in
     ap meant (up_to_end frames fault lines [] (all_stated [] (kept choices all)) found.0
     (stated_alike frames fault lines [] [] (kept choices all) found.0 refl counts))
     ∙ ap (λ (all : Meaning). Ok all) (sym found.2)

@@ -11,14 +11,16 @@ use Rattle.program_lowering.proofs.LineCounts.{lines_few}
 use Rattle.program_lowering.proofs.ReadBackLemmas.{HasShortLine, acts_back, reads_back}
 use Rattle.program_lowering.proofs.RunLemmas.{ended_append}
 use Rattle.program_lowering.specs.Inches.{all_stated}
+use Rattle.program_lowering.proofs.EvenLemmas.{AllOn, before_on}
 use Rattle.program_lowering.proofs.ValuedLemmas.{same_place}
+use Rattle.program_lowering.specs.EvenTouches.{all_touched, touched_from, touches_before}
 use Rattle.program_lowering.specs.Cartesian.{all_cartesian, cartesian, made_cartesian, no_reference, reference_after}
 use Rattle.program_lowering.specs.declared.cartesian.Reference.{Reference}
 use Rattle.program_flow.specs.Calls.{carried_out}
 use Rattle.program_flow.specs.Flow.{carried}
 use Rattle.program_flow.proofs.Comes.{all_carried_out}
 use Rattle.program_lowering.specs.Valued.{all_valued, new_params}
-use Rattle.program_lowering.specs.Lowering.{counted_at, kept_above, valued_statements}
+use Rattle.program_lowering.specs.Lowering.{counted_at, kept_above, prepared}
 use Rattle.program_lowering.specs.StoredFrames.{is_used}
 use Rattle.program_lowering.proofs.FrameLemmas.{same_line}
 use Rattle.program_lowering.proofs.Names.{subst}
@@ -58,36 +60,56 @@ cartesian_short ref (s ∷ statements) h = (
   cartesian_short (reference_after ref (cartesian ref s)) statements h.1,
 )
 
+-- and so are those of touches that are given
+on_short : (line : ℕ) (xs ys : List Statement) → line < 2 ^ 64 → AllOn line xs → AllByRecursion HasShortLine ys → AllByRecursion HasShortLine (xs ++ ys)
+on_short line [] ys few on h = h
+on_short line (x ∷ xs) ys few on h = (subst (λ (n : ℕ). n < 2 ^ 64) (sym on.0) few, on_short line xs ys few on.1 h)
+
+touched_short : (above statements : List Statement) → AllByRecursion HasShortLine statements
+    → AllByRecursion HasShortLine (all_touched above statements)
+touched_short above [] h = tt
+touched_short above (s ∷ statements) h = on_short s.line (touches_before above s) (s ∷ all_touched (s ∷ above) statements) h.0 (before_on above s)
+    (h.0, touched_short (s ∷ above) statements h.1)
+
+chosen_short : (choices : Choices) (statements : List Statement) → AllByRecursion HasShortLine statements
+    → AllByRecursion HasShortLine (touched_from choices [] statements)
+chosen_short choices statements h = go choices.even_touches
+  where
+    go : (b : Bool) → AllByRecursion HasShortLine (cond b (all_touched [] statements) statements)
+    go true = touched_short [] statements h
+    go false = h
+
 -- and so are those of what comes out
 flow_short : (statements : List Statement) → AllByRecursion HasShortLine statements → AllByRecursion HasShortLine (carried_out statements)
 flow_short statements h = all_carried_out HasShortLine (λ s a short is line. subst (λ (n : ℕ). n < 2 ^ 64) (sym line) short)
     (λ s a short line. subst (λ (n : ℕ). n < 2 ^ 64) (sym line) short) statements h
 
 text_short : (choices : Choices) (text : List ℕ) → length text < 2 ^ 64
-    → AllByRecursion HasShortLine (all_stated [] (kept choices (valued_statements text)))
+    → AllByRecursion HasShortLine (all_stated [] (kept choices (prepared choices text)))
 text_short choices text few =
     let short = numbers_short 1 (1 + length (lines text)) (text_reading text).statements (omega (arith, few, lines_few text)) (numbered_is 1 (lines text)).0 in
     let valued = valued_short [] (carried_out (text_reading text).statements) (flow_short (text_reading text).statements short) in
-    stated_short [] (kept choices (valued_statements text)) (kept_short choices [] (valued_statements text)
-    (cartesian_short no_reference (all_valued [] (carried_out (text_reading text).statements)) valued))
+    let all = all_cartesian no_reference (all_valued [] (carried_out (text_reading text).statements)) in
+    stated_short [] (kept choices (prepared choices text)) (kept_short choices [] (prepared choices text)
+    (chosen_short choices all (cartesian_short no_reference (all_valued [] (carried_out (text_reading text).statements)) valued)))
 
 pub programs_read_back : (frames : List (List ℕ × Point)) (choices : Choices) (text : List ℕ) (heads : List (List ℕ)) (m : Meaning)
     → length text < 2 ^ 64 → AllByRecursion IsComment heads → lowered_meaning frames choices text ≡ Ok m
     → program_of frames (ended_lines heads ++ flat_program choices text) ≡ Ok m
 unfolding meaning_of
 programs_read_back frames choices text heads m few comments h =
-    ap (λ (t : List ℕ). program_of frames t) (sym (ended_append heads (flat_lines (all_stated [] (kept choices (valued_statements text))))))
-    ∙ reads_back frames (text_reading text).fault (length (lines text)) (all_stated [] (kept choices (valued_statements text))) heads m
+    ap (λ (t : List ℕ). program_of frames t) (sym (ended_append heads (flat_lines (all_stated [] (kept choices (prepared choices text))))))
+    ∙ reads_back frames (text_reading text).fault (length (lines text)) (all_stated [] (kept choices (prepared choices text))) heads m
     (text_short choices text few) comments h
 
 pub texts_stay : (frames : List (List ℕ × Point)) (choices : Choices) (text : List ℕ) (heads : List (List ℕ)) (m : Meaning)
     → length text < 2 ^ 64 → AllByRecursion IsComment heads → lowered_meaning frames choices text ≡ Ok m
     → acts_of frames (text_reading (ended_lines heads ++ flat_program choices text)).statements
-    ≡ acts_of frames (all_stated [] (kept choices (valued_statements text)))
+    ≡ acts_of frames (all_stated [] (kept choices (prepared choices text)))
 unfolding meaning_of
 texts_stay frames choices text heads m few comments h =
-    ap (λ (t : List ℕ). acts_of frames (text_reading t).statements) (sym (ended_append heads (flat_lines (all_stated [] (kept choices (valued_statements text))))))
-    ∙ acts_back frames (text_reading text).fault (length (lines text)) (all_stated [] (kept choices (valued_statements text))) heads m
+    ap (λ (t : List ℕ). acts_of frames (text_reading t).statements) (sym (ended_append heads (flat_lines (all_stated [] (kept choices (prepared choices text))))))
+    ∙ acts_back frames (text_reading text).fault (length (lines text)) (all_stated [] (kept choices (prepared choices text))) heads m
     (text_short choices text few) comments h
 
 pub sources_keep : (frames : List (List ℕ × Point)) (choices : Choices) (text : List ℕ) (m : Meaning) → TextsFit text → program_of frames text ≡ Ok m

@@ -27,4 +27,5 @@ pub mod ValuedLemmas
 pub mod CartesianLemmas
 pub mod ValueBounds
 pub mod PolarLemmas
+pub mod EvenLemmas
 pub mod ExampleLemmas

@@ -6,7 +6,7 @@ use Rattle.program_lowering.proofs.Names.{Option, options_text, Reason, refl, se
 use Rattle.program_lowering.proofs.Names.{StatementMeaning, sym, text_for, true, with_commas, ℕ}
 use Rattle.sha2.specs.Sha256.{sha256}
 use Rattle.program_lowering.specs.Lowering.{ended}
-use Rattle.program_lowering.specs.Reasons.{detail, reason_text}
+use Rattle.program_lowering.specs.Reasons.{detail, joint, reason_text}
 
 parts : (line : ℕ) (old : List ℕ) (o : Option Flat)
     → ((old ++ text_for o) ++ line_end line (is_some o)) ≡ (old ++ ended_lines (line_for line o))
@@ -25,7 +25,7 @@ line_is line o old middle new written e h g = g ∙ rw (e, h) (parts line old o)
 
 -- a note
 pub note_is : (s : Statement) (reason : Reason) (old start mark shown told new : List ℕ) → start ≡ old ++ note_start s
-    → mark ≡ start ++ codes " is left out: " → shown ≡ mark ++ reason_text reason → told ≡ shown ++ detail reason s.params
+    → mark ≡ start ++ joint reason → shown ≡ mark ++ reason_text reason → told ≡ shown ++ detail reason s.params
     → new ≡ told ++ 10 ∷ [] → new ≡ old ++ note_for s (Some reason)
 note_is s reason old start mark shown told new a b c d e =
     rw (
@@ -34,14 +34,14 @@ note_is s reason old start mark shown told new a b c d e =
       c,
       b,
       a,
-      append_assoc old (note_start s) (codes " is left out: "),
-      append_assoc old (note_start s ++ codes " is left out: ") (reason_text reason),
-      append_assoc old ((note_start s ++ codes " is left out: ") ++ reason_text reason) (detail reason s.params),
-      append_assoc old (((note_start s ++ codes " is left out: ") ++ reason_text reason) ++ detail reason s.params) (10 ∷ []),
-      append_assoc (note_start s) (codes " is left out: ") (reason_text reason),
-      append_assoc (note_start s) (codes " is left out: " ++ reason_text reason) (detail reason s.params),
-      append_assoc (codes " is left out: ") (reason_text reason) (detail reason s.params),
-      append_assoc (note_start s) (codes " is left out: " ++ (reason_text reason ++ detail reason s.params)) (10 ∷ []),
+      append_assoc old (note_start s) (joint reason),
+      append_assoc old (note_start s ++ joint reason) (reason_text reason),
+      append_assoc old ((note_start s ++ joint reason) ++ reason_text reason) (detail reason s.params),
+      append_assoc old (((note_start s ++ joint reason) ++ reason_text reason) ++ detail reason s.params) (10 ∷ []),
+      append_assoc (note_start s) (joint reason) (reason_text reason),
+      append_assoc (note_start s) (joint reason ++ reason_text reason) (detail reason s.params),
+      append_assoc (joint reason) (reason_text reason) (detail reason s.params),
+      append_assoc (note_start s) (joint reason ++ (reason_text reason ++ detail reason s.params)) (10 ∷ []),
     )
     refl
 

@@ -1,5 +1,5 @@
 -- What the code carries from statement to statement: no public clause cites it. specs/Lowering.antt looks back instead.
-use Rattle.std.specs.Prelude.{◌≡◌, ℕ, ◌+◌, ◌==◌, nat_le, Bool, true, false, List, [], ◌∷◌, ◌++◌, Option, Some, None, OnOk, IfOk, IfErr, Result, Ok, Err, if◌then◌else◌}
+use Rattle.std.specs.Prelude.{◌≡◌, ℕ, ◌+◌, ◌==◌, nat_le, Bool, true, false, List, [], ◌∷◌, ◌++◌, Option, Some, None, OnOk, IfOk, IfErr, Result, Ok, Err, bytes_eq, if◌then◌else◌}
 use Rattle.dmis_text.specs.declared.elements.Statement.{Statement}
 use Rattle.fixed_um.specs.declared.frames.Frame.TheVariants.{Machine}
 use Rattle.fixed_um.specs.declared.lengths.Point.{Point}
@@ -25,9 +25,14 @@ use Rattle.program_flow.specs.declared.faults.ValueFault.{ValueFault}
 use Rattle.program_flow.specs.declared.faults.ValueFault.TheVariants as value
 use Rattle.program_lowering.specs.Flats.{flat, flat_line}
 use Rattle.program_flow.specs.Flow.{carried}
-use Rattle.program_lowering.specs.Cartesian.{cartesian, reference_after}
+use Rattle.program_lowering.specs.Cartesian.{Triple, cartesian, reference_after}
 use Rattle.program_lowering.specs.Valued.{has_variables, held_or_none, valued}
 use Rattle.program_lowering.specs.declared.cartesian.Reference.{Reference}
+use Rattle.program_lowering.specs.EvenTouches.{Filling, bore_said, ends_block, feature_name, filling_of, from_centre, given_by, is_units, waiting_after}
+use Rattle.program_lowering.specs.declared.even.Bore.{Bore}
+use Rattle.program_lowering.specs.declared.even.Feature.{Feature}
+use Rattle.program_lowering.specs.declared.even.Touch.{Touch}
+use Rattle.program_lowering.specs.declared.even.Wanted.{Wanted}
 use Rattle.program_lowering.specs.Manual.{manual_after}
 use Rattle.program_lowering.specs.Inches.{inches_after, said_stated}
 use Rattle.program_lowering.specs.OperatorTexts.{flat_meant, is_plain, marked, text_refusal}
@@ -216,16 +221,77 @@ abbrev pub GivesLine : Option (List ℕ) → Statement → Statement → Type 0
 GivesLine None s v = v ≡ s
 GivesLine (Some line) s v = IsRead line (record v { line = 1 }) × (v.line ≡ s.line)
 
--- what a call gives and leaves by a step, unless memory ran out: for a statement with Cartesian coordinates, to which the next ones refer;
--- and for one that has its values before, and is carried out
-abbrev pub TakesCartesian : Result Bool StatementFault → Carried → Reference → Reference → Statement → (Statement → Result (Bool × Carried) Refusal) → Type 0
-TakesCartesian result new before after s due =
-    GivesStep result new (due (cartesian before s)) × OnOk result (after ≡ reference_after before (cartesian before s))
+-- what is seen of the statements above for touches from the nominal; the features are in the order of the text
+pub record Seen : Type 0 where
+  pub waiting : Option Wanted
+  pub features : List Feature
+  pub manual : Bool
 
-abbrev pub TakesValued : Result Bool StatementFault → Carried → Reference → Reference → List Entry → Bool → List Statement → Statement
-    → (Statement → Result (Bool × Carried) Refusal) → Type 0
-TakesValued result new before after entries declared above s due =
-    TakesCartesian result new before after (valued above s) due × OnOk result (Knows (carried above s) entries declared)
+abbrev pub nothing_seen : Seen
+nothing_seen = record { waiting = None; features = []; manual = false }
+
+abbrev pub with_feature : List Feature → Option (List ℕ) → Option Bore → List Feature
+with_feature features None bore = features
+with_feature features (Some name) bore = features ++ record { name = name; bore = bore } ∷ []
+
+abbrev pub features_after : List Feature → Statement → List Feature
+features_after features s = if is_units (keyword_of s.word) then [] else with_feature features (feature_name s.label) (bore_said s)
+
+abbrev pub seen_after : Seen → Statement → Seen
+seen_after seen s = record {
+  waiting = waiting_after seen.waiting (keyword_of s.word) s;
+  features = features_after seen.features s;
+  manual = manual_after seen.manual s;
+}
+
+abbrev pub seen_by : Choices → Seen → Statement → Seen
+seen_by choices seen s = if choices.even_touches then seen_after seen s else seen
+
+-- the bore of a name by the last feature that has it
+abbrev pub latest : List ℕ → Option Bore → List Feature → Option Bore
+latest name found [] = found
+latest name found (f ∷ features) = latest name (if bytes_eq f.name name then f.bore else found) features
+
+abbrev pub bore_among : List Feature → List ℕ → Option Bore
+bore_among features name = latest name None features
+
+-- what is given before a statement
+abbrev pub filling_due : Seen → Statement → Option Filling
+filling_due seen s = if ends_block seen.manual s then filling_of seen.waiting (bore_among seen.features) else None
+
+abbrev pub touches_due : Choices → Seen → Statement → List Statement
+touches_due choices seen s = if choices.even_touches then given_by s.line (filling_due seen s) else []
+
+-- several steps, up to the one that closes the program
+abbrev pub unless_closed : Result (Bool × Carried) Refusal → (Carried → Result (Bool × Carried) Refusal) → Result (Bool × Carried) Refusal
+unless_closed (Err refusal) next = Err refusal
+unless_closed (Ok (true, c)) next = Ok (true, c)
+unless_closed (Ok (false, c)) next = next c
+
+abbrev pub all_steps : List (List ℕ × Point) → Choices → Carried → List Statement → Result (Bool × Carried) Refusal
+all_steps frames choices c [] = Ok (false, c)
+all_steps frames choices c (s ∷ statements) = unless_closed (step frames choices c s) (λ d. all_steps frames choices d statements)
+
+abbrev pub touch_steps : List (List ℕ × Point) → Choices → ℕ → Triple → Carried → List Touch → Result (Bool × Carried) Refusal
+touch_steps frames choices line centre c [] = Ok (false, c)
+touch_steps frames choices line centre c (t ∷ touches) =
+    unless_closed (all_steps frames choices c (from_centre line centre t)) (λ d. touch_steps frames choices line centre d touches)
+
+-- a statement after what is given before it
+abbrev pub touched_step : List (List ℕ × Point) → Choices → Seen → Carried → Statement → Result (Bool × Carried) Refusal
+touched_step frames choices seen c s = all_steps frames choices c (touches_due choices seen s ++ s ∷ [])
+
+-- what a call gives and leaves by a step, unless memory ran out: for a statement with Cartesian coordinates, to which the next ones refer,
+-- and of which touches from the nominal see something; and for one that has its values before, and is carried out
+abbrev pub TakesCartesian : Result Bool StatementFault → Carried → Reference → Reference → Seen → Statement
+    → (Statement → Result (Bool × Carried) Refusal) → (Statement → Seen) → Type 0
+TakesCartesian result new before after now s due seen = GivesStep result new (due (cartesian before s))
+    × (OnOk result (after ≡ reference_after before (cartesian before s)) × OnOk result (now ≡ seen (cartesian before s)))
+
+abbrev pub TakesValued : Result Bool StatementFault → Carried → Reference → Reference → Seen → List Entry → Bool → List Statement → Statement
+    → (Statement → Result (Bool × Carried) Refusal) → (Statement → Seen) → Type 0
+TakesValued result new before after now entries declared above s due seen =
+    TakesCartesian result new before after now (valued above s) due seen × OnOk result (Knows (carried above s) entries declared)
 
 -- the lines of the flat program of a text, and what was decided; or why there are none
 pub record AreLines (frames : List (List ℕ × Point)) (choices : Choices) (source text notes : List ℕ) : Type 0 where

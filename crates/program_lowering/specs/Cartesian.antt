@@ -1,7 +1,7 @@
 -- Polar and incremental coordinates (ISO 22093, GOTO and PTMEAS): the Cartesian ones that stand for them, to the nearest millionth. A polar angle
 -- is from the first axis of the working plane towards its second (X and Y, Y and Z, Z and X); the height is along the third. A move by a
 -- distance is from where a `GOTO` ends, if nothing between them moves, or changes tool, unit or frame (this profile).
-use Rattle.std.specs.Prelude.{ℕ, ◌*◌, ◌+◌, Bool, ◌&&◌, List, [], ◌∷◌, nat_le, unsigned_abs, codes, drop, Option, Some, None, is_none, Result, Ok, ℤ}
+use Rattle.std.specs.Prelude.{ℕ, ◌*◌, ◌+◌, Bool, true, false, not, ◌&&◌, ◌||◌, List, [], ◌∷◌, nat_le, unsigned_abs, codes, drop, Option, Some, None, is_none, Result, Ok, ℤ}
 use Rattle.std.specs.Prelude.{bytes_eq, option_map, if◌then◌else◌}
 use Rattle.std.specs.List.{list_any}
 use Rattle.std.specs.Result.{result_ok}
@@ -51,19 +51,24 @@ unit_named params = if list_any (λ p. bytes_eq p (codes "ANGDMS")) params then 
 
 -- the words that move nothing, and leave tool, unit and frame as they are
 abbrev pub still : List (List ℕ)
-still = codes "MEAS" ∷ codes "ENDMES" ∷ codes "FEAT" ∷ codes "TOL" ∷ codes "SNSDEF" ∷ codes "FILNAM" ∷ codes "FEDRAT" ∷ codes "ACLRAT" ∷ codes "SNSET"
+still = codes "MEAS" ∷ codes "FEAT" ∷ codes "TOL" ∷ codes "SNSDEF" ∷ codes "FILNAM" ∷ codes "FEDRAT" ∷ codes "ACLRAT" ∷ codes "SNSET"
     ∷ codes "FINPOS" ∷ codes "PRCOMP" ∷ codes "WKPLAN" ∷ codes "TEXT" ∷ codes "DISPLY" ∷ codes "OUTPUT" ∷ codes "ASSIGN" ∷ codes "DECL" ∷ codes "FLY"
     ∷ codes "RAPID" ∷ codes "IF" ∷ codes "SELECT" ∷ codes "JUMPTO" ∷ codes "CALL" ∷ []
 
 -- what coordinates refer to before all, and after a statement with Cartesian ones
 abbrev pub no_reference : Reference
-no_reference = record { plane = Some Xy; unit = Some Degrees; place = None }
+no_reference = record { plane = Some Xy; unit = Some Degrees; place = None; untouched = false }
+
+-- below a word the machine is where it was. A block without touches may be given some at its end
+abbrev pub stays : Reference → List ℕ → Bool
+stays ref word = is_among word still || (bytes_eq word (codes "ENDMES") && not ref.untouched)
 
 abbrev pub reference_after : Reference → Statement → Reference
 reference_after ref s = record {
   plane = if bytes_eq s.word (codes "WKPLAN") then plane_named s.params else ref.plane;
   unit = if bytes_eq s.word (codes "UNITS") then unit_named s.params else ref.unit;
-  place = if bytes_eq s.word (codes "GOTO") then numbers_in (without_cart s.params) else if is_among s.word still then ref.place else None;
+  place = if bytes_eq s.word (codes "GOTO") then numbers_in (without_cart s.params) else if stays ref s.word then ref.place else None;
+  untouched = if bytes_eq s.word (codes "MEAS") then true else if bytes_eq s.word (codes "PTMEAS") then false else ref.untouched;
 }
 
 -- the place of a radius, an angle and a height

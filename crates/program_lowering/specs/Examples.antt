@@ -1,18 +1,19 @@
 -- What the examples of this crate speak of.
-use Rattle.std.specs.Prelude.{ℕ, List, [], ◌∷◌, ◌++◌, codes, true, false, Option, None, Some, Result, Ok}
+use Rattle.std.specs.Prelude.{ℕ, List, [], ◌∷◌, ◌++◌, codes, decimal, true, false, Option, None, Some, Result, Ok}
 use Rattle.dmis_text.specs.declared.elements.Statement.{Statement}
 use Rattle.program_flow.specs.declared.faults.ValueFault.{ValueFault}
 use Rattle.program_lowering.specs.Cartesian.{no_reference, reference_after}
+use Rattle.program_lowering.specs.EvenTouches.{touches_before}
 use Rattle.program_lowering.specs.StoredFrames.{by_frame, is_used}
 use Rattle.program_lowering.specs.declared.cartesian.Reference.{Reference}
 use Rattle.program_lowering.specs.declared.words.Choices.{Choices}
 
 -- nothing is left out besides what measures and moves nothing; and all that may be
 abbrev pub plain_choices : Choices
-plain_choices = record { no_clearing = false; compensated = false; skip_manual = false; stored_frames = false }
+plain_choices = record { no_clearing = false; compensated = false; skip_manual = false; stored_frames = false; even_touches = false }
 
 abbrev pub all_choices : Choices
-all_choices = record { no_clearing = true; compensated = true; skip_manual = true; stored_frames = true }
+all_choices = record { no_clearing = true; compensated = true; skip_manual = true; stored_frames = true; even_touches = true }
 
 -- a statement without a label
 abbrev pub bare : List ℕ → List (List ℕ) → Statement
@@ -107,3 +108,51 @@ placed x y z = Some (Ok (codes "CART" ∷ x ∷ y ∷ z ∷ []))
 abbrev pub below : List Statement → Reference
 below [] = no_reference
 below (s ∷ above) = reference_after (below above) s
+
+-- a feature named A, a bore of a diameter of 50 with an axis, and a block for A; what is given before its end, and a touch from the centre
+abbrev pub feature_a : List (List ℕ) → Statement
+feature_a params = record { line = 1; label = Some (codes "F(A)"); word = codes "FEAT"; params = params }
+
+abbrev pub bore_a : List ℕ → List ℕ → List ℕ → Statement
+bore_a i j k = feature_a (codes "CIRCLE" ∷ codes "INNER" ∷ codes "CART" ∷ codes "0" ∷ codes "0" ∷ codes "-5" ∷ i ∷ j ∷ k ∷ codes "50" ∷ [])
+
+abbrev pub upright : Statement
+upright = bore_a (codes "0") (codes "0") (codes "1")
+
+abbrev pub block_a : List ℕ → List ℕ → Statement
+block_a kind count = bare (codes "MEAS") (kind ∷ codes "F(A)" ∷ count ∷ [])
+
+abbrev pub three_of_a : Statement
+three_of_a = block_a (codes "CIRCLE") (codes "3")
+
+abbrev pub end_of_block : Statement
+end_of_block = bare (codes "ENDMES") []
+
+abbrev pub given_below : List Statement → List Statement
+given_below above = touches_before above end_of_block
+
+abbrev pub told_of : ℕ → Statement
+told_of n = bare (codes "ENDMES is given") (decimal n ∷ codes "A" ∷ [] ∷ [])
+
+abbrev pub minus : ℕ → List ℕ
+minus n = codes "-" ++ decimal n
+
+abbrev pub from_five : List (List ℕ) → List Statement
+from_five numbers = bare (codes "GOTO") (codes "CART" ∷ decimal 0 ∷ decimal 0 ∷ minus 5 ∷ []) ∷ bare (codes "PTMEAS") (codes "CART" ∷ numbers) ∷ []
+
+abbrev pub on_wall : List ℕ → List ℕ → List ℕ → List ℕ → List Statement
+on_wall x y i j = from_five (x ∷ y ∷ minus 5 ∷ i ∷ j ∷ decimal 0 ∷ [])
+
+-- features and blocks for which nothing is given
+abbrev pub another_a : List ℕ → List ℕ → List ℕ → Statement
+another_a kind side d = feature_a (kind ∷ side ∷ codes "CART" ∷ codes "0" ∷ codes "0" ∷ codes "-5" ∷ codes "0" ∷ codes "0" ∷ codes "1" ∷ d ∷ [])
+
+abbrev pub no_bores : List Statement
+no_bores = another_a (codes "CIRCLE") (codes "OUTER") (codes "50") ∷ another_a (codes "CYLNDR") (codes "INNER") (codes "50")
+    ∷ another_a (codes "CIRCLE") (codes "INNER") (codes "0") ∷ another_a (codes "CIRCLE") (codes "INNER") (codes "-50")
+    ∷ bore_a (codes "0.6") (codes "0") (codes "0.8") ∷ bore_a (codes "1") (codes "0") (codes "1") ∷ bore_a (codes "0") (codes "0") (codes "2")
+    ∷ record upright { label = Some (codes "F(B)") } ∷ record upright { word = codes "TOL" } ∷ []
+
+abbrev pub no_blocks : List (List Statement)
+no_blocks = (block_a (codes "CIRCLE") (codes "2") ∷ []) ∷ (block_a (codes "CIRCLE") (codes "1001") ∷ []) ∷ (block_a (codes "CYLNDR") (codes "3") ∷ [])
+    ∷ (a_touch ∷ three_of_a ∷ []) ∷ (end_of_block ∷ three_of_a ∷ []) ∷ (three_of_a ∷ mode_man ∷ []) ∷ (three_of_a ∷ bare (codes "UNITS") [] ∷ []) ∷ []

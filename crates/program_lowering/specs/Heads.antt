@@ -39,7 +39,7 @@ option_text given name = if given then name else []
 
 abbrev pub given_options : Choices → List ℕ
 given_options choices = option_text choices.no_clearing (codes " --no-clearing") ++ (option_text choices.compensated (codes " --compensated")
-    ++ (option_text choices.skip_manual (codes " --skip-manual") ++ option_text choices.stored_frames (codes " --stored-frames")))
+    ++ (option_text choices.skip_manual (codes " --skip-manual") ++ (option_text choices.stored_frames (codes " --stored-frames") ++ option_text choices.even_touches (codes " --even-touches"))))
 
 abbrev pub or_none : List ℕ → List ℕ
 or_none [] = codes " none"

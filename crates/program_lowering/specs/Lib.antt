@@ -8,6 +8,7 @@ pub mod Inches
 pub mod Valued
 pub mod Cartesian
 pub mod PolarNearness
+pub mod EvenTouches
 pub mod Acts
 pub mod Lowering
 pub mod Heads

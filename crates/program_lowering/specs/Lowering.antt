@@ -21,7 +21,8 @@ use Rattle.program_flow.specs.Calls.{carried_out}
 use Rattle.program_lowering.specs.Cartesian.{all_cartesian, no_reference}
 use Rattle.program_lowering.specs.Valued.{all_valued}
 use Rattle.program_lowering.specs.OperatorTexts.{flat_meant, up_to_refused}
-use Rattle.program_lowering.specs.Reasons.{detail, reason_text}
+use Rattle.program_lowering.specs.EvenTouches.{touched_from}
+use Rattle.program_lowering.specs.Reasons.{detail, joint, reason_text}
 use Rattle.program_lowering.specs.declared.words.Choices.{Choices}
 use Rattle.program_lowering.specs.declared.words.Reason.{Reason}
 use Rattle.program_lowering.specs.declared.words.Reason.TheVariants.{Manual}
@@ -59,10 +60,14 @@ kept choices statements = kept_below choices [] statements
 abbrev pub valued_statements : List ℕ → List Statement
 valued_statements text = all_cartesian no_reference (all_valued [] (carried_out (text_reading text).statements))
 
+-- and with the touches that blocks are given
+abbrev pub prepared : Choices → List ℕ → List Statement
+prepared choices text = touched_from choices [] (valued_statements text)
+
 -- what those that count mean in millimetres, up to a text for the operator that one line cannot hold, or the first refusal with its line
 abbrev pub lowered_meaning : List (List ℕ × Point) → Choices → List ℕ → Result Meaning (Refusal × ℕ)
 lowered_meaning frames choices text =
-    meaning_of frames (up_to_refused (text_reading text).fault (all_stated [] (kept choices (valued_statements text)))) (length (lines text))
+    meaning_of frames (up_to_refused (text_reading text).fault (all_stated [] (kept choices (prepared choices text)))) (length (lines text))
 
 -- a statement that closes the program
 abbrev pub is_closing : Result StatementMeaning Refusal → Bool
@@ -93,7 +98,7 @@ ended_lines written = flat_map ended written
 
 -- the flat program of a text, but for its head
 abbrev pub flat_program : Choices → List ℕ → List ℕ
-flat_program choices text = ended_lines (flat_lines (all_stated [] (kept choices (valued_statements text))))
+flat_program choices text = ended_lines (flat_lines (all_stated [] (kept choices (prepared choices text))))
 
 -- why nothing is written of a statement: it is left out, or commands nothing
 abbrev pub passed_over : Statement → Result StatementMeaning Refusal → Option Reason
@@ -106,7 +111,7 @@ note_start s = note_line s.line ++ s.word
 
 abbrev pub note_for : Statement → Option Reason → List ℕ
 note_for s None = []
-note_for s (Some reason) = note_start s ++ ended (codes " is left out: " ++ (reason_text reason ++ detail reason s.params))
+note_for s (Some reason) = note_start s ++ ended (joint reason ++ (reason_text reason ++ detail reason s.params))
 
 abbrev pub note_at : Option Reason → Statement → Statement → List ℕ
 note_at (Some reason) s counted = note_for s (Some reason)
@@ -119,5 +124,5 @@ notes_from choices above (s ∷ statements) = note_at (left_out_at choices above
     ++ (if is_closing (saying (counted_at choices above s)) then [] else notes_from choices (s ∷ above) statements)
 
 abbrev pub notes_of : Choices → List ℕ → List ℕ
-notes_of choices text = notes_from choices [] (valued_statements text)
-    ++ if_stored choices (frame_notes (all_stated [] (kept choices (valued_statements text))))
+notes_of choices text = notes_from choices [] (prepared choices text)
+    ++ if_stored choices (frame_notes (all_stated [] (kept choices (prepared choices text))))

@@ -2,7 +2,7 @@
 use Rattle.std.specs.Prelude.{List, [], ◌∷◌, ◌++◌, ℕ, codes}
 use Rattle.program_lowering.specs.declared.words.Reason.{Reason}
 use Rattle.program_lowering.specs.declared.words.Reason.TheVariants.{Printing, Naming, Evaluating, Motion, Clearing, Uncompensated}
-use Rattle.program_lowering.specs.declared.words.Reason.TheVariants.{Compensated, Manual, Passed, Stored, Declared, Assigned, Leads}
+use Rattle.program_lowering.specs.declared.words.Reason.TheVariants.{Compensated, Manual, Passed, Stored, Declared, Assigned, Leads, Touched}
 
 abbrev pub reason_text : Reason → List ℕ
 reason_text Printing = codes "it says what is printed or shown, and where"
@@ -18,8 +18,14 @@ reason_text Passed = codes "it commands nothing"
 reason_text Declared = codes "it declares variables"
 reason_text Assigned = codes "from here on "
 reason_text Leads = codes "it leads to line "
+reason_text Touched = []
 
--- and what follows: the name of a variable with its value, or a line
+-- what is before it, after the word
+abbrev pub joint : Reason → List ℕ
+joint Touched = codes " "
+joint _ = codes " is left out: "
+
+-- and what follows: the name of a variable with its value, a line, or how many touches of what a block is given
 abbrev pub assigned_text : List (List ℕ) → List ℕ
 assigned_text (name ∷ (value ∷ [])) = name ++ (codes " is " ++ value)
 assigned_text _ = []
@@ -28,7 +34,15 @@ abbrev pub first_param : List (List ℕ) → List ℕ
 first_param [] = []
 first_param (line ∷ others) = line
 
+unfoldable pub touches_text : List ℕ → List ℕ → List ℕ
+touches_text count name = count ++ (codes " touches of F(" ++ (name ++ codes "), each from its centre: see that the way there is free"))
+
+abbrev pub given_text : List (List ℕ) → List ℕ
+given_text (count ∷ (name ∷ rest)) = touches_text count name
+given_text _ = []
+
 abbrev pub detail : Reason → List (List ℕ) → List ℕ
 detail Assigned params = assigned_text params
 detail Leads params = first_param params
+detail Touched params = given_text params
 detail _ params = []

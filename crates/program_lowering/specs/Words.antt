@@ -73,11 +73,16 @@ is_pair _ = false
 abbrev pub is_assigned : Statement → Bool
 is_assigned s = bytes_eq s.word (codes "ASSIGN") && (is_none s.label && is_pair s.params)
 
+-- the word of the statement that is noted where a block is given touches: no line is read to it, since letters outside texts are capitals
+abbrev pub given_word : List ℕ
+given_word = codes "ENDMES is given"
+
 -- likewise of a statement with its values
 abbrev pub reason_for : Choices → Statement → Option Reason
 reason_for choices s = if is_declaration s then Some reason.Declared else
     if is_assigned s then Some reason.Assigned else
-    if is_lead s then Some reason.Leads else reason_of choices s.word s.params
+    if is_lead s then Some reason.Leads else
+    if bytes_eq s.word given_word then Some reason.Touched else reason_of choices s.word s.params
 
 -- why a statement is left out: its word is no flat program's, and its texts are closed
 abbrev pub left_out : Choices → Statement → Option Reason

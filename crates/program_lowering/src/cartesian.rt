@@ -1,12 +1,12 @@
 // Polar and incremental coordinates.
 
-ghost use Rattle.std.specs.Prelude.{◌≡◌, ◌≤◌, ◌*◌, ◌++◌, ◌∷◌, [], ℕ, List, IfOk, bytes_eq, drop, false, map, option_map, unsigned_abs};
+ghost use Rattle.std.specs.Prelude.{◌≡◌, ◌≤◌, ◌*◌, ◌++◌, ◌∷◌, [], ℕ, List, IfOk, Ok, bytes_eq, codes, drop, false, map, option_map, unsigned_abs};
 ghost use Rattle.std.specs.List.{list_all, list_any};
 ghost use Rattle.program_flow.specs.Numbers.{numeral};
 ghost use Rattle.program_lowering.specs.OperatorTexts.{is_plain, marked};
 ghost use Rattle.fixed_um.specs.Limits.{component_limit};
 ghost use Rattle.dmis_program.specs.Keywords.{is_among};
-ghost use Rattle.program_lowering.specs.Carried.{line_if};
+ghost use Rattle.program_lowering.specs.Carried.{line_if, line_with};
 ghost use Rattle.program_lowering.specs.Cartesian as spec;
 
 use crate::inches::direction;
@@ -34,7 +34,7 @@ pub(crate) enum AngleUnit {
 }
 
 /// Three coordinates, or the components of a direction.
-type Triple = (Number, Number, Number);
+pub(crate) type Triple = (Number, Number, Number);
 
 /// What coordinates refer to, as far as this profile takes it.
 #[derive(Clone, Copy)]
@@ -43,16 +43,18 @@ pub(crate) struct Reference {
     pub(crate) unit: Option<AngleUnit>,
     /// Where the machine is, if a `GOTO` ended there.
     pub(crate) place: Option<Triple>,
+    /// Whether the block that is open has no touch.
+    pub(crate) untouched: bool,
 }
 
 /// The value of an expression without names.
-fn number_in(alloc: Global, text: &[u8]) -> Option<Number>
+pub(crate) fn number_in(alloc: Global, text: &[u8]) -> Option<Number>
     ensures { result ≡ spec.number_in text.now }
 {
     value_of(text, &Variables::new(alloc)).ok()
 }
 
-fn numbers_in(alloc: Global, first: &[u8], second: &[u8], third: &[u8]) -> Option<Triple>
+pub(crate) fn numbers_in(alloc: Global, first: &[u8], second: &[u8], third: &[u8]) -> Option<Triple>
     ensures { result ≡ spec.numbers_in (first.now ∷ (second.now ∷ (third.now ∷ []))) }
 {
     let first = number_in(alloc, first)?;
@@ -99,9 +101,9 @@ fn is_still(word: &[u8]) -> bool
     is_among(
         word,
         &[
-            "MEAS", "ENDMES", "FEAT", "TOL", "SNSDEF", "FILNAM", "FEDRAT", "ACLRAT", "SNSET",
-            "FINPOS", "PRCOMP", "WKPLAN", "TEXT", "DISPLY", "OUTPUT", "ASSIGN", "DECL", "FLY",
-            "RAPID", "IF", "SELECT", "JUMPTO", "CALL",
+            "MEAS", "FEAT", "TOL", "SNSDEF", "FILNAM", "FEDRAT", "ACLRAT", "SNSET", "FINPOS",
+            "PRCOMP", "WKPLAN", "TEXT", "DISPLY", "OUTPUT", "ASSIGN", "DECL", "FLY", "RAPID", "IF",
+            "SELECT", "JUMPTO", "CALL",
         ],
     )
 }
@@ -112,6 +114,17 @@ fn radians(unit: AngleUnit, angle: Number) -> Option<Number>
     match unit {
         AngleUnit::Degrees => in_radians(angle).ok(),
         AngleUnit::Radians => Some(angle),
+    }
+}
+
+/// What is that far along the axes of a plane, at a height.
+pub(crate) fn in_plane(plane: Plane, first: Number, second: Number, height: Number) -> Triple
+    ensures { result ≡ spec.in_plane plane first second height }
+{
+    match plane {
+        Plane::Xy => (first, second, height),
+        Plane::Yz => (height, first, second),
+        Plane::Zx => (second, height, first),
     }
 }
 
@@ -140,7 +153,7 @@ fn moved(start: Number, distance: Number, component: Number) -> Option<Number>
     start.sum(way).ok()
 }
 
-fn moved_by(start: Triple, distance: Number, direction: Triple) -> Option<Triple>
+pub(crate) fn moved_by(start: Triple, distance: Number, direction: Triple) -> Option<Triple>
     ensures { result ≡ spec.moved_by start distance direction }
 {
     let x = moved(start.0, distance, direction.0)?;
@@ -174,6 +187,22 @@ fn behind_three<'a, 'b>(params: &'a [Text<'b>]) -> &'a [Text<'b>]
     }
 }
 
+/// The line of a word with these Cartesian numbers, and with the parameters after them.
+pub(crate) fn cartesian_line(
+    alloc: Global,
+    word: &[u8],
+    numbers: &[Number],
+    rest: &[Text],
+) -> Result<Vec<u8>, AllocError>
+    ensures { IfOk result (λ line. line.items ≡ line_with word.now
+        (Ok (codes "CART" ∷ (map numeral numbers.now ++ rest.now)))) }
+{
+    let mut text = Vec::from_slice(alloc, word)?;
+    text.extend_from_slice(b"/CART")?;
+    let plain = push_place(&mut text, numbers, rest)?;
+    line_of(alloc, word, text, plain)
+}
+
 /// The line of a word with a Cartesian place, if there is one, and with the parameters after it.
 fn placed_line(
     alloc: Global,
@@ -187,10 +216,8 @@ fn placed_line(
     let Some(place) = place else {
         return Ok(None);
     };
-    let mut text = Vec::from_slice(alloc, word)?;
-    text.extend_from_slice(b"/CART")?;
-    let plain = push_place(&mut text, &[place.0, place.1, place.2], rest)?;
-    Ok(Some(line_of(alloc, word, text, plain)?))
+    let line = cartesian_line(alloc, word, &[place.0, place.1, place.2], rest)?;
+    Ok(Some(line))
 }
 
 impl Reference {
@@ -202,7 +229,15 @@ impl Reference {
             plane: Some(Plane::Xy),
             unit: Some(AngleUnit::Degrees),
             place: None,
+            untouched: false,
         }
+    }
+
+    /// Whether the machine is where it was, below this word.
+    fn stays(self, word: &[u8]) -> bool
+        ensures { result ≡ spec.stays self word.now }
+    {
+        is_still(word) || (is_text(word, "ENDMES") && !self.untouched)
     }
 
     /// After a statement with Cartesian coordinates.
@@ -221,8 +256,13 @@ impl Reference {
                 [x, y, z] => numbers_in(alloc, x, y, z),
                 _ => None,
             };
-        } else if !is_still(&statement.word) {
+        } else if !self.stays(&statement.word) {
             after.place = None;
+        }
+        if is_text(&statement.word, "MEAS") {
+            after.untouched = true;
+        } else if is_text(&statement.word, "PTMEAS") {
+            after.untouched = false;
         }
         after
     }
@@ -240,11 +280,7 @@ impl Reference {
         let turn = radians(unit, written.1)?;
         let first = written.0.rounded_product(cosine(turn).ok()?).ok()?;
         let second = written.0.rounded_product(sine(turn).ok()?).ok()?;
-        Some(match plane {
-            Plane::Xy => (first, second, written.2),
-            Plane::Yz => (written.2, first, second),
-            Plane::Zx => (second, written.2, first),
-        })
+        Some(in_plane(plane, first, second, written.2))
     }
 
     /// The place after a move by a distance in a direction.

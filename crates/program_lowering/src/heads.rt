@@ -68,6 +68,7 @@ fn given_options(alloc: Global, choices: Choices) -> Result<Vec<u8>, AllocError>
     push_option(&mut text, choices.compensated, b" --compensated")?;
     push_option(&mut text, choices.skip_manual, b" --skip-manual")?;
     push_option(&mut text, choices.stored_frames, b" --stored-frames")?;
+    push_option(&mut text, choices.even_touches, b" --even-touches")?;
     Ok(text)
 }
 

@@ -1,5 +1,5 @@
 // What follows from the definitions alone. Each function has laws for its contract and does nothing.
-ghost use Rattle.std.specs.Prelude.{◌≡◌, ◌<◌, ◌^◌, ◌++◌, ◌∷◌, ◌*◌, [], ℕ, ℤ, pos, neg_ℤ, int_lt, unsigned_abs, Bool, Err, List, length, map, codes, decimal, false, true, Some, None, Ok};
+ghost use Rattle.std.specs.Prelude.{◌≡◌, ◌<◌, ◌^◌, ◌++◌, ◌∷◌, ◌*◌, [], ℕ, ℤ, pos, neg_ℤ, int_lt, unsigned_abs, Bool, Err, List, filter, length, map, codes, decimal, false, true, take, Some, None, Ok};
 ghost use Rattle.std.specs.List.{AllByRecursion};
 ghost use Rattle.std.specs.Option.{option_map};
 ghost use Rattle.dmis_program.specs.Keywords.{keyword_of};
@@ -7,7 +7,7 @@ ghost use Rattle.dmis_program.specs.LookBack.{frame_said, nearest, saying};
 ghost use Rattle.dmis_program.specs.Meaning.{Meaning, program_of, steps_from};
 ghost use Rattle.dmis_program.specs.Positions.{length_of};
 ghost use Rattle.dmis_program.specs.declared.faults.Refusal.TheVariants.{BadByte, Unsupported};
-ghost use Rattle.dmis_program.specs.declared.keywords.Keyword.TheVariants.{Ptmeas};
+ghost use Rattle.dmis_program.specs.declared.keywords.Keyword.TheVariants.{Meas, Ptmeas};
 ghost use Rattle.dmis_program.specs.declared.sayings.StatementMeaning.TheVariants.{Passes, Recalls};
 ghost use Rattle.dmis_text.specs.Reading.{text_reading};
 ghost use Rattle.dmis_text.specs.Statements.{has_open_text};
@@ -22,11 +22,14 @@ ghost use Rattle.program_lowering.specs.declared.cartesian.AngleUnit.TheVariants
 ghost use Rattle.program_lowering.specs.declared.cartesian.Plane.TheVariants.{Xy, Yz, Zx};
 ghost use Rattle.program_lowering.specs.declared.cartesian.Reference.{Reference};
 ghost use Rattle.program_lowering.specs.Acts.{acts_of};
-ghost use Rattle.program_lowering.specs.Examples.{all_choices, assign, bare, declare_x, first_by_hand, manual_front, measured, mode_man, mode_prog, plain_choices, start, to_operator, a_touch, make_a, make_a_on_7, make_b, recall_a, naming_a, naming_none, of_setup, saving, two_frames, labelled, x_is_five, a_move, around, below, by_ten, placed};
+ghost use Rattle.program_lowering.specs.Examples.{all_choices, assign, bare, declare_x, first_by_hand, manual_front, measured, mode_man, mode_prog, plain_choices, start, to_operator, a_touch, make_a, make_a_on_7, make_b, recall_a, naming_a, naming_none, of_setup, saving, two_frames, labelled, x_is_five, a_move, around, below, by_ten, placed, bore_a, block_a, end_of_block, given_below, minus, no_blocks, no_bores, on_wall, three_of_a, told_of, upright, from_five};
+ghost use Rattle.program_lowering.specs.EvenTouches.{EachBelow, bore_named, is_touch, to_centre, touches_before, waiting};
+ghost use Rattle.program_lowering.specs.declared.even.Bore.{Bore};
+ghost use Rattle.program_lowering.specs.declared.even.Wanted.{Wanted};
 ghost use Rattle.program_lowering.specs.Flats.{flat, flat_text};
 ghost use Rattle.program_lowering.specs.Heads.{IsComment, Names, head_lines};
 ghost use Rattle.program_lowering.specs.Inches.{all_stated, in_inches, in_millimetres, inch_length, stated};
-ghost use Rattle.program_lowering.specs.Lowering.{counted_at, ended_lines, flat_program, kept, left_out_at, lowered_meaning, passed_over, valued_statements};
+ghost use Rattle.program_lowering.specs.Lowering.{counted_at, ended_lines, flat_program, kept, left_out_at, lowered_meaning, passed_over, prepared, valued_statements};
 ghost use Rattle.program_lowering.specs.Manual.{in_manual, is_skipped};
 ghost use Rattle.program_lowering.specs.OperatorTexts.{TextsFit, flat_meant, text_refusal};
 ghost use Rattle.program_lowering.specs.StoredFrames.{by_frame, frame_note, frame_notes, is_used, stored_frame};
@@ -53,7 +56,7 @@ pub fn texts_stay_in_their_places()
         (heads : List (List ℕ)) (m : Meaning) → length text < 2 ^ 64
         → AllByRecursion IsComment heads → lowered_meaning frames choices text ≡ Ok m
         → acts_of frames (text_reading (ended_lines heads ++ flat_program choices text)).statements
-        ≡ acts_of frames (all_stated [] (kept choices (valued_statements text))) }
+        ≡ acts_of frames (all_stated [] (kept choices (prepared choices text))) }
 {}
 
 /// An inch is exactly 25.4 millimetres: a length in inches, read to a millionth, is written as the whole micrometre nearest to it.
@@ -183,6 +186,10 @@ pub fn examples_of_references()
         ∷ (mode_man ∷ (bare (codes "SNSLCT") [] ∷ (bare (codes "UNITS") []
         ∷ (bare (codes "GOHOME") [] ∷ (bare (codes "GOTO") (codes "X" ∷ []) ∷ []))))))))
         ≡ None ∷ (None ∷ (None ∷ (None ∷ (None ∷ (None ∷ (None ∷ (None ∷ []))))))) }
+    ensures touched { (below (bare (codes "ENDMES") [] ∷ (a_move ∷ (a_touch
+        ∷ (bare (codes "MEAS") [] ∷ []))))).place ≡ (below (a_move ∷ [])).place }
+    ensures untouched { (below (bare (codes "ENDMES") [] ∷ (a_move
+        ∷ (bare (codes "MEAS") [] ∷ [])))).place ≡ None }
     ensures plane { (below (a_move ∷ (bare (codes "WKPLAN") (codes "ZXPLAN" ∷ [])
         ∷ (bare (codes "WKPLAN") (codes "YZPLAN" ∷ []) ∷ [])))).plane ≡ Some Zx }
     ensures planes { map plane_named ((codes "XYPLAN" ∷ []) ∷ ((codes "YZPLAN" ∷ [])
@@ -191,6 +198,72 @@ pub fn examples_of_references()
         ∷ []))).unit ≡ Some Radians }
     ensures units { map unit_named ((codes "MM" ∷ (codes "ANGDMS" ∷ [])) ∷ ((codes "MM"
         ∷ (codes "ANGDEC" ∷ [])) ∷ [])) ≡ None ∷ (Some Degrees ∷ []) }
+{}
+
+/// Unless it is chosen, no block is given touches.
+pub fn nothing_is_given_unasked()
+    ensures { (choices : Choices) (text : List ℕ) → choices.even_touches ≡ false
+        → prepared choices text ≡ valued_statements text }
+{}
+
+/// A block with a touch is given nothing.
+pub fn blocks_with_touches_stay()
+    ensures { (above since : List Statement) (touch s : Statement) → keyword_of touch.word ≡ Ptmeas
+        → AllByRecursion (λ o. keyword_of o.word ≡ Meas → ⊥) since
+        → touches_before (since ++ touch ∷ above) s ≡ [] }
+{}
+
+/// A block that is given something is given the touches that it asks for, each directly below a move to the centre of its bore.
+pub fn blocks_are_given_what_they_ask_for()
+    ensures count { (above : List Statement) (s : Statement) (w : Wanted) → waiting above ≡ Some w
+        → (touches_before above s ≡ [] → ⊥)
+        → length (filter is_touch (touches_before above s)) ≡ w.count }
+    ensures from_centre { (above : List Statement) (s : Statement) (w : Wanted) (bore : Bore)
+        → waiting above ≡ Some w → bore_named above w.name ≡ Some bore
+        → EachBelow (to_centre s.line bore.centre) s (touches_before above s) }
+    ensures others { (above : List Statement) (s : Statement) → waiting above ≡ None
+        → touches_before above s ≡ [] }
+{}
+
+/// Examples: the touches that a block is given, each from the centre.
+#[tactic(auto, unfolding(program_flow::specs::Values::value_within, program_flow::specs::Values::numeral_value, program_flow::specs::Parts::parts_of, program_flow::specs::Numbers::reduced, program_flow::specs::Numbers::gcd_within, program_flow::specs::Numbers::nearest_millionth, program_flow::specs::Angles::cosine, program_flow::specs::Angles::sine, program_flow::specs::Angles::in_radians, program_flow::specs::Angles::series, program_flow::specs::Calls::line_digits, dmis_program::specs::Keywords::keyword_of, dmis_program::specs::Parameters::name_within, dmis_program::specs::Parameters::count_of, dmis_program::specs::Sayings::said_of, dmis_program::specs::Sayings::said_by, fixed_um::specs::Written::written_component, crate::specs::EvenTouches::angle_text, crate::specs::Reasons::touches_text))]
+pub fn examples_of_even_touches()
+    ensures four { given_below (block_a (codes "CIRCLE") (codes "4") ∷ (upright ∷ []))
+        ≡ told_of 4 ∷ (on_wall (decimal 25) (decimal 0) (minus 1) (decimal 0)
+        ++ (on_wall (decimal 0) (decimal 25) (decimal 0) (minus 1)
+        ++ (on_wall (minus 25) (decimal 0) (decimal 1) (decimal 0)
+        ++ on_wall (decimal 0) (minus 25) (decimal 0) (decimal 1)))) }
+    ensures three { given_below (three_of_a ∷ (upright ∷ []))
+        ≡ told_of 3 ∷ (on_wall (decimal 25) (decimal 0) (minus 1) (decimal 0)
+        ++ (on_wall (minus 12 ++ codes ".500000") (decimal 21 ++ codes ".650635")
+        (decimal 0 ++ codes ".500000") (minus 0 ++ codes ".866025")
+        ++ on_wall (minus 12 ++ codes ".500000") (minus 21 ++ codes ".650635")
+        (decimal 0 ++ codes ".500000") (decimal 0 ++ codes ".866025"))) }
+    ensures second_plane { take 3 (given_below (three_of_a
+        ∷ (bore_a (codes "1") (codes "0") (codes "0") ∷ [])))
+        ≡ told_of 3 ∷ from_five (decimal 0 ∷ (decimal 25 ∷ (minus 5
+        ∷ (decimal 0 ∷ (minus 1 ∷ (decimal 0 ∷ [])))))) }
+    ensures third_plane { take 3 (given_below (three_of_a
+        ∷ (bore_a (codes "0") (codes "-1") (codes "0") ∷ [])))
+        ≡ told_of 3 ∷ from_five (decimal 0 ∷ (decimal 0 ∷ (decimal 20
+        ∷ (decimal 0 ∷ (decimal 0 ∷ (minus 1 ∷ [])))))) }
+    ensures nearest { length (given_below (three_of_a ∷ (upright ∷ no_bores))) ≡ 7 }
+    ensures noted { detail reason.Touched (codes "4" ∷ (codes "A" ∷ [])) ≡ codes
+        "4 touches of F(A), each from its centre: see that the way there is free" }
+{}
+
+/// Examples: blocks that are given nothing.
+#[tactic(auto, unfolding(program_flow::specs::Values::value_within, program_flow::specs::Values::numeral_value, program_flow::specs::Parts::parts_of, program_flow::specs::Numbers::reduced, program_flow::specs::Numbers::gcd_within, dmis_program::specs::Keywords::keyword_of, dmis_program::specs::Parameters::name_within, dmis_program::specs::Parameters::count_of, dmis_program::specs::Sayings::said_of, dmis_program::specs::Sayings::said_by))]
+pub fn examples_of_blocks_that_stay()
+    ensures features { map (λ f. given_below (three_of_a ∷ (f ∷ (upright ∷ [])))) no_bores
+        ≡ [] ∷ ([] ∷ ([] ∷ ([] ∷ ([] ∷ ([] ∷ ([] ∷ (given_below (three_of_a ∷ (upright ∷ []))
+        ∷ ([] ∷ [])))))))) }
+    ensures unknown { given_below (three_of_a ∷ []) ≡ [] }
+    ensures blocks { map (λ b. given_below (b ++ upright ∷ [])) no_blocks
+        ≡ [] ∷ ([] ∷ ([] ∷ ([] ∷ ([] ∷ ([] ∷ ([] ∷ [])))))) }
+    ensures others { map (touches_before (three_of_a ∷ (upright ∷ [])))
+        (bare (codes "ENDMES") (codes "1" ∷ []) ∷ (record end_of_block { label = Some [] }
+        ∷ (a_touch ∷ []))) ≡ [] ∷ ([] ∷ ([] ∷ [])) }
 {}
 
 /// Where the operator would measure, no touch stays, if it is asked for; elsewhere a statement is left out for itself alone.

@@ -7,6 +7,7 @@
 //! - `manual`: what is left to the operator
 //! - `stored`: frames of the setup in place of alignments
 //! - `values`: statements with the values of variables; `cartesian`: and with Cartesian coordinates
+//! - `even`: the touches that a block is given
 //! - `heads`: the comments before a flat program
 //! - `above`: what the statements above leave for the one that is judged
 //! - `lowering`: `lower`, the flat program of a text, or its first refusal; `laws`: what follows from the definitions
@@ -17,6 +18,7 @@
 
 mod above;
 mod cartesian;
+mod even;
 mod flats;
 mod heads;
 mod inches;

@@ -1,13 +1,15 @@
 // The flat program of a text.
 
-ghost use Rattle.std.specs.Prelude.{◌≡◌, ◌≤◌, ◌<◌, ◌++◌, ◌∷◌, [], OnOk, IfOk, IfErr, List, Ok, Option};
-ghost use Rattle.dmis_program.specs.Keywords.{keyword_of};
+ghost use Rattle.std.specs.Prelude.{◌≡◌, ◌≤◌, ◌<◌, ◌++◌, ◌∷◌, [], OnOk, IfOk, IfErr, List, Ok, Option, Some, true};
+ghost use Rattle.dmis_program.specs.Keywords.{is_among, keyword_of};
 ghost use Rattle.dmis_program.specs.Meaning.{closes, ended};
 ghost use Rattle.dmis_program.specs.Outcomes.{fault_at, refused_at, Gives};
 ghost use Rattle.dmis_text.specs.declared.elements.Statement.{Statement};
 ghost use Rattle.program_flow.specs.Left.{IsGiven};
-ghost use Rattle.program_lowering.specs.Carried.{GivesLines, GivesStep, Knows, TakesCartesian, TakesValued, followed, left_out_after, nothing_carried, step, frames_closed, judged_next};
+ghost use Rattle.program_lowering.specs.Carried.{GivesLines, GivesStep, Knows, TakesCartesian, TakesValued, all_steps, followed, left_out_after, nothing_carried, noted, seen_by, step, touch_steps, touched_step, frames_closed, judged_next};
+ghost use Rattle.program_lowering.specs.EvenTouches.{from_centre, given_by, made_at, moving, notice};
 ghost use Rattle.program_lowering.specs.Heads.{names_of};
+ghost use Rattle.program_lowering.specs.declared.words.Reason.TheVariants.{Touched};
 ghost use Rattle.program_lowering.specs.Lowered.{GivesLowered};
 ghost use Rattle.program_lowering.specs.Lowering.{note_for, note_start, passed_over};
 ghost use Rattle.program_lowering.specs.StoredFrames.{by_frame, if_stored};
@@ -15,20 +17,23 @@ ghost use Rattle.program_lowering.specs.Carried.{Carried};
 ghost use Rattle.tool_rack.specs.Setups.{has_name};
 
 use crate::above::Above;
-use crate::cartesian::Reference;
-use crate::flats::push_note_line;
+use crate::cartesian::{Reference, Triple, cartesian_line};
+use crate::even::{Even, Filling, Touch};
+use crate::flats::{push_note_line, push_number};
 use crate::heads::{SourceNames, with_head};
 use crate::inches::inches_after;
 use crate::lines::{push_line, text_refusal};
 use crate::manual::{is_skipped, manual_after};
 use crate::stored::{FrameNotes, FrameUses, stored_frame};
 use crate::values::{Values, read_back};
-use crate::words::{Choices, Reason, left_out, passed_reason, push_detail, reason_text};
+use crate::words::{
+    Choices, Reason, joint, left_out, passed_reason, push_detail, push_touches, reason_text,
+};
 use dmis_program::{
     Frames, Keyword, ProgramFault, Refusal, StatementFault, StatementMeaning, keyword_of_word,
 };
 use dmis_text::{Statement, Statements, TextFault};
-use program_flow::{Flow, Given};
+use program_flow::{Flow, Given, Number};
 use program_review::is_operator_text;
 use std::alloc::{AllocError, Global};
 use std::marker::Model;
@@ -87,10 +92,24 @@ fn push_note(
         return Ok(());
     };
     push_start(notes, statement)?;
-    notes.extend_from_slice(b" is left out: ")?;
+    notes.extend_from_slice(joint(reason))?;
     notes.extend_from_slice(reason_text(reason))?;
     push_detail(notes, reason, &statement.params)?;
     Ok(notes.push(b'\n')?)
+}
+
+/// Appends the line that says what a block is given.
+fn push_notice(notes: &mut Vec<u8>, line: u64, filling: &Filling) -> Result<(), AllocError>
+    ensures { OnOk result (notes.new.items
+        ≡ notes.old.items ++ note_for (notice line filling.now) (Some Touched)) }
+{
+    let mut count = Vec::new(*notes.allocator());
+    push_number(&mut count, filling.count)?;
+    push_note_line(notes, line)?;
+    notes.extend_from_slice(b"ENDMES is given ")?;
+    push_touches(notes, &count, filling.name.as_bytes())?;
+    notes.extend_from_slice(b"\n")?;
+    Ok(())
 }
 
 /// Why nothing is written of a statement with this keyword that says this.
@@ -275,6 +294,93 @@ impl Lowering {
         Ok(closes(&meaning))
     }
 
+    /// Takes the statement of a word with these Cartesian numbers, as if it were on this line.
+    fn take_made(
+        &mut self,
+        choices: Choices,
+        frames: &Frames,
+        line: u64,
+        word: &[u8],
+        numbers: &[Number],
+    ) -> Result<bool, StatementFault>
+        requires { is_among word.now moving ≡ true }
+        ensures { GivesStep result self.new (step frames.now choices self.old
+            (made_at line word.now numbers.now)) }
+    {
+        let text = cartesian_line(self.alloc, word, numbers, &[])?;
+        let made = read_back(self.alloc, line, &text)?;
+        self.take(choices, frames, &made)
+    }
+
+    /// Takes a move to a centre, and a touch.
+    fn take_touch(
+        &mut self,
+        choices: Choices,
+        frames: &Frames,
+        line: u64,
+        centre: &Triple,
+        touch: &Touch,
+    ) -> Result<bool, StatementFault>
+        ensures { GivesStep result self.new (all_steps frames.now choices self.old
+            (from_centre line centre.now touch.now)) }
+    {
+        let start = [centre.0, centre.1, centre.2];
+        if self.take_made(choices, frames, line, b"GOTO", &start)? {
+            return Ok(true);
+        }
+        let (x, y, z) = touch.place;
+        let (i, j, k) = touch.direction;
+        let numbers = [x, y, z, i, j, k];
+        self.take_made(choices, frames, line, b"PTMEAS", &numbers)
+    }
+
+    /// Likewise for each touch of these.
+    fn take_touches(
+        &mut self,
+        choices: Choices,
+        frames: &Frames,
+        line: u64,
+        centre: &Triple,
+        touches: &[Touch],
+    ) -> Result<bool, StatementFault>
+        ensures { GivesStep result self.new (touch_steps frames.now choices line centre.now self.old
+            touches.now) }
+    {
+        let [first, rest @ ..] = touches else {
+            return Ok(false);
+        };
+        if self.take_touch(choices, frames, line, centre, first)? {
+            return Ok(true);
+        }
+        self.take_touches(choices, frames, line, centre, rest)
+    }
+
+    /// Notes what a block is given.
+    #[tactic(auto, unfolding(dmis_program::specs::Keywords::keyword_of))]
+    fn note(&mut self, line: u64, filling: &Filling) -> Result<(), AllocError>
+        ensures { OnOk result (self.new ≡ noted self.old (notice line filling.now) (Some Touched)) }
+    {
+        push_notice(&mut self.notes, line, filling)
+    }
+
+    /// Takes what a block is given that ends on this line.
+    fn take_filling(
+        &mut self,
+        choices: Choices,
+        frames: &Frames,
+        line: u64,
+        filling: &Filling,
+    ) -> Result<bool, StatementFault>
+        ensures { GivesStep result self.new (all_steps frames.now choices self.old
+            (given_by line (Some filling.now))) }
+    {
+        if self.above.number == 0 {
+            return Err(StatementFault::Refused(Refusal::NotDmis));
+        }
+        self.note(line, filling)?;
+        self.take_touches(choices, frames, line, &filling.centre, &filling.touches)
+    }
+
     /// The refusal of a text that ends here, without an `ENDFIL`, for this fault or for none, and has that many lines.
     fn missing_end(&self, end: Option<TextFault>, lines: u64) -> ProgramFault
         ensures { result ≡ refused_at (ended end self.now.above.number lines) }
@@ -311,51 +417,82 @@ impl Lowering {
     }
 }
 
-/// Takes the next statement of a text, with Cartesian coordinates. True at the end of the program.
-fn take_cartesian(
+/// Takes the next statement of a text, with what is given before it. True at the end of the program.
+fn take_touched(
     lowering: &mut Lowering,
-    reference: &mut Reference,
+    even: &mut Even,
     choices: Choices,
     frames: &Frames,
     statement: &Statement,
 ) -> Result<bool, StatementFault>
-    ensures { TakesCartesian result lowering.new reference.old reference.new statement.now
-        (step frames.now choices lowering.old) }
+    ensures step { GivesStep result lowering.new
+        (touched_step frames.now choices even.old lowering.old statement.now) }
+    ensures seen { OnOk result (even.new ≡ seen_by choices even.old statement.now) }
+{
+    if !choices.even_touches {
+        return lowering.take(choices, frames, statement);
+    }
+    let keyword = keyword_of_word(&statement.word);
+    let due = even.due(lowering.alloc, keyword, statement)?;
+    even.follow(lowering.alloc, keyword, statement)?;
+    let Some(filling) = due else {
+        return lowering.take(choices, frames, statement);
+    };
+    if lowering.take_filling(choices, frames, statement.line, &filling)? {
+        return Ok(true);
+    }
+    lowering.take(choices, frames, statement)
+}
+
+/// Likewise with Cartesian coordinates.
+fn take_cartesian(
+    lowering: &mut Lowering,
+    reference: &mut Reference,
+    even: &mut Even,
+    choices: Choices,
+    frames: &Frames,
+    statement: &Statement,
+) -> Result<bool, StatementFault>
+    ensures { TakesCartesian result lowering.new reference.old reference.new even.new statement.now
+        (touched_step frames.now choices even.old lowering.old) (seen_by choices even.old) }
 {
     let alloc = lowering.alloc;
     let Some(line) = reference.line(alloc, statement)? else {
         *reference = reference.after(alloc, statement);
-        return lowering.take(choices, frames, statement);
+        return take_touched(lowering, even, choices, frames, statement);
     };
     let made = read_back(alloc, statement.line, &line)?;
     *reference = reference.after(alloc, &made);
-    lowering.take(choices, frames, &made)
+    take_touched(lowering, even, choices, frames, &made)
 }
 
 /// Likewise with its values.
 fn take_valued(
     lowering: &mut Lowering,
     reference: &mut Reference,
+    even: &mut Even,
     values: &mut Values,
     choices: Choices,
     frames: &Frames,
     statement: &Statement,
 ) -> Result<bool, StatementFault>
     ensures { (above : List Statement) → Knows above values.old.variables values.old.declared
-        → TakesValued result lowering.new reference.old reference.new values.new.variables
-        values.new.declared above statement.now (step frames.now choices lowering.old) }
+        → TakesValued result lowering.new reference.old reference.new even.new
+        values.new.variables values.new.declared above statement.now
+        (touched_step frames.now choices even.old lowering.old) (seen_by choices even.old) }
 {
     let Some(line) = values.take(lowering.alloc, statement)? else {
-        return take_cartesian(lowering, reference, choices, frames, statement);
+        return take_cartesian(lowering, reference, even, choices, frames, statement);
     };
     let valued = read_back(lowering.alloc, statement.line, &line)?;
-    take_cartesian(lowering, reference, choices, frames, &valued)
+    take_cartesian(lowering, reference, even, choices, frames, &valued)
 }
 
 /// Likewise the next statement that comes out of a text.
 fn take_given(
     lowering: &mut Lowering,
     reference: &mut Reference,
+    even: &mut Even,
     values: &mut Values,
     choices: Choices,
     frames: &Frames,
@@ -365,17 +502,20 @@ fn take_given(
     requires { (s : Statement) × IsGiven statements.now given.now s }
     ensures { (above : List Statement) (s : Statement) → IsGiven statements.now given.now s
         → Knows above values.old.variables values.old.declared
-        → TakesValued result lowering.new reference.old reference.new values.new.variables
-        values.new.declared above s (step frames.now choices lowering.old) }
+        → TakesValued result lowering.new reference.old reference.new even.new
+        values.new.variables values.new.declared above s
+        (touched_step frames.now choices even.old lowering.old) (seen_by choices even.old) }
 {
     match given {
         Given::Stated(place) => {
             let statement = &statements[*place];
-            take_valued(lowering, reference, values, choices, frames, statement)
+            take_valued(
+                lowering, reference, even, values, choices, frames, statement,
+            )
         }
         Given::Made(line, text) => {
             let made = read_back(lowering.alloc, *line, text)?;
-            take_valued(lowering, reference, values, choices, frames, &made)
+            take_valued(lowering, reference, even, values, choices, frames, &made)
         }
     }
 }
@@ -398,6 +538,7 @@ fn lines_of(
     };
     let mut lowering = Lowering::new(alloc);
     let mut reference = Reference::none();
+    let mut even = Even::none(alloc);
     let mut values = Values::new(alloc);
     loop {
         let Ok(next) = flow.next(alloc, &values.variables) else {
@@ -410,6 +551,7 @@ fn lines_of(
         match take_given(
             &mut lowering,
             &mut reference,
+            &mut even,
             &mut values,
             choices,
             frames,

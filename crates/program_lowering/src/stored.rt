@@ -28,7 +28,11 @@ fn before_close(text: &[u8]) -> Option<&[u8]>
 
 /// The name between these bytes and a `)`.
 #[tactic(auto, unfolding(dmis_program::specs::Parameters::name_within))]
-fn name_within(alloc: Global, front: &[u8], text: &[u8]) -> Result<Option<Name>, AllocError>
+pub(crate) fn name_within(
+    alloc: Global,
+    front: &[u8],
+    text: &[u8],
+) -> Result<Option<Name>, AllocError>
     ensures { IfOk result (λ name. name ≡ name_within front.now text.now) }
 {
     let Some(rest) = text.strip_prefix(front) else {

@@ -2,7 +2,7 @@
 
 ghost use Rattle.std.specs.Prelude.{◌≡◌, ◌++◌, OnOk};
 ghost use Rattle.dmis_program.specs.Keywords.{is_among, keyword_of};
-ghost use Rattle.program_lowering.specs.Reasons.{assigned_text, detail, reason_text};
+ghost use Rattle.program_lowering.specs.Reasons.{assigned_text, detail, joint, reason_text, touches_text};
 ghost use Rattle.program_lowering.specs.Words.{clearing, compensation, left_out, naming, is_assigned, passed_motion, passed_reason, printing, reason_for, reason_of, is_of_setup, saves_frame};
 
 use dmis_program::Keyword;
@@ -22,6 +22,8 @@ pub struct Choices {
     pub skip_manual: bool,
     /// Alignments select the frames of the setup that have their names.
     pub stored_frames: bool,
+    /// A block for a bore that has no touch is given those that it asks for, from the nominal.
+    pub even_touches: bool,
 }
 
 /// Why nothing is written of a statement.
@@ -53,6 +55,8 @@ pub enum Reason {
     Assigned,
     /// It decides what follows.
     Leads,
+    /// It stands for touches that a block is given.
+    Touched,
 }
 
 /// How results are printed, and where.
@@ -175,6 +179,9 @@ fn reason_for(choices: Choices, statement: &Statement) -> Option<Reason>
     if is_lead(statement) {
         return Some(Reason::Leads);
     }
+    if is_text(&statement.word, "ENDMES is given") {
+        return Some(Reason::Touched);
+    }
     reason_of(choices, &statement.word, &statement.params)
 }
 
@@ -225,7 +232,29 @@ pub(crate) fn reason_text(reason: Reason) -> &'static [u8]
         Reason::Declared => b"it declares variables",
         Reason::Assigned => b"from here on ",
         Reason::Leads => b"it leads to line ",
+        Reason::Touched => b"",
     }
+}
+
+/// What is printed before a reason, after the word.
+pub(crate) fn joint(reason: Reason) -> &'static [u8]
+    ensures { result.now ≡ joint reason }
+{
+    match reason {
+        Reason::Touched => b" ",
+        _ => b" is left out: ",
+    }
+}
+
+/// Appends how many touches of what a block is given.
+pub(crate) fn push_touches(out: &mut Vec<u8>, count: &[u8], name: &[u8]) -> Result<(), AllocError>
+    ensures { OnOk result (out.new.items ≡ out.old.items ++ touches_text count.now name.now) }
+{
+    out.extend_from_slice(count)?;
+    out.extend_from_slice(b" touches of F(")?;
+    out.extend_from_slice(name)?;
+    out.extend_from_slice(b"), each from its centre: see that the way there is free")?;
+    Ok(())
 }
 
 /// Appends the name of a variable, and its value.
@@ -240,7 +269,7 @@ fn push_assigned(out: &mut Vec<u8>, params: &[Text]) -> Result<(), AllocError>
     out.extend_from_slice(value)
 }
 
-/// Appends what follows a reason: of an `ASSIGN` the variable with its value, of what decides the line where it leads.
+/// Appends what follows a reason: of an `ASSIGN` the variable with its value, of what decides the line where it leads, and so on.
 pub(crate) fn push_detail(
     out: &mut Vec<u8>,
     reason: Reason,
@@ -253,6 +282,10 @@ pub(crate) fn push_detail(
         Reason::Leads => match params {
             [line, ..] => out.extend_from_slice(line),
             [] => Ok(()),
+        },
+        Reason::Touched => match params {
+            [count, name, ..] => push_touches(out, count, name),
+            _ => Ok(()),
         },
         _ => Ok(()),
     }

@@ -9,7 +9,7 @@ pub returns-in_default : goal.returns-in_default
 returns-in_default c =
     let given : cartesian c.args.reference.now c.args.statement.now ≡ c.args.statement.now =
     gives_cartesian c.args.reference.now c.args.statement.now None (rw c.in_default.is at c.in_ok-line.ensures) in
-    rw given (c.take.ensures, on_ok c.take.result c.after.ensures)
+    rw given (c.take_touched.ensures.step, (on_ok c.take_touched.result c.after.ensures, c.take_touched.ensures.seen))
 
 pub read_back-requires : goal.read_back-requires
 read_back-requires c =
@@ -22,4 +22,4 @@ returns c =
     let given = gives_cartesian c.args.reference.now c.args.statement.now (Some c.in-Some.line.items) (rw c.in-Some.is at c.in_ok-line.ensures) in
     let read : IsRead c.deref.result.now (record v { line = 1 }) = rw c.deref.ensures.value given.0 in
     let is = c.in_ok-made.ensures.read (record v { line = 1 }) read ∙ read_again v c.args.statement.now.line given.1 in
-    rw (sym is) (c.take-2.ensures, on_ok c.take-2.result c.after-2.ensures)
+    rw (sym is) (c.take_touched-2.ensures.step, (on_ok c.take_touched-2.result c.after-2.ensures, c.take_touched-2.ensures.seen))

@@ -1,5 +1,5 @@
-use Rattle.program_lowering.proofs.Names.{◌∙◌, Statement, step, subst}
-use Rattle.program_lowering.specs.Carried.{IsRead, TakesCartesian}
+use Rattle.program_lowering.proofs.Names.{◌∙◌, Statement, subst}
+use Rattle.program_lowering.specs.Carried.{IsRead, TakesCartesian, seen_by, touched_step}
 use Rattle.program_lowering.specs.Valued.{valued}
 use Rattle.program_lowering.proofs.ValuedLemmas.{on_ok, read_again}
 use Rattle.program_lowering.proofs.lowering.take_valued.Goals as goal
@@ -11,6 +11,7 @@ returns c above k =
     let read : IsRead c.deref.result.now (record v { line = 1 }) = rw c.deref.ensures.value given.1.0 in
     let is = c.in_ok-valued.ensures.read (record v { line = 1 }) read ∙ read_again v c.args.statement.now.line given.1.1 in (
       subst (λ (t : Statement). TakesCartesian c.take_cartesian-2.result c.take_cartesian-2.new.lowering c.args.reference.now
-          c.take_cartesian-2.new.reference t (step c.args.frames.now c.args.choices c.args.lowering.now)) is c.take_cartesian-2.ensures,
+          c.take_cartesian-2.new.reference c.take_cartesian-2.new.even t
+          (touched_step c.args.frames.now c.args.choices c.args.even.now c.args.lowering.now) (seen_by c.args.choices c.args.even.now)) is c.take_cartesian-2.ensures,
       on_ok c.take_cartesian-2.result given.0,
     )

@@ -1,0 +1,400 @@
+// Touches from the nominal.
+
+ghost use Rattle.std.specs.Prelude.{◌≡◌, [], IfOk, OnOk, None, Ok};
+ghost use Rattle.std.specs.Option.{option_map};
+ghost use Rattle.dmis_program.specs.Keywords.{keyword_of};
+ghost use Rattle.dmis_program.specs.Sayings.{said_of};
+ghost use Rattle.program_flow.specs.Numbers.{and_then, magnitude, quotient};
+ghost use Rattle.program_flow.specs.Texts.{whole_of};
+ghost use Rattle.program_lowering.specs.Carried as code;
+ghost use Rattle.program_lowering.specs.EvenTouches as spec;
+
+use crate::cartesian::{Plane, Triple, in_plane, moved_by, number_in, numbers_in};
+use crate::flats::push_number;
+use crate::manual::manual_after;
+use crate::stored::name_within;
+use dmis_program::{Keyword, StatementFault, StatementMeaning, said_of};
+use dmis_text::{Statement, Text};
+use fixed_um::Name;
+use program_flow::{Number, cosine, in_radians, sine};
+use program_review::is_text;
+use std::alloc::{AllocError, Global};
+use std::marker::Model;
+
+/// A bore, as its `FEAT` says it.
+#[derive(Clone, Copy)]
+pub(crate) struct Bore {
+    pub(crate) centre: Triple,
+    pub(crate) plane: Plane,
+    pub(crate) radius: Number,
+}
+
+/// A touch from within.
+#[derive(Clone, Copy)]
+pub(crate) struct Touch {
+    pub(crate) place: Triple,
+    pub(crate) direction: Triple,
+}
+
+/// An open block of a circle without a touch: its feature, and how many touches it asks for.
+#[derive(Drop)]
+pub(crate) struct Wanted {
+    pub(crate) name: Name,
+    pub(crate) count: u64,
+}
+
+/// A feature, with its bore if it is one.
+#[derive(Drop)]
+pub(crate) struct Feature {
+    pub(crate) name: Name,
+    pub(crate) bore: Option<Bore>,
+}
+
+/// What a block is given.
+#[derive(Drop)]
+pub(crate) struct Filling {
+    pub(crate) name: Name,
+    pub(crate) count: u64,
+    pub(crate) centre: Triple,
+    pub(crate) touches: Vec<Touch>,
+}
+
+impl Model for Filling {
+    ghost use Rattle.program_lowering.specs.EvenTouches.{Filling};
+
+    ghost Value = { Filling };
+
+    ghost view = { λ f. record { name = f.name; count = f.count; centre = f.centre; touches = f.touches.items } };
+}
+
+/// What the statements above leave for the next block.
+#[derive(Drop)]
+pub(crate) struct Even {
+    waiting: Option<Wanted>,
+    /// The features above, the nearest last.
+    features: Vec<Feature>,
+    manual: bool,
+}
+
+impl Model for Even {
+    ghost use Rattle.program_lowering.specs.Carried.{Seen};
+
+    ghost Value = { Seen };
+
+    ghost view = { λ e. record { waiting = e.waiting; features = e.features.items; manual = e.manual } };
+}
+
+fn is_circle(params: &[Text]) -> bool
+    ensures { result ≡ spec.is_circle params.now }
+{
+    match params {
+        [kind, ..] => is_text(kind, "CIRCLE"),
+        [] => false,
+    }
+}
+
+/// The block that a `MEAS` begins, if it is of a circle.
+fn begun(alloc: Global, statement: &Statement) -> Result<Option<Wanted>, AllocError>
+    ensures { IfOk result (λ block. block ≡ spec.begun (spec.is_circle statement.now.params)
+        (said_of Keyword.Meas statement.now)) }
+{
+    let circle = is_circle(&statement.params);
+    match said_of(alloc, Keyword::Meas, statement) {
+        Ok(StatementMeaning::Begins(name, count)) => {
+            if circle {
+                Ok(Some(Wanted { name, count }))
+            } else {
+                Ok(None)
+            }
+        }
+        Ok(_) => Ok(None),
+        Err(StatementFault::Refused(_)) => Ok(None),
+        Err(StatementFault::Memory) => Err(AllocError),
+    }
+}
+
+/// Whether a number is whole and has this size.
+fn has_size(size: u64, number: Number) -> bool
+    ensures { result ≡ spec.has_size size (whole_of number) }
+{
+    match number.get_whole() {
+        Ok(whole) => whole.unsigned_abs() == size,
+        Err(_) => false,
+    }
+}
+
+fn are_along(along: Number, second: Number, third: Number) -> bool
+    ensures { result ≡ spec.are_along along second third }
+{
+    has_size(1, along) && has_size(0, second) && has_size(0, third)
+}
+
+/// The plane across an axis of the machine.
+fn plane_across(axis: Triple) -> Option<Plane>
+    ensures { result ≡ spec.plane_across axis }
+{
+    if are_along(axis.2, axis.0, axis.1) {
+        Some(Plane::Xy)
+    } else if are_along(axis.0, axis.1, axis.2) {
+        Some(Plane::Yz)
+    } else if are_along(axis.1, axis.2, axis.0) {
+        Some(Plane::Zx)
+    } else {
+        None
+    }
+}
+
+fn is_above_zero(number: Number) -> bool
+    ensures { result ≡ spec.is_above_zero (and_then (quotient number (magnitude number)) whole_of) }
+{
+    match number.quotient(number.magnitude()) {
+        Ok(sign) => match sign.get_whole() {
+            Ok(whole) => whole > 0,
+            Err(_) => false,
+        },
+        Err(_) => false,
+    }
+}
+
+/// Half of a diameter above zero.
+fn half(alloc: Global, diameter: Number) -> Option<Number>
+    ensures { result ≡ spec.half diameter }
+{
+    if !is_above_zero(diameter) {
+        return None;
+    }
+    diameter.quotient(number_in(alloc, b"2")?).ok()
+}
+
+/// The bore around a centre, of an axis and a diameter.
+fn wall_in(alloc: Global, centre: Triple, params: &[Text]) -> Option<Bore>
+    ensures { result ≡ spec.wall_in centre params.now }
+{
+    let [i, j, k, diameter] = params else {
+        return None;
+    };
+    let axis = numbers_in(alloc, i, j, k)?;
+    let plane = plane_across(axis)?;
+    let radius = half(alloc, number_in(alloc, diameter)?)?;
+    Some(Bore {
+        centre,
+        plane,
+        radius,
+    })
+}
+
+/// The bore of a centre, an axis and a diameter.
+fn bore_in(alloc: Global, params: &[Text]) -> Option<Bore>
+    ensures { result ≡ spec.bore_in params.now }
+{
+    match params {
+        [x, y, z, wall @ ..] => {
+            let centre = numbers_in(alloc, x, y, z)?;
+            wall_in(alloc, centre, wall)
+        }
+        _ => None,
+    }
+}
+
+/// The bore that a `FEAT` with these parameters says.
+fn bore_of(alloc: Global, params: &[Text]) -> Option<Bore>
+    ensures { result ≡ spec.bore_of params.now }
+{
+    match params {
+        [kind, side, form, rest @ ..]
+            if is_text(kind, "CIRCLE") && is_text(side, "INNER") && is_text(form, "CART") => {
+            bore_in(alloc, rest)
+        }
+        _ => None,
+    }
+}
+
+/// The bore that a statement says.
+fn bore_said(alloc: Global, statement: &Statement) -> Option<Bore>
+    ensures { result ≡ spec.bore_said statement.now }
+{
+    if is_text(&statement.word, "FEAT") {
+        bore_of(alloc, &statement.params)
+    } else {
+        None
+    }
+}
+
+/// The name in a label `F(name)`.
+fn feature_name(alloc: Global, label: &Option<Text<'_>>) -> Result<Option<Name>, AllocError>
+    ensures { IfOk result (λ name. name ≡ spec.feature_name label.now) }
+{
+    match label {
+        Some(label) => name_within(alloc, b"F(", label),
+        None => Ok(None),
+    }
+}
+
+/// The angle of one of n touches, in degrees, as an expression.
+fn angle_text(alloc: Global, count: u64, touch: u64) -> Result<Vec<u8>, AllocError>
+    ensures { IfOk result (λ text. text.items ≡ spec.angle_text count touch) }
+{
+    let mut text = Vec::from_slice(alloc, b"360*")?;
+    push_number(&mut text, touch)?;
+    text.extend_from_slice(b"/")?;
+    push_number(&mut text, count)?;
+    Ok(text)
+}
+
+/// The way outwards at an angle.
+fn outward(alloc: Global, plane: Plane, angle: &[u8]) -> Option<Triple>
+    ensures { result ≡ spec.outward_at plane angle.now }
+{
+    let turn = in_radians(number_in(alloc, angle)?).ok()?;
+    let first = cosine(turn).ok()?;
+    let second = sine(turn).ok()?;
+    Some(in_plane(plane, first, second, number_in(alloc, b"0")?))
+}
+
+/// The touch where this way outwards meets the wall.
+fn touch_on(alloc: Global, bore: &Bore, way: Triple) -> Option<Touch>
+    ensures { result ≡ spec.touch_on bore.now way }
+{
+    let place = moved_by(bore.centre, bore.radius, way)?;
+    let nowhere = numbers_in(alloc, b"0", b"0", b"0")?;
+    let direction = moved_by(nowhere, number_in(alloc, b"-1")?, way)?;
+    Some(Touch { place, direction })
+}
+
+/// One of n touches.
+fn touch_at(alloc: Global, bore: &Bore, count: u64, touch: u64) -> Result<Option<Touch>, AllocError>
+    ensures { IfOk result (λ made. made ≡ spec.touch_at bore.now count touch) }
+{
+    let angle = angle_text(alloc, count, touch)?;
+    Ok(match outward(alloc, bore.plane, &angle) {
+        Some(way) => touch_on(alloc, bore, way),
+        None => None,
+    })
+}
+
+/// All touches, if all have values.
+fn touches_of(alloc: Global, bore: &Bore, count: u64) -> Result<Option<Vec<Touch>>, AllocError>
+    ensures { IfOk result (λ made. option_map (λ v. v.items) made
+        ≡ spec.touches_to bore.now count count) }
+{
+    let mut made = Vec::new(alloc);
+    for place in 0..count {
+        let Some(touch) = touch_at(alloc, bore, count, place)? else {
+            return Ok(None);
+        };
+        made.push(touch)?;
+    }
+    Ok(Some(made))
+}
+
+/// The bore of a name: that of its last feature.
+fn latest(features: &[Feature], name: &Name) -> Option<Bore>
+    ensures { result ≡ code.latest name.now None features.now }
+{
+    let mut found = None;
+    for feature in features {
+        if feature.name.as_bytes() == name.as_bytes() {
+            found = feature.bore;
+        }
+    }
+    found
+}
+
+impl Even {
+    /// Before any statement.
+    pub(crate) fn none(alloc: Global) -> Even
+        ensures { result ≡ code.nothing_seen }
+    {
+        Even {
+            waiting: None,
+            features: Vec::new(alloc),
+            manual: false,
+        }
+    }
+
+    /// What the open block is given.
+    fn filling(&self, alloc: Global) -> Result<Option<Filling>, AllocError>
+        ensures { IfOk result (λ filling. filling
+            ≡ spec.filling_of self.now.waiting (code.bore_among self.now.features)) }
+    {
+        let Some(wanted) = &self.waiting else {
+            return Ok(None);
+        };
+        if wanted.count < 3 || wanted.count > 1000 {
+            return Ok(None);
+        }
+        let Some(bore) = latest(&self.features, &wanted.name) else {
+            return Ok(None);
+        };
+        let Some(touches) = touches_of(alloc, &bore, wanted.count)? else {
+            return Ok(None);
+        };
+        Ok(Some(Filling {
+            name: wanted.name.copy(alloc)?,
+            count: wanted.count,
+            centre: bore.centre,
+            touches,
+        }))
+    }
+
+    /// What is given before a statement with this keyword.
+    pub(crate) fn due(
+        &self,
+        alloc: Global,
+        keyword: Keyword,
+        statement: &Statement,
+    ) -> Result<Option<Filling>, AllocError>
+        requires { keyword ≡ keyword_of statement.now.word }
+        ensures { IfOk result (λ filling. filling ≡ code.filling_due self.now statement.now) }
+    {
+        if keyword != Keyword::Endmes || statement.label.is_some() {
+            return Ok(None);
+        }
+        if !statement.params.is_empty() || self.manual {
+            return Ok(None);
+        }
+        self.filling(alloc)
+    }
+
+    /// Notes the feature of a statement with this keyword.
+    fn follow_feature(
+        &mut self,
+        alloc: Global,
+        keyword: Keyword,
+        statement: &Statement,
+    ) -> Result<(), AllocError>
+        requires { keyword ≡ keyword_of statement.now.word }
+        ensures { OnOk result (self.new ≡ record self.old {
+          features = code.features_after self.old.features statement.now;
+        }) }
+    {
+        if keyword == Keyword::Units {
+            self.features = Vec::new(alloc);
+            return Ok(());
+        }
+        if let Some(name) = feature_name(alloc, &statement.label)? {
+            let bore = bore_said(alloc, statement);
+            self.features.push(Feature { name, bore })?;
+        }
+        Ok(())
+    }
+
+    /// After a statement with this keyword.
+    pub(crate) fn follow(
+        &mut self,
+        alloc: Global,
+        keyword: Keyword,
+        statement: &Statement,
+    ) -> Result<(), AllocError>
+        requires { keyword ≡ keyword_of statement.now.word }
+        ensures { OnOk result (self.new ≡ code.seen_after self.old statement.now) }
+    {
+        match keyword {
+            Keyword::Meas => self.waiting = begun(alloc, statement)?,
+            Keyword::Ptmeas | Keyword::Endmes => self.waiting = None,
+            _ => {}
+        }
+        self.manual = manual_after(self.manual, keyword, statement);
+        self.follow_feature(alloc, keyword, statement)
+    }
+}
