@@ -19,3 +19,4 @@ pub mod RunNotes
 pub mod Attempts
 pub mod Reporting
 pub mod Digests
+pub mod Lowering

@@ -13,6 +13,7 @@
 //! - `notes`: what an audit found, and in what a record differs from a program, besides what an order prints
 //! - `preparing`: the files of an order over a connection are read before there is one
 //! - `looping`: a program is run over one connection between both ends
+//! - `lowering`: a program is made flat
 //! - `confirming`: the answer that begins a run
 //! - `check`: the command lines of a program, from any reader to any writer
 //! - `reviewing`: everything that stands between a program and its run is listed
@@ -27,6 +28,7 @@ mod digests;
 mod explaining;
 mod exporting;
 mod looping;
+mod lowering;
 mod missing;
 mod notes;
 mod of_records;
@@ -47,6 +49,7 @@ pub use digests::{Judged, JudgedLine};
 pub use explaining::explain;
 pub use exporting::{ExportFiles, Exported, export_files};
 pub use looping::{LoopTask, loop_over};
+pub use lowering::lower_program;
 pub use missing::Missing;
 pub use notes::{audit_notes, other_program_notes};
 pub use of_records::{

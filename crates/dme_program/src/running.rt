@@ -15,11 +15,11 @@ use crate::version;
 use byte_ports::Writing;
 use dme_orders::{
     AuditFiles, Judged, JudgedLine, RecordFiles, SimulationFiles, audit_files, audit_record,
-    check_under_setup, read_machine, review_program, simulate,
+    check_under_setup, lower_program, read_machine, review_program, simulate,
 };
 use dme_words::{Audit, Lower, Order, Recorded, Review, Simulation, Subject, read_words};
 use order_parts::{FilesFault, status};
-use program_lowering::{Choices, SourceNames, lower_program};
+use program_lowering::{Choices, SourceNames};
 use program_review::{FindingForm, FindingStyle, InputFile, InputFiles};
 use std::alloc::{AllocError, Global};
 use std::env;

@@ -42,5 +42,5 @@ pub use faults::ValueFault;
 pub use flow::{Flow, Given, is_lead};
 pub use numbers::Number;
 pub use texts::expanded;
-pub use values::{computed, value_of};
+pub use values::{computed, is_text, value_of};
 pub use variables::{Variables, is_declaration};

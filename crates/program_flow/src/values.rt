@@ -19,7 +19,8 @@ use std::alloc::AllocError;
 /// How many operations may be within one another.
 const LEVELS: u64 = 100;
 
-pub(crate) fn is_text(text: &[u8], other: &str) -> bool
+/// Whether a text has these characters.
+pub fn is_text(text: &[u8], other: &str) -> bool
     ensures { result ≡ bytes_eq text.now other.now }
 {
     text == other.as_bytes()

@@ -25,7 +25,7 @@ use Rattle.dmis_program.specs.declared.keywords.Keyword.{Keyword}
 use Rattle.dmis_program.specs.declared.keywords.Keyword.TheVariants as word
 use Rattle.dmis_program.specs.declared.sayings.StatementMeaning.TheVariants.{Passes}
 use Rattle.program_lowering.specs.Inches.{all_stated, in_inches, inches_after, is_unit, params_in, stated, unit_params}
-use Rattle.program_review.specs.Notices.{begins_with}
+use Rattle.program_lowering.specs.Texts.{begins_with}
 use Rattle.program_lowering.proofs.StatedLemmas.{text_same}
 use Rattle.program_lowering.proofs.Names.{is_none, is_operator_text}
 use Rattle.program_lowering.proofs.TextLemmas.{is_text}

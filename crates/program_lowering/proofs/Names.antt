@@ -42,7 +42,7 @@ pub use Rattle.program_lowering.specs.Lowering.{lowered_meaning, note_for, note_
 pub use Rattle.program_lowering.specs.Manual.{in_manual, is_skipped, manual_after, measures}
 pub use Rattle.program_lowering.specs.OperatorTexts.{as_read, before_refused, fault_for, flat_meant, is_outer, is_plain}
 pub use Rattle.program_lowering.specs.OperatorTexts.{line_refusal, marked, text_refusal, TextsFit, up_to_refused}
-pub use Rattle.program_review.specs.Texts.{is_operator_text}
+pub use Rattle.program_lowering.specs.Texts.{is_operator_text}
 pub use Rattle.program_lowering.specs.Words.{is_unknown, left_out, reason_for, reason_of}
 pub use Rattle.program_lowering.specs.declared.words.Choices.{Choices}
 pub use Rattle.program_lowering.specs.declared.words.Reason.{Reason}

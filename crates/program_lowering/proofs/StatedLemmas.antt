@@ -14,7 +14,7 @@ use Rattle.dmis_program.specs.declared.sayings.StatementMeaning.TheVariants as s
 use Rattle.program_lowering.specs.Flats.{flat_said}
 use Rattle.program_lowering.specs.Inches.{params_in, stated}
 use Rattle.program_lowering.specs.Lowering.{is_closing, passed_over}
-use Rattle.program_review.specs.Texts.{is_operator_text}
+use Rattle.program_lowering.specs.Texts.{is_operator_text}
 use Rattle.program_lowering.specs.OperatorTexts.{flat_meant, text_refusal}
 use Rattle.program_lowering.specs.Words.{passed_reason}
 use Rattle.program_lowering.proofs.SaidLemmas.{says}

@@ -7,7 +7,7 @@ use Rattle.dmis_program.specs.Meaning.{closes, steps_of}
 use Rattle.dmis_program.specs.declared.faults.Refusal.{Refusal}
 use Rattle.dmis_program.specs.declared.sayings.StatementMeaning.{StatementMeaning}
 use Rattle.dmis_program.specs.declared.steps.Step.{Step}
-use Rattle.program_review.specs.Texts.{is_operator_text}
+use Rattle.program_lowering.specs.Texts.{is_operator_text}
 
 -- a step, or the parameters of a text for the operator
 pub data Act : Type 0 where

@@ -23,7 +23,7 @@ use Rattle.dmis_program.specs.declared.keywords.Keyword.{Keyword}
 use Rattle.dmis_program.specs.declared.keywords.Keyword.TheVariants as word
 use Rattle.dmis_program.specs.declared.sayings.StatementMeaning.{StatementMeaning}
 use Rattle.dmis_program.specs.declared.sayings.StatementMeaning.TheVariants.{Goes, Passes, Touches}
-use Rattle.program_review.specs.Notices.{begins_with}
+use Rattle.program_lowering.specs.Texts.{begins_with}
 
 -- the whole micrometres nearest to that many millionths of an inch, of which each is 254 / 10,000 micrometres; a half away from zero
 abbrev pub inch_magnitude : ℤ → ℕ

@@ -1,3 +1,4 @@
+pub mod Texts
 pub mod Words
 pub mod Reasons
 pub mod Manual
@@ -13,6 +14,5 @@ pub mod Acts
 pub mod Lowering
 pub mod Heads
 pub mod Lowered
-pub mod Orders
 pub mod Carried
 pub mod Examples

@@ -15,7 +15,7 @@ use Rattle.program_lowering.specs.Words.{left_out, passed_reason}
 use Rattle.program_lowering.specs.Manual.{in_manual, is_skipped}
 use Rattle.program_lowering.specs.Flats.{Flat, flat_line, note_line}
 use Rattle.program_lowering.specs.StoredFrames.{by_frame, frame_notes, if_stored, is_used}
-use Rattle.program_review.specs.Texts.{is_operator_text}
+use Rattle.program_lowering.specs.Texts.{is_operator_text}
 use Rattle.program_lowering.specs.Inches.{all_stated}
 use Rattle.program_flow.specs.Calls.{carried_out}
 use Rattle.program_lowering.specs.Cartesian.{all_cartesian, no_reference}

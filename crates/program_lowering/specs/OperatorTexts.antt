@@ -12,7 +12,7 @@ use Rattle.dmis_program.specs.Keywords.{keyword_of}
 use Rattle.dmis_program.specs.declared.faults.Refusal.{Refusal}
 use Rattle.dmis_program.specs.declared.faults.Refusal.TheVariants.{BadByte, LineTooLong}
 use Rattle.dmis_program.specs.declared.sayings.StatementMeaning.{StatementMeaning}
-use Rattle.program_review.specs.Texts.{is_operator_text}
+use Rattle.program_lowering.specs.Texts.{is_operator_text}
 use Rattle.program_lowering.specs.Flats.{Flat, flat, flat_line, flat_said}
 
 -- its word and its parameters as they are read

@@ -11,11 +11,11 @@ ghost use Rattle.program_lowering.specs.Cartesian as spec;
 
 use crate::inches::direction;
 use crate::lines::{are_plain, push_params};
+use crate::texts::{is_among, without_cart};
 use crate::values::{line_of, push_number};
 use dmis_text::{Statement, Text};
 use fixed_um::Dir;
-use program_flow::{Number, Variables, cosine, in_radians, sine, value_of};
-use program_review::{is_among, is_text, without_cart};
+use program_flow::{Number, Variables, cosine, in_radians, is_text, sine, value_of};
 use std::alloc::{AllocError, Global};
 
 /// A working plane.

@@ -16,8 +16,7 @@ use crate::stored::name_within;
 use dmis_program::{Keyword, StatementFault, StatementMeaning, said_of};
 use dmis_text::{Statement, Text};
 use fixed_um::Name;
-use program_flow::{Number, cosine, in_radians, sine};
-use program_review::is_text;
+use program_flow::{Number, cosine, in_radians, is_text, sine};
 use std::alloc::{AllocError, Global};
 use std::marker::Model;
 

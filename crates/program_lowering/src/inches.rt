@@ -10,10 +10,11 @@ ghost use Rattle.dmis_program.specs.Positions.{direction_of};
 ghost use Rattle.dmis_program.specs.Sayings.{is_badly_formed};
 ghost use Rattle.program_lowering.specs.Inches as spec;
 
+use crate::texts::{begins_with, without_cart};
 use dmis_program::{Keyword, Refusal, StatementFault, StatementMeaning, said_of};
 use dmis_text::{Statement, Text};
 use fixed_um::{Dir, Point, Um, read_dir};
-use program_review::{begins_with, is_text, without_cart};
+use program_flow::is_text;
 use std::alloc::Global;
 
 /// The length of that many millionths of an inch.

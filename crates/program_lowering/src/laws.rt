@@ -15,7 +15,7 @@ ghost use Rattle.dmis_text.specs.declared.elements.Statement.{Statement};
 ghost use Rattle.fixed_um.specs.Limits.{component_limit};
 ghost use Rattle.fixed_um.specs.Numerals.{IsRounded, signed};
 ghost use Rattle.fixed_um.specs.declared.lengths.Point.{Point};
-ghost use Rattle.program_review.specs.Texts.{is_operator_text};
+ghost use Rattle.program_lowering.specs.Texts.{is_operator_text};
 ghost use Rattle.dmis_program.specs.Parameters.{is_other_coordinates};
 ghost use Rattle.program_lowering.specs.Cartesian.{cartesian, made_cartesian, no_reference, plane_named, unit_named};
 ghost use Rattle.program_lowering.specs.declared.cartesian.AngleUnit.TheVariants.{Degrees, Radians};

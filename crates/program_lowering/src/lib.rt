@@ -1,5 +1,6 @@
 //! A DMIS program (ISO 22093) as departments have it, made flat: the same features and steps in the statements that `dmis_program` reads.
 //!
+//! - `texts`: what words and parameters are
 //! - `words`: the words that a flat program does not have, and why each is left out
 //! - `flats`: the statement that is written for one that commands something
 //! - `lines`: the line that is written of a statement; texts for the operator are written as they are read
@@ -11,7 +12,6 @@
 //! - `heads`: the comments before a flat program
 //! - `above`: what the statements above leave for the one that is judged
 //! - `lowering`: `lower`, the flat program of a text, or its first refusal; `laws`: what follows from the definitions
-//! - `orders`: `lower_program`, the order over ports
 //!
 //! What a program stands for is said by `lowered_meaning`, `flat_program` and `notes_of` of specs/Lowering.antt.
 #![tactic(auto)]
@@ -27,12 +27,12 @@ mod lines;
 mod lowering;
 mod manual;
 pub mod near_laws;
-mod orders;
 mod stored;
+mod texts;
 mod values;
 mod words;
 
 pub use heads::SourceNames;
 pub use lowering::{Lowered, lower};
-pub use orders::lower_program;
+pub use texts::{begins_with, is_among, is_operator_text, without_cart};
 pub use words::{Choices, Reason};

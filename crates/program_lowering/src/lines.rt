@@ -9,9 +9,9 @@ ghost use Rattle.program_lowering.specs.Lowering.{ended_lines, line_for};
 ghost use Rattle.program_lowering.specs.OperatorTexts as spec;
 
 use crate::flats::{is_written, push_number, push_text};
+use crate::texts::is_operator_text;
 use dmis_program::{Keyword, Refusal, StatementMeaning};
 use dmis_text::{Statement, Text};
-use program_review::is_operator_text;
 use std::alloc::{AllocError, Global};
 
 /// The most bytes of a line without its end (this profile).

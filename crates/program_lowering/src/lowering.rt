@@ -25,6 +25,7 @@ use crate::inches::inches_after;
 use crate::lines::{push_line, text_refusal};
 use crate::manual::{is_skipped, manual_after};
 use crate::stored::{FrameNotes, FrameUses, stored_frame};
+use crate::texts::is_operator_text;
 use crate::values::{Values, read_back};
 use crate::words::{
     Choices, Reason, joint, left_out, passed_reason, push_detail, push_touches, reason_text,
@@ -34,7 +35,6 @@ use dmis_program::{
 };
 use dmis_text::{Statement, Statements, TextFault};
 use program_flow::{Flow, Given, Number};
-use program_review::is_operator_text;
 use std::alloc::{AllocError, Global};
 use std::marker::Model;
 

@@ -4,9 +4,10 @@ ghost use Rattle.std.specs.Prelude.{◌≡◌};
 ghost use Rattle.dmis_program.specs.Keywords.{is_among, keyword_of};
 ghost use Rattle.program_lowering.specs.Manual as spec;
 
+use crate::texts::is_among;
 use dmis_program::Keyword;
 use dmis_text::{Statement, Text};
-use program_review::{is_among, is_text};
+use program_flow::is_text;
 
 /// Whether the words of a `MODE` leave measuring to the operator.
 fn is_manual(params: &[Text]) -> bool

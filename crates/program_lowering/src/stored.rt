@@ -9,11 +9,11 @@ ghost use Rattle.program_lowering.specs.StoredFrames as spec;
 ghost use Rattle.tool_rack.specs.Setups.{has_name};
 
 use crate::flats::{push_between, push_note_line, push_number};
+use crate::texts::is_among;
 use crate::words::Choices;
 use dmis_program::{Keyword, StatementMeaning, word_refusal};
 use dmis_text::{Statement, Text};
 use fixed_um::Name;
-use program_review::is_among;
 use std::alloc::{AllocError, Global};
 
 /// What precedes a `)` at the end.

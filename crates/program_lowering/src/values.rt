@@ -16,10 +16,10 @@ ghost use Rattle.program_lowering.specs.Carried as code;
 ghost use Rattle.program_lowering.specs.Valued as spec;
 
 use crate::lines::{is_plain, push_comment};
+use crate::texts::is_among;
 use dmis_program::StatementFault;
 use dmis_text::{Statement, Statements, Text, TextFault};
-use program_flow::{Number, ValueFault, Variables, computed, expanded, is_declaration};
-use program_review::{is_among, is_text};
+use program_flow::{Number, ValueFault, Variables, computed, expanded, is_declaration, is_text};
 use std::alloc::{AllocError, Global};
 
 /// The most bytes of a statement with its values (this profile).

@@ -5,10 +5,10 @@ ghost use Rattle.dmis_program.specs.Keywords.{is_among, keyword_of};
 ghost use Rattle.program_lowering.specs.Reasons.{assigned_text, detail, joint, reason_text, touches_text};
 ghost use Rattle.program_lowering.specs.Words.{clearing, compensation, left_out, naming, is_assigned, passed_motion, passed_reason, printing, reason_for, reason_of, is_of_setup, saves_frame};
 
+use crate::texts::is_among;
 use dmis_program::Keyword;
 use dmis_text::{Statement, Text};
-use program_flow::{is_declaration, is_lead};
-use program_review::{is_among, is_text};
+use program_flow::{is_declaration, is_lead, is_text};
 use std::alloc::AllocError;
 
 /// What is left out besides what measures and moves nothing.

@@ -6,6 +6,7 @@ use Rattle.dmis_text.specs.declared.elements.Statement.{Statement}
 use Rattle.dmis_program.specs.Keywords.{keyword_of}
 use Rattle.dmis_program.specs.Sayings.{is_badly_formed}
 use Rattle.dmis_program.specs.declared.keywords.Keyword.TheVariants as word
+use Rattle.program_lowering.specs.Texts.{begins_with}
 use Rattle.program_review.specs.Remarks.{remark_on}
 use Rattle.program_review.specs.UnderSetup.{is_end}
 use Rattle.program_review.specs.declared.notices.Passed.{Passed}
@@ -13,11 +14,6 @@ use Rattle.program_review.specs.declared.notices.Passed.TheVariants as passed
 use Rattle.program_review.specs.declared.remarks.Remark.{Remark}
 use Rattle.program_review.specs.declared.remarks.What.{What}
 use Rattle.program_review.specs.declared.remarks.What.TheVariants as what
-
--- the first parameter is this word
-abbrev pub begins_with : List ℕ → List (List ℕ) → Bool
-begins_with text [] = false
-begins_with text (first ∷ rest) = bytes_eq first text
 
 -- the parameter after the first is `OFF`
 abbrev pub is_off : List (List ℕ) → Bool

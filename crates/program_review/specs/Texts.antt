@@ -4,12 +4,11 @@ use Rattle.std.specs.Prelude.{if◌then◌else◌, min, count_by, nat_lt, nat_eq
 use Rattle.std.specs.Str.{bytes_eq}
 use Rattle.dmis_text.specs.declared.elements.Statement.{Statement}
 use Rattle.dmis_program.specs.Keywords.{keyword_of}
-use Rattle.dmis_program.specs.Sayings.{is_badly_formed}
 use Rattle.dmis_program.specs.declared.keywords.Keyword.TheVariants as word
 use Rattle.dmis_program.specs.declared.sayings.StatementMeaning.{StatementMeaning}
 use Rattle.dmis_program.specs.declared.sayings.StatementMeaning.TheVariants as said
 use Rattle.order_parts.specs.Pauses.{Held}
-use Rattle.program_review.specs.Notices.{begins_with}
+use Rattle.program_lowering.specs.Texts.{is_operator_text}
 use Rattle.program_review.specs.PlanLines.{unlabelled}
 use Rattle.program_review.specs.TaskLines.{up_to_touch, after_touch, last_line, command_lines_of}
 use Rattle.program_review.specs.UnderSetup.{meaning_with, is_end}
@@ -17,11 +16,6 @@ use Rattle.program_review.specs.declared.tasks.Task.{Task}
 use Rattle.program_review.specs.declared.tasks.Task.TheVariants as task
 use Rattle.program_review.specs.declared.tasks.TaskLine.{TaskLine}
 use Rattle.program_review.specs.declared.texts.OperatorText.{OperatorText}
-
--- a text for the operator is `TEXT/OPER` or `TEXT/MAN`, unless it is refused for its form
-abbrev pub is_operator_text : Statement → Bool
-is_operator_text s = if is_badly_formed word.Passed s then false else
-    bytes_eq s.word (codes "TEXT") && (begins_with (codes "OPER") s.params || begins_with (codes "MAN") s.params)
 
 -- whether a block is open after a statement that says this
 abbrev pub is_open_after : Bool → Option StatementMeaning → Bool

@@ -1,13 +1,12 @@
 // What refused statements are for.
 
 ghost use Rattle.std.specs.Prelude.{◌≡◌};
-ghost use Rattle.std.specs.List.{list_any};
-ghost use Rattle.std.specs.Str.{bytes_eq};
 ghost use Rattle.dmis_program.specs.Keywords.{keyword_of, is_among};
 ghost use Rattle.program_review.specs.Groups.{bookkeeping, coordinates, measuring, deciding, moving, compensating};
 ghost use Rattle.program_review.specs.Groups.{is_jump_label, word_group, unsupported_group, mistaken_group, group_of};
 
 use dmis_program::{Keyword, Refusal, keyword_of_word};
+use program_lowering::is_among;
 
 /// What a refused statement is for (ISO 22093): what deleting it would change.
 #[derive(Clone, Copy, Debug, PartialEq, Eq)]
@@ -30,20 +29,6 @@ pub enum Group {
     Mistake,
     /// Any other word.
     Other,
-}
-
-/// Whether a text has these characters.
-pub fn is_text(text: &[u8], other: &str) -> bool
-    ensures { result ≡ bytes_eq text.now other.now }
-{
-    text == other.as_bytes()
-}
-
-/// Whether a text is one of these.
-pub fn is_among(text: &[u8], others: &[&str]) -> bool
-    ensures { result ≡ list_any (λ other. bytes_eq text.now other.now) others.now }
-{
-    others.iter().any(|other| is_text(text, other))
 }
 
 fn is_bookkeeping(word: &[u8]) -> bool

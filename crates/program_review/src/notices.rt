@@ -1,12 +1,13 @@
 // Statements that are passed over though they change something.
 
 ghost use Rattle.std.specs.Prelude.{◌≡◌, ◌++◌, OnOk};
-ghost use Rattle.program_review.specs.Notices.{begins_with, is_off, sensor_setting, text_meaning, passed_word, passed_over, notices_of};
+ghost use Rattle.program_review.specs.Notices.{is_off, sensor_setting, text_meaning, passed_word, passed_over, notices_of};
 
-use crate::groups::is_text;
 use crate::remarks::{Remark, What, push_remark};
 use dmis_program::{Keyword, keyword_of_word};
 use dmis_text::{Statement, Text};
+use program_flow::is_text;
+use program_lowering::begins_with;
 use std::alloc::AllocError;
 
 /// What a statement changes that is passed over (ISO 22093).
@@ -36,13 +37,6 @@ pub enum Passed {
     Operator,
     /// `TEXT/QUERY`: a question to the operator.
     Question,
-}
-
-/// Whether the first of these is this text.
-pub fn begins_with(other: &str, params: &[Text]) -> bool
-    ensures { result ≡ begins_with other.now params.now }
-{
-    params.first().is_some_and(|first| is_text(first, other))
 }
 
 fn is_off(params: &[Text]) -> bool

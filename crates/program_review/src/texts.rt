@@ -5,14 +5,13 @@ ghost use Rattle.order_parts.specs.Pauses.{place_seen};
 ghost use Rattle.program_review.specs.TaskLines.{last_line, up_to_touch};
 ghost use Rattle.program_review.specs.Texts as spec;
 
-use crate::groups::is_text;
-use crate::notices::begins_with;
 use crate::sentences::statement_text;
 use crate::tasks::{Left, Task, TaskLine, command_lines, left_after};
 use crate::under_setup::meaning_of;
 use dmis_program::{Keyword, StatementMeaning, keyword_of_word};
 use dmis_text::Statement;
 use order_parts::TextPlace;
+use program_lowering::is_operator_text;
 use session_telling::visible;
 use std::alloc::{AllocError, Global};
 
@@ -23,16 +22,6 @@ pub struct OperatorText {
     pub line: u64,
     pub is_inside: bool,
     pub shown: String,
-}
-
-/// Whether a statement is a text for the operator.
-pub fn is_operator_text(statement: &Statement) -> bool
-    ensures { result ≡ spec.is_operator_text statement.now }
-{
-    statement.label.is_none()
-        && !statement.is_open()
-        && is_text(&statement.word, "TEXT")
-        && (begins_with("OPER", &statement.params) || begins_with("MAN", &statement.params))
 }
 
 fn is_open_after(is_open: bool, meaning: &Option<StatementMeaning>) -> bool

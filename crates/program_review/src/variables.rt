@@ -7,10 +7,11 @@ ghost use Rattle.tool_rack.specs.Setups.{has_name};
 ghost use Rattle.program_review.specs.Variables.{declaring, assigning, as_list, names_in, names_by, is_no_length, refused_argument};
 ghost use Rattle.program_review.specs.Variables.{is_named, is_computed_move, group_below};
 
-use crate::groups::{Group, group_of, is_among, is_text};
+use crate::groups::{Group, group_of};
 use dmis_program::{Keyword, Refusal};
 use dmis_text::{Statement, Text};
 use fixed_um::{Name, Um, read_um};
+use program_lowering::{is_among, without_cart};
 use std::alloc::AllocError;
 
 fn is_declaring(word: &[u8]) -> bool
@@ -65,16 +66,6 @@ fn is_no_length(text: &[u8]) -> bool
     match read_um(text, Um::volume_limit()) {
         Ok(_) => false,
         Err(_) => true,
-    }
-}
-
-/// The parameters after a first `CART`.
-pub fn without_cart<'p, 'a>(params: &'p [Text<'a>]) -> &'p [Text<'a>]
-    ensures { result.now ≡ without_cart params.now }
-{
-    match params {
-        [first, rest @ ..] if is_text(first, "CART") => rest,
-        _ => params,
     }
 }
 

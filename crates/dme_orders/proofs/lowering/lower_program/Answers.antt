@@ -1,7 +1,7 @@
 use Rattle.std.proofs.Common.{rules, refl, inr}
 use Rattle.dme_orders.specs.Orders.{torn}
 use Rattle.dme_orders.proofs.OrderLemmas.{stops_at, works_or_empty}
-use Rattle.program_lowering.proofs.orders.lower_program.Goals as goal
+use Rattle.dme_orders.proofs.lowering.lower_program.Goals as goal
 
 pub returns-in_err-flat : goal.returns-in_err-flat
 returns-in_err-flat g c = stops_at _ _ _ _ c.in_err-flat.field-0.0 c.from_residual-in_err-flat.result (search rules) (inr (

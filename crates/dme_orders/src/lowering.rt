@@ -1,50 +1,20 @@
-// The order `lower` over ports.
+// A program is made flat.
 
 ghost use Rattle.std.specs.Prelude.{◌≡◌, IfOk, IfErr};
-ghost use Rattle.dme_orders.specs.Input.{named, ReadsNamed, WhyNoNamed};
+ghost use Rattle.dme_orders.specs.Input.{named};
 ghost use Rattle.dme_orders.specs.Orders.{went};
-ghost use Rattle.dme_orders.specs.Reading.{came, Reads, WhyNoText};
+ghost use Rattle.dme_orders.specs.Reading.{came};
+ghost use Rattle.dme_orders.specs.Lowering.{Lowers, ReadsFlat, WhyNoFlat};
 ghost use Rattle.program_lowering.specs.Heads.{names_of};
 ghost use Rattle.program_review.specs.Reviews.{frames_under};
-ghost use Rattle.program_lowering.specs.Orders.{Lowers, ReadsFlat, WhyNoFlat};
 
-use crate::heads::SourceNames;
-use crate::lowering::{Lowered, lower};
-use crate::words::Choices;
-use byte_ports::{Failed, PullFault, Sink, Source, pull_all, push_all};
-use dme_orders::read_setup;
+use crate::reading::{named_setup, read_text};
+use byte_ports::{Failed, Sink, Source, push_all};
 use dmis_program::{Frames, ProgramFault};
 use order_parts::{FilesFault, Role};
+use program_lowering::{Choices, Lowered, SourceNames, lower};
 use std::alloc::Global;
 use tool_rack::Setup;
-
-/// The setup that a source gives, if there is one.
-fn named_setup<S: Source>(
-    alloc: Global,
-    source: &mut Option<S>,
-) -> Result<Option<Setup>, FilesFault>
-    ensures ok { IfOk result (ReadsNamed (named S.left S.has_failed source.old source.new)) }
-    ensures err { IfErr result (WhyNoNamed (named S.left S.has_failed source.old source.new)) }
-{
-    match source {
-        Some(source) => Ok(Some(read_setup(alloc, source)?)),
-        None => Ok(None),
-    }
-}
-
-/// The whole text of a program.
-fn program_text<R: Source>(alloc: Global, source: &mut R) -> Result<Vec<u8>, FilesFault>
-    ensures ok { IfOk result (λ text. Reads (came R.left R.has_failed source.old source.new)
-        (λ told. text.items ≡ told)) }
-    ensures unread { IfErr result (WhyNoText (came R.left R.has_failed source.old source.new)
-        Role.Program) }
-{
-    match pull_all(alloc, source, 1_000_000) {
-        Ok(text) => Ok(text),
-        Err(PullFault::Failed | PullFault::TooMany) => Err(FilesFault::Unread(Role::Program)),
-        Err(PullFault::Memory) => Err(FilesFault::Memory),
-    }
-}
 
 /// The flat program of the text that a source gives under these frames, and what was decided.
 fn read_flat<R: Source>(
@@ -60,7 +30,7 @@ fn read_flat<R: Source>(
     ensures err { IfErr result (WhyNoFlat choices frames.now
         (came R.left R.has_failed source.old source.new)) }
 {
-    let text = program_text(alloc, source)?;
+    let text = read_text(alloc, source, Role::Program)?;
     match lower(alloc, names, choices, frames, text.as_slice()) {
         Ok(flat) => Ok(flat),
         Err(ProgramFault::Memory) => Err(FilesFault::Memory),
