@@ -30,7 +30,7 @@ use Rattle.program_lowering.specs.declared.words.Reason.TheVariants.{Manual, Tou
 use Rattle.program_lowering.specs.Carried.{Seen, judged_in, noted, all_steps, bore_among, features_after, filling_due, latest, seen_after, seen_by, touch_steps, touched_step, touches_due, unless_closed, with_feature}
 use Rattle.program_lowering.specs.Cartesian.{◌>>=◌, Triple}
 use Rattle.program_lowering.specs.EvenTouches.{EachBelow, Filling, all_touched, angle_text, begun, bore_at, bore_named, bore_said, ends_block, feature_name, filling_of, filling_with}
-use Rattle.program_lowering.specs.EvenTouches.{from_centre, given_by, is_bare, is_circle, is_endmes, is_touch, is_units, notice, to_centre, touch_at, touched_from, touches_before, touches_to, waiting, waiting_after}
+use Rattle.program_lowering.specs.EvenTouches.{from_centre, given_by, is_bare, is_circle, is_endmes, is_touch, ends_nominals, notice, to_centre, touch_at, touched_from, touches_before, touches_to, waiting, waiting_after}
 use Rattle.program_lowering.specs.declared.even.Bore.{Bore}
 use Rattle.program_lowering.specs.declared.even.Feature.{Feature}
 use Rattle.program_lowering.specs.declared.even.Touch.{Touch}
@@ -53,7 +53,7 @@ latest_more name found (g ∷ features) f = latest_more name (cond (bytes_eq g.n
 
 bores_after : (above : List Statement) (features : List Feature) (s : Statement) (name : List ℕ) → bore_among features name ≡ bore_named above name
     → bore_among (features_after features s) name ≡ bore_named (s ∷ above) name
-bores_after above features s name h = go (is_units (keyword_of s.word)) (feature_name s.label)
+bores_after above features s name h = go (ends_nominals (keyword_of s.word) s) (feature_name s.label)
   where
     go : (b : Bool) (o : Option (List ℕ)) → bore_among (cond b [] (with_feature features o (bore_said s))) name
         ≡ cond b None (bore_at name o (bore_said s) (bore_named above name))

@@ -28,7 +28,7 @@ use Rattle.program_flow.specs.Flow.{carried}
 use Rattle.program_lowering.specs.Cartesian.{Triple, cartesian, reference_after}
 use Rattle.program_lowering.specs.Valued.{has_variables, held_or_none, valued}
 use Rattle.program_lowering.specs.declared.cartesian.Reference.{Reference}
-use Rattle.program_lowering.specs.EvenTouches.{Filling, bore_said, ends_block, feature_name, filling_of, from_centre, given_by, is_units, waiting_after}
+use Rattle.program_lowering.specs.EvenTouches.{Filling, bore_said, ends_block, feature_name, filling_of, from_centre, given_by, ends_nominals, waiting_after}
 use Rattle.program_lowering.specs.declared.even.Bore.{Bore}
 use Rattle.program_lowering.specs.declared.even.Feature.{Feature}
 use Rattle.program_lowering.specs.declared.even.Touch.{Touch}
@@ -235,7 +235,7 @@ with_feature features None bore = features
 with_feature features (Some name) bore = features ++ record { name = name; bore = bore } ∷ []
 
 abbrev pub features_after : List Feature → Statement → List Feature
-features_after features s = if is_units (keyword_of s.word) then [] else with_feature features (feature_name s.label) (bore_said s)
+features_after features s = if ends_nominals (keyword_of s.word) s then [] else with_feature features (feature_name s.label) (bore_said s)
 
 abbrev pub seen_after : Seen → Statement → Seen
 seen_after seen s = record {

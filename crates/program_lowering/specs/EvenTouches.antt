@@ -1,12 +1,13 @@
 -- Touches from the nominal (this profile): a block for a bore without a touch is given those that it asks for, evenly spaced on the circle that
 -- its `FEAT` says, each from its centre. The first is on the first axis of the plane across the bore, the next ones towards its second (X and
--- Y, Y and Z, Z and X). Looking back is in the statements without those that are given; numbers of a `FEAT` count down to the next `UNITS`.
+-- Y, Y and Z, Z and X). Looking back is in the statements without those that are given. What a `FEAT` says is in the unit and in the coordinate
+-- system that hold there: it counts down to the next statement that selects or makes another.
 use Rattle.std.specs.Prelude.{◌≡◌, ℕ, zero, suc, Bool, true, false, not, ◌&&◌, ◌==◌, nat_le, List, [], ◌∷◌, ◌++◌, codes, decimal, flat_map, map, pos}
 use Rattle.std.specs.Prelude.{int_lt, unsigned_abs, ℤ, Option, Some, None, is_none, Result, Ok, Err, if◌then◌else◌}
 use Rattle.std.specs.Result.{result_ok}
 use Rattle.std.specs.Str.{bytes_eq}
 use Rattle.dmis_text.specs.declared.elements.Statement.{Statement}
-use Rattle.dmis_program.specs.Keywords.{keyword_of}
+use Rattle.dmis_program.specs.Keywords.{keyword_of, is_among}
 use Rattle.dmis_program.specs.Parameters.{name_within}
 use Rattle.dmis_program.specs.Sayings.{said_of}
 use Rattle.dmis_program.specs.declared.faults.Refusal.{Refusal}
@@ -22,7 +23,8 @@ use Rattle.program_flow.specs.declared.faults.ValueFault.{ValueFault}
 use Rattle.program_lowering.specs.Cartesian.{◌>>=◌, Triple, in_plane, moved_by, number_in, numbers_in}
 use Rattle.program_lowering.specs.Manual.{in_manual}
 use Rattle.program_lowering.specs.Valued.{with_params}
-use Rattle.program_lowering.specs.Words.{given_word}
+use Rattle.program_lowering.specs.StoredFrames.{alignments}
+use Rattle.program_lowering.specs.Words.{given_word, names_frame}
 use Rattle.program_lowering.specs.declared.cartesian.Plane.{Plane}
 use Rattle.program_lowering.specs.declared.cartesian.Plane.TheVariants.{Xy, Yz, Zx}
 use Rattle.program_lowering.specs.declared.even.Bore.{Bore}
@@ -95,14 +97,16 @@ abbrev pub bore_at : List ℕ → Option (List ℕ) → Option Bore → Option B
 bore_at name None here further = further
 bore_at name (Some given) here further = if bytes_eq given name then here else further
 
-abbrev pub is_units : Keyword → Bool
-is_units word.Units = true
-is_units _ = false
+abbrev pub ends_nominals : Keyword → Statement → Bool
+ends_nominals word.Units s = true
+ends_nominals word.Recall s = names_frame s.params
+ends_nominals word.Unknown s = is_among s.word alignments
+ends_nominals _ s = false
 
 abbrev pub bore_named : List Statement → List ℕ → Option Bore
 bore_named [] name = None
 bore_named (s ∷ above) name =
-    if is_units (keyword_of s.word) then None else bore_at name (feature_name s.label) (bore_said s) (bore_named above name)
+    if ends_nominals (keyword_of s.word) s then None else bore_at name (feature_name s.label) (bore_said s) (bore_named above name)
 
 -- the way outwards for touch t of n, counted from 0: its angle is 360 t / n degrees
 unfoldable pub angle_text : ℕ → ℕ → List ℕ

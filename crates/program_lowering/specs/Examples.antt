@@ -155,4 +155,6 @@ no_bores = another_a (codes "CIRCLE") (codes "OUTER") (codes "50") ∷ another_a
 
 abbrev pub no_blocks : List (List Statement)
 no_blocks = (block_a (codes "CIRCLE") (codes "2") ∷ []) ∷ (block_a (codes "CIRCLE") (codes "1001") ∷ []) ∷ (block_a (codes "CYLNDR") (codes "3") ∷ [])
-    ∷ (a_touch ∷ three_of_a ∷ []) ∷ (end_of_block ∷ three_of_a ∷ []) ∷ (three_of_a ∷ mode_man ∷ []) ∷ (three_of_a ∷ bare (codes "UNITS") [] ∷ []) ∷ []
+    ∷ (a_touch ∷ three_of_a ∷ []) ∷ (end_of_block ∷ three_of_a ∷ []) ∷ (three_of_a ∷ mode_man ∷ []) ∷ (three_of_a ∷ bare (codes "UNITS") [] ∷ [])
+    ∷ (three_of_a ∷ bare (codes "RECALL") (codes "D(B)" ∷ []) ∷ []) ∷ (three_of_a ∷ bare (codes "RECALL") (codes "DA(B)" ∷ []) ∷ [])
+    ∷ (three_of_a ∷ bare (codes "TRANS") [] ∷ []) ∷ []

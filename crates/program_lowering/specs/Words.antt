@@ -42,13 +42,14 @@ compensation compensated (first ∷ rest) =
     if bytes_eq first (codes "OFF") then Some reason.Uncompensated else
     if compensated && bytes_eq first (codes "ON") then Some reason.Compensated else None
 
--- what the setup's frames take the place of: `DATDEF`, and `SAVE/D(..)` or `SAVE/DA(..)`, which select nothing
-abbrev pub saves_frame : List (List ℕ) → Bool
-saves_frame (only ∷ []) = begins (codes "D(") only || begins (codes "DA(") only
-saves_frame _ = false
+-- one frame, by the mark of its name
+abbrev pub names_frame : List (List ℕ) → Bool
+names_frame (only ∷ []) = begins (codes "D(") only || begins (codes "DA(") only
+names_frame _ = false
 
+-- what the setup's frames take the place of: `DATDEF`, and `SAVE/D(..)` or `SAVE/DA(..)`, which select nothing
 abbrev pub is_of_setup : List ℕ → List (List ℕ) → Bool
-is_of_setup name params = bytes_eq name (codes "DATDEF") || (bytes_eq name (codes "SAVE") && saves_frame params)
+is_of_setup name params = bytes_eq name (codes "DATDEF") || (bytes_eq name (codes "SAVE") && names_frame params)
 
 -- why a word that no flat program has may be left out
 abbrev pub reason_of : Choices → List ℕ → List (List ℕ) → Option Reason

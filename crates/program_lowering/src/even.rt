@@ -12,7 +12,8 @@ ghost use Rattle.program_lowering.specs.EvenTouches as spec;
 use crate::cartesian::{Plane, Triple, in_plane, moved_by, number_in, numbers_in};
 use crate::flats::push_number;
 use crate::manual::manual_after;
-use crate::stored::name_within;
+use crate::stored::{makes_frame, name_within};
+use crate::words::names_frame;
 use dmis_program::{Keyword, StatementFault, StatementMeaning, said_of};
 use dmis_text::{Statement, Text};
 use fixed_um::Name;
@@ -229,6 +230,19 @@ fn feature_name(alloc: Global, label: &Option<Text<'_>>) -> Result<Option<Name>,
     }
 }
 
+/// Whether what a `FEAT` above says does not hold below a statement with this keyword: it selects or makes another unit or coordinate system.
+fn ends_nominals(keyword: Keyword, statement: &Statement) -> bool
+    requires { keyword ≡ keyword_of statement.now.word }
+    ensures { result ≡ spec.ends_nominals (keyword_of statement.now.word) statement.now }
+{
+    match keyword {
+        Keyword::Units => true,
+        Keyword::Recall => names_frame(&statement.params),
+        Keyword::Unknown => makes_frame(&statement.word),
+        _ => false,
+    }
+}
+
 /// The angle of one of n touches, in degrees, as an expression.
 fn angle_text(alloc: Global, count: u64, touch: u64) -> Result<Vec<u8>, AllocError>
     ensures { IfOk result (λ text. text.items ≡ spec.angle_text count touch) }
@@ -367,7 +381,7 @@ impl Even {
           features = code.features_after self.old.features statement.now;
         }) }
     {
-        if keyword == Keyword::Units {
+        if ends_nominals(keyword, statement) {
             self.features = Vec::new(alloc);
             return Ok(());
         }

@@ -260,7 +260,9 @@ pub fn examples_of_blocks_that_stay()
         ∷ ([] ∷ [])))))))) }
     ensures unknown { given_below (three_of_a ∷ []) ≡ [] }
     ensures blocks { map (λ b. given_below (b ++ upright ∷ [])) no_blocks
-        ≡ [] ∷ ([] ∷ ([] ∷ ([] ∷ ([] ∷ ([] ∷ ([] ∷ [])))))) }
+        ≡ [] ∷ ([] ∷ ([] ∷ ([] ∷ ([] ∷ ([] ∷ ([] ∷ ([] ∷ ([] ∷ ([] ∷ []))))))))) }
+    ensures sensor { given_below (three_of_a ∷ (bare (codes "RECALL") (codes "SA(T)" ∷ [])
+        ∷ (upright ∷ []))) ≡ given_below (three_of_a ∷ (upright ∷ [])) }
     ensures others { map (touches_before (three_of_a ∷ (upright ∷ [])))
         (bare (codes "ENDMES") (codes "1" ∷ []) ∷ (record end_of_block { label = Some [] }
         ∷ (a_touch ∷ []))) ≡ [] ∷ ([] ∷ ([] ∷ [])) }

@@ -3,6 +3,7 @@
 ghost use Rattle.std.specs.Prelude.{◌≡◌, ◌<◌, ◌++◌, IfOk, IfSome, OnErr, OnOk};
 ghost use Rattle.std.specs.Option.{option_map};
 ghost use Rattle.dmis_program.specs.Keywords.{keyword_of};
+ghost use Rattle.dmis_program.specs.Keywords.{is_among};
 ghost use Rattle.dmis_program.specs.Parameters.{before_close, is_other_recall, name_within};
 ghost use Rattle.program_lowering.specs.Carried.{frames_after, frames_closed, selected_after, since_after, used_after};
 ghost use Rattle.program_lowering.specs.StoredFrames as spec;
@@ -52,6 +53,13 @@ fn frame_name(alloc: Global, text: &[u8]) -> Result<Option<Name>, AllocError>
         Some(name) => Ok(Some(name)),
         None => name_within(alloc, b"DA(", text),
     }
+}
+
+/// Whether a word makes a coordinate system, which its label names.
+pub(crate) fn makes_frame(word: &[u8]) -> bool
+    ensures { result ≡ is_among word.now spec.alignments }
+{
+    is_among(word, &["DATSET", "TRANS", "ROTATE"])
 }
 
 /// Likewise of a label, if there is one.
@@ -151,7 +159,7 @@ pub(crate) fn stored_frame(
         Keyword::Recall if is_other_recall(&statement.params) => {
             only_frame(alloc, &statement.params)
         }
-        Keyword::Unknown if is_among(&statement.word, &["DATSET", "TRANS", "ROTATE"]) => {
+        Keyword::Unknown if makes_frame(&statement.word) => {
             Ok(uses.unless_used(labelled_frame(alloc, &statement.label)?))
         }
         _ => Ok(None),

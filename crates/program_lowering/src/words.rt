@@ -3,7 +3,7 @@
 ghost use Rattle.std.specs.Prelude.{◌≡◌, ◌++◌, OnOk};
 ghost use Rattle.dmis_program.specs.Keywords.{is_among, keyword_of};
 ghost use Rattle.program_lowering.specs.Reasons.{assigned_text, detail, joint, reason_text, touches_text};
-ghost use Rattle.program_lowering.specs.Words.{clearing, compensation, left_out, naming, is_assigned, passed_motion, passed_reason, printing, reason_for, reason_of, is_of_setup, saves_frame};
+ghost use Rattle.program_lowering.specs.Words.{clearing, compensation, left_out, naming, is_assigned, passed_motion, passed_reason, printing, reason_for, reason_of, is_of_setup, names_frame};
 
 use crate::texts::is_among;
 use dmis_program::Keyword;
@@ -103,9 +103,9 @@ fn compensation(compensated: bool, params: &[Text]) -> Option<Reason>
     None
 }
 
-/// Whether a `SAVE` with these parameters saves a frame.
-fn saves_frame(params: &[Text]) -> bool
-    ensures { result ≡ saves_frame params.now }
+/// Whether these parameters are one frame.
+pub(crate) fn names_frame(params: &[Text]) -> bool
+    ensures { result ≡ names_frame params.now }
 {
     match params {
         [only] => only.starts_with(b"D(") || only.starts_with(b"DA("),
@@ -117,7 +117,7 @@ fn saves_frame(params: &[Text]) -> bool
 fn is_of_setup(word: &[u8], params: &[Text]) -> bool
     ensures { result ≡ is_of_setup word.now params.now }
 {
-    is_text(word, "DATDEF") || (is_text(word, "SAVE") && saves_frame(params))
+    is_text(word, "DATDEF") || (is_text(word, "SAVE") && names_frame(params))
 }
 
 /// Why a word that no flat program has may be left out.
