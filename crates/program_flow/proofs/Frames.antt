@@ -96,8 +96,11 @@ few_up (f ∷ outer) = go (drop f.control.place f.statements) (few_up outer)
     go [] few = few
     go (s ∷ below) few = omega arith
 
-pub fewer-left : (old new : Left) → old.turns ≡ new.turns + 1 → size new < size old
+fewer-left : (old new : Left) → old.turns ≡ new.turns + 1 → size new < size old
 fewer-left old new t = omega (arith, t, few_up (frames_of new))
+
+pub fewer-seen : (mid new old : Left) → mid ≡ old → mid.turns ≡ new.turns + 1 → size new < size old
+fewer-seen mid new old seen t = subst (λ (l : Left). size new < size l) seen (fewer-left mid new t)
 
 pub fewer-up : (old new : Left) (line : ℕ) → ended_on (Some line) ≡ given_up_in (frames_of old) → HasEnded new → new.turns ≡ old.turns
     → size new < size old

@@ -8,10 +8,12 @@ pub mod Comes
 pub mod Bodies
 pub mod SaidLines
 pub mod Divisors
+pub mod Singles
 pub mod ValueSteps
 pub mod WholeRoots
 pub mod Series
 pub mod NearAngles
+pub mod NearTangents
 pub mod HaveValues
 pub mod Tables
 pub mod Carrying

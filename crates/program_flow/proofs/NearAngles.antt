@@ -28,7 +28,7 @@ sided-made true true o r u e some f g = record { plus = omega arith; minus = e; 
 nothing : (o r u : ℕ) → o * 10 ^ 12 ≡ r * u → r ≡ 0 → o ≡ 0
 nothing o r u e z = let f : r * u ≡ 0 * u = ap (λ x. x * u) z in omega (arith, e, f)
 
-made-from : (negative : Bool) (r : ℕ) (d : Fraction) → reduced (signed negative r) (10 ^ 12) ≡ Ok d → IsMade negative r (balance d)
+pub made-from : (negative : Bool) (r : ℕ) (d : Fraction) → reduced (signed negative r) (10 ^ 12) ≡ Ok d → IsMade negative r (balance d)
 made-from false r d e = let h = reduced-same (pos r) (10 ^ 12) d (omega arith) e in
     sided-made _ false _ _ _ h.same h.some (λ f. h.sign (from-zero r)) (λ f. absurd cc)
 made-from true zero d e = let h = reduced-same (pos 0) (10 ^ 12) d (omega arith) e in
@@ -51,7 +51,7 @@ turned-back negative r (pos zero) u h = swapped negative r 0 0 u h
 turned-back negative r (pos (suc n)) u h = swapped negative r (suc n) 0 u (subst (λ a. IsMade (not negative) r a) (swapped-pos (suc n) u) h)
 turned-back negative r (negsuc n) u h = subst (λ a. IsMade negative r a) (sym (swapped-pos (suc n) u)) (swapped negative r 0 (suc n) u h)
 
-turned-made : (f d : Fraction) (r : ℕ) (negative b : Bool) → int_lt f.over (pos 0) ≡ b → IsMade (if b then not negative else negative) r (balance d)
+pub turned-made : (f d : Fraction) (r : ℕ) (negative b : Bool) → int_lt f.over (pos 0) ≡ b → IsMade (if b then not negative else negative) r (balance d)
     → IsMade negative r (balance (if b then opposite d else d))
 turned-made f d r negative false e h = h
 turned-made f d r negative true e h = turned-back negative r d.over d.under h
@@ -70,7 +70,7 @@ pub record IsRounded (r n m : ℕ) : Type 0 where
   pub low : 2 * (r * m) ≤ 2 * n + m
   pub high : 2 * n ≤ 2 * (r * m) + m
 
-rounds : (n m : ℕ) → 0 < m → IsRounded (rounded n m) n m
+pub rounds : (n m : ℕ) → 0 < m → IsRounded (rounded n m) n m
 rounds n m some = record { low = rounded-low n m; high = rounded-high n m some }
 
 core-up : (p q r n s t e x y d : ℕ) → s ≡ t + n → 2 * (n * p) ≤ 2 * (r * (q * 10 ^ 5)) + q * 10 ^ 5 → p * e ≤ q * 50000 → IsFloor e s x d → IsFloor e t y d
@@ -126,7 +126,7 @@ near-both p q r e true h s a made sign round little n =
 once : (s a : Balance) → IsBoth (times 1 1 s) a → IsBoth s a
 once s a h = let b = h.up.little in let c = h.down.little in record { up = record { little = omega (arith, b) }; down = record { little = omega (arith, c) } }
 
-limited : (limit : ℕ) (b : Bool) (f d : Fraction) (value : Result Fraction ValueFault) → nat_le (unsigned_abs f.over) (f.under * limit) ≡ b
+pub limited : (limit : ℕ) (b : Bool) (f d : Fraction) (value : Result Fraction ValueFault) → nat_le (unsigned_abs f.over) (f.under * limit) ≡ b
     → (if b then value else Err PastBound) ≡ Ok d → (unsigned_abs f.over ≤ f.under * limit) × (value ≡ Ok d)
 limited limit true f d value t e = (leb-true _ _ t, e)
 limited limit false f d value t e = absurd cc

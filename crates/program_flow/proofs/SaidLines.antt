@@ -26,7 +26,7 @@ pub some_said : (o : Option Statement) → is_some o ≡ true → Some (the_said
 some_said None h = absurd cc
 some_said (Some s) h = refl
 
-reading_is : (r : Reading) (t : Statement) → r.statements ≡ t ∷ [] → r.fault ≡ None → r ≡ record { statements = t ∷ []; fault = None }
+pub reading_is : (r : Reading) (t : Statement) → r.statements ≡ t ∷ [] → r.fault ≡ None → r ≡ record { statements = t ∷ []; fault = None }
 reading_is r t e f = λ i. record { statements = e i; fault = f i }
 
 -- what is read of it

@@ -1,5 +1,5 @@
 -- The statements of a text outside macros and those within, which have all its macros.
-use Rattle.std.proofs.Common.{◌≡◌, ◌∙◌, ℕ, ◌+◌, Bool, true, false, List, [], ◌∷◌, ◌++◌, append_assoc, arith, cond, refl, ap, subst, sym}
+use Rattle.std.proofs.Common.{◌≡◌, ◌∙◌, ℕ, ◌+◌, Bool, true, false, List, [], ◌∷◌, ◌++◌, append_assoc, arith, cond, refl, ap, sym}
 use Rattle.std.specs.Prelude.{◌&&◌, ◌||◌, not, nat_lt, Some}
 use Rattle.std.proofs.lemmas.Bool.{lt-ltb}
 use Rattle.dmis_text.specs.declared.elements.Statement.{Statement}
@@ -24,57 +24,50 @@ is_inside within s below = within_by within (count_ends below) (begins_macro s)
 abbrev pub next_within : Bool → Statement → List Statement → Bool
 next_within within s below = within_after within (ends_macro s) (is_inside within s below)
 
+-- a choice by two tests, in either order
+chosen : {A : Type 0} (f : Bool → A) (b e : Bool) (other : A) → (e && b) ≡ true → cond (b && e) (f true) other ≡ f (e && b)
+chosen f true true other h = refl
+chosen f true false other h = absurd cc
+chosen f false true other h = absurd cc
+chosen f false false other h = absurd cc
+
+otherwise : {A : Type 0} (f : Bool → A) (b e : Bool) (first : A) → (e && b) ≡ false → cond (b && e) first (f false) ≡ f (e && b)
+otherwise f true true first h = absurd cc
+otherwise f true false first h = refl
+otherwise f false true first h = refl
+otherwise f false false first h = refl
+
 pub outside_next : (within : Bool) (s : Statement) (below : List Statement) → is_inside within s below ≡ false
     → outside_after within (s ∷ below) ≡ s ∷ outside_after (next_within within s below) below
 unfolding outside_after
 outside_next true s below h = absurd cc
 outside_next false s below h =
-    ap (λ (e : Bool). cond (begins_macro s && e) (outside_after true below) (s ∷ outside_after false below)) (some_end below) ∙ go (begins_macro s) (nat_lt 0 (count_ends below)) h
-  where
-    go : (b e : Bool) → (e && b) ≡ false → cond (b && e) (outside_after true below) (s ∷ outside_after false below) ≡ s ∷ outside_after (e && b) below
-    go true true h = absurd cc
-    go true false h = refl
-    go false true h = refl
-    go false false h = refl
+    ap (λ (e : Bool). cond (begins_macro s && e) (outside_after true below) (s ∷ outside_after false below)) (some_end below)
+    ∙ otherwise (λ (b : Bool). s ∷ outside_after b below) (begins_macro s) (nat_lt 0 (count_ends below)) (outside_after true below) h
 
 pub outside_passed : (within : Bool) (s : Statement) (below : List Statement) → is_inside within s below ≡ true
     → outside_after within (s ∷ below) ≡ outside_after (next_within within s below) below
 unfolding outside_after
 outside_passed true s below h = refl
 outside_passed false s below h =
-    ap (λ (e : Bool). cond (begins_macro s && e) (outside_after true below) (s ∷ outside_after false below)) (some_end below) ∙ go (begins_macro s) (nat_lt 0 (count_ends below)) h
-  where
-    go : (b e : Bool) → (e && b) ≡ true → cond (b && e) (outside_after true below) (s ∷ outside_after false below) ≡ outside_after (e && b) below
-    go true true h = refl
-    go true false h = absurd cc
-    go false true h = absurd cc
-    go false false h = absurd cc
+    ap (λ (e : Bool). cond (begins_macro s && e) (outside_after true below) (s ∷ outside_after false below)) (some_end below)
+    ∙ chosen (λ (b : Bool). outside_after b below) (begins_macro s) (nat_lt 0 (count_ends below)) (s ∷ outside_after false below) h
 
 pub inside_next : (within : Bool) (s : Statement) (below : List Statement) → is_inside within s below ≡ true
     → inside_after within (s ∷ below) ≡ s ∷ inside_after (next_within within s below) below
 unfolding inside_after
 inside_next true s below h = refl
 inside_next false s below h =
-    ap (λ (e : Bool). cond (begins_macro s && e) (s ∷ inside_after true below) (inside_after false below)) (some_end below) ∙ go (begins_macro s) (nat_lt 0 (count_ends below)) h
-  where
-    go : (b e : Bool) → (e && b) ≡ true → cond (b && e) (s ∷ inside_after true below) (inside_after false below) ≡ s ∷ inside_after (e && b) below
-    go true true h = refl
-    go true false h = absurd cc
-    go false true h = absurd cc
-    go false false h = absurd cc
+    ap (λ (e : Bool). cond (begins_macro s && e) (s ∷ inside_after true below) (inside_after false below)) (some_end below)
+    ∙ chosen (λ (b : Bool). s ∷ inside_after b below) (begins_macro s) (nat_lt 0 (count_ends below)) (inside_after false below) h
 
 pub inside_passed : (within : Bool) (s : Statement) (below : List Statement) → is_inside within s below ≡ false
     → inside_after within (s ∷ below) ≡ inside_after (next_within within s below) below
 unfolding inside_after
 inside_passed true s below h = absurd cc
 inside_passed false s below h =
-    ap (λ (e : Bool). cond (begins_macro s && e) (s ∷ inside_after true below) (inside_after false below)) (some_end below) ∙ go (begins_macro s) (nat_lt 0 (count_ends below)) h
-  where
-    go : (b e : Bool) → (e && b) ≡ false → cond (b && e) (s ∷ inside_after true below) (inside_after false below) ≡ inside_after (e && b) below
-    go true true h = absurd cc
-    go true false h = refl
-    go false true h = refl
-    go false false h = refl
+    ap (λ (e : Bool). cond (begins_macro s && e) (s ∷ inside_after true below) (inside_after false below)) (some_end below)
+    ∙ otherwise (λ (b : Bool). inside_after b below) (begins_macro s) (nat_lt 0 (count_ends below)) (s ∷ inside_after true below) h
 
 -- the same macros
 within_end : (below : List Statement) → has_end (inside_after true below) ≡ has_end below
@@ -128,50 +121,60 @@ pub record IsSplit (outs ins rest all_outs all_ins : List Statement) (next : Boo
   pub inside : ins ++ inside_after next rest ≡ all_ins
   pub ends : less ≡ count_ends rest
 
-pub goes_inside : (within : Bool) (s : Statement) (rest items outs ins new all_outs all_ins : List Statement) (ends : ℕ)
-    → items ≡ s ∷ rest → ends ≡ count_ends items → outs ++ outside_after within items ≡ all_outs → ins ++ inside_after within items ≡ all_ins
-    → new ≡ ins ++ (s ∷ []) → within_by within (ends_below ends (ends_macro s)) (begins_macro s) ≡ true
-    → IsSplit outs new rest all_outs all_ins (within_after within (ends_macro s) (within_by within (ends_below ends (ends_macro s)) (begins_macro s)))
-    (ends_below ends (ends_macro s))
-goes_inside within s rest items outs ins new all_outs all_ins ends are count out into more it_is =
-    let less = ends_fewer s rest ends (count ∙ ap count_ends are) in
-    let here : is_inside within s rest ≡ true = ap (λ (n : ℕ). within_by within n (begins_macro s)) (sym less) ∙ it_is in
-    let next : within_after within (ends_macro s) (within_by within (ends_below ends (ends_macro s)) (begins_macro s)) ≡ next_within within s rest =
-    ap (λ (n : ℕ). within_after within (ends_macro s) (within_by within n (begins_macro s))) less in
+-- by what the calls answer
+record IsTaken (within : Bool) (s : Statement) (rest : List Statement) (less : ℕ) (inside next : Bool) : Type 0 where
+  ends : less ≡ count_ends rest
+  here : inside ≡ is_inside within s rest
+  after : next ≡ next_within within s rest
+
+is_taken : (within : Bool) (s : Statement) (rest items : List Statement) (ends less : ℕ) (last begins inside next : Bool) → items ≡ s ∷ rest
+    → ends ≡ count_ends items → last ≡ ends_macro s → less ≡ ends_below ends last → begins ≡ begins_macro s → inside ≡ within_by within less begins
+    → next ≡ within_after within last inside → IsTaken within s rest less inside next
+is_taken within s rest items ends less last begins inside next are count lasts few begin here after =
+    let l : less ≡ count_ends rest = few ∙ (ap (λ (b : Bool). ends_below ends b) lasts ∙ ends_fewer s rest ends (count ∙ ap count_ends are)) in
+    let i : inside ≡ is_inside within s rest =
+    here ∙ (ap (λ (n : ℕ). within_by within n begins) l ∙ ap (λ (b : Bool). within_by within (count_ends rest) b) begin) in
     record {
-      outside = ap (λ (b : Bool). outs ++ outside_after b rest) next
-          ∙ (ap (λ (ss : List Statement). outs ++ ss) (sym (outside_passed within s rest here))
-          ∙ (ap (λ (ss : List Statement). outs ++ outside_after within ss) (sym are) ∙ out));
-      inside = ap (λ (ss : List Statement). ss ++ inside_after (within_after within (ends_macro s)
-          (within_by within (ends_below ends (ends_macro s)) (begins_macro s))) rest) more
-          ∙ (append_assoc ins (s ∷ []) (inside_after (within_after within (ends_macro s) (within_by within (ends_below ends (ends_macro s)) (begins_macro s))) rest)
-          ∙ (ap (λ (b : Bool). ins ++ (s ∷ inside_after b rest)) next
-          ∙ (ap (λ (ss : List Statement). ins ++ ss) (sym (inside_next within s rest here))
-          ∙ (ap (λ (ss : List Statement). ins ++ inside_after within ss) (sym are) ∙ into))));
-      ends = less;
+      ends = l;
+      here = i;
+      after = after ∙ (ap (λ (b : Bool). within_after within b inside) lasts ∙ ap (λ (b : Bool). within_after within (ends_macro s) b) i);
     }
 
-pub goes_outside : (within : Bool) (s : Statement) (rest items outs ins new all_outs all_ins : List Statement) (ends : ℕ)
-    → items ≡ s ∷ rest → ends ≡ count_ends items → outs ++ outside_after within items ≡ all_outs → ins ++ inside_after within items ≡ all_ins
-    → new ≡ outs ++ (s ∷ []) → within_by within (ends_below ends (ends_macro s)) (begins_macro s) ≡ false
-    → IsSplit new ins rest all_outs all_ins (within_after within (ends_macro s) (within_by within (ends_below ends (ends_macro s)) (begins_macro s)))
-    (ends_below ends (ends_macro s))
-goes_outside within s rest items outs ins new all_outs all_ins ends are count out into more is_not =
-    let less = ends_fewer s rest ends (count ∙ ap count_ends are) in
-    let here : is_inside within s rest ≡ false = ap (λ (n : ℕ). within_by within n (begins_macro s)) (sym less) ∙ is_not in
-    let next : within_after within (ends_macro s) (within_by within (ends_below ends (ends_macro s)) (begins_macro s)) ≡ next_within within s rest =
-    ap (λ (n : ℕ). within_after within (ends_macro s) (within_by within n (begins_macro s))) less in
-    record {
-      outside = ap (λ (ss : List Statement). ss ++ outside_after (within_after within (ends_macro s)
-          (within_by within (ends_below ends (ends_macro s)) (begins_macro s))) rest) more
-          ∙ (append_assoc outs (s ∷ []) (outside_after (within_after within (ends_macro s) (within_by within (ends_below ends (ends_macro s)) (begins_macro s))) rest)
-          ∙ (ap (λ (b : Bool). outs ++ (s ∷ outside_after b rest)) next
-          ∙ (ap (λ (ss : List Statement). outs ++ ss) (sym (outside_next within s rest here))
-          ∙ (ap (λ (ss : List Statement). outs ++ outside_after within ss) (sym are) ∙ out))));
-      inside = ap (λ (b : Bool). ins ++ inside_after b rest) next
-          ∙ (ap (λ (ss : List Statement). ins ++ ss) (sym (inside_passed within s rest here))
-          ∙ (ap (λ (ss : List Statement). ins ++ inside_after within ss) (sym are) ∙ into));
-      ends = less;
+-- a list that the statement joins, and one that it does not
+joined : (front new rest items all : List Statement) (s : Statement) (within next after : Bool) (left : Bool → List Statement → List Statement)
+    → items ≡ s ∷ rest → front ++ left within items ≡ all → new ≡ front ++ (s ∷ []) → next ≡ after → left within (s ∷ rest) ≡ s ∷ left after rest
+    → new ++ left next rest ≡ all
+joined front new rest items all s within next after left are whole more n step = ap (λ (ss : List Statement). ss ++ left next rest) more
+    ∙ (append_assoc front (s ∷ []) (left next rest) ∙ (ap (λ (b : Bool). front ++ (s ∷ left b rest)) n ∙ (ap (λ (ss : List Statement). front ++ ss) (sym step)
+    ∙ (ap (λ (ss : List Statement). front ++ left within ss) (sym are) ∙ whole))))
+
+passed : (front rest items all : List Statement) (s : Statement) (within next after : Bool) (left : Bool → List Statement → List Statement)
+    → items ≡ s ∷ rest → front ++ left within items ≡ all → next ≡ after → left within (s ∷ rest) ≡ left after rest → front ++ left next rest ≡ all
+passed front rest items all s within next after left are whole n step = ap (λ (b : Bool). front ++ left b rest) n
+    ∙ (ap (λ (ss : List Statement). front ++ ss) (sym step) ∙ (ap (λ (ss : List Statement). front ++ left within ss) (sym are) ∙ whole))
+
+pub taken_inside : (within : Bool) (s : Statement) (rest items outs ins new all_outs all_ins : List Statement) (ends less : ℕ)
+    (last begins inside next : Bool) → items ≡ s ∷ rest → ends ≡ count_ends items → outs ++ outside_after within items ≡ all_outs
+    → ins ++ inside_after within items ≡ all_ins → new ≡ ins ++ (s ∷ []) → last ≡ ends_macro s → less ≡ ends_below ends last
+    → begins ≡ begins_macro s → inside ≡ within_by within less begins → next ≡ within_after within last inside → inside ≡ true
+    → IsSplit outs new rest all_outs all_ins next less
+taken_inside within s rest items outs ins new all_outs all_ins ends less last begins inside next are count out into more lasts few begin here after it_is =
+    let a = is_taken within s rest items ends less last begins inside next are count lasts few begin here after in let h = sym a.here ∙ it_is in record {
+      outside = passed outs rest items all_outs s within next _ outside_after are out a.after (outside_passed within s rest h);
+      inside = joined ins new rest items all_ins s within next _ inside_after are into more a.after (inside_next within s rest h);
+      ends = a.ends;
+    }
+
+pub taken_outside : (within : Bool) (s : Statement) (rest items outs ins new all_outs all_ins : List Statement) (ends less : ℕ)
+    (last begins inside next : Bool) → items ≡ s ∷ rest → ends ≡ count_ends items → outs ++ outside_after within items ≡ all_outs
+    → ins ++ inside_after within items ≡ all_ins → new ≡ outs ++ (s ∷ []) → last ≡ ends_macro s → less ≡ ends_below ends last
+    → begins ≡ begins_macro s → inside ≡ within_by within less begins → next ≡ within_after within last inside → inside ≡ false
+    → IsSplit new ins rest all_outs all_ins next less
+taken_outside within s rest items outs ins new all_outs all_ins ends less last begins inside next are count out into more lasts few begin here after is_not =
+    let a = is_taken within s rest items ends less last begins inside next are count lasts few begin here after in let h = sym a.here ∙ is_not in record {
+      outside = joined outs new rest items all_outs s within next _ outside_after are out more a.after (outside_next within s rest h);
+      inside = passed ins rest items all_ins s within next _ inside_after are into a.after (inside_passed within s rest h);
+      ends = a.ends;
     }
 
 -- at the first statement
@@ -184,46 +187,3 @@ begun_left macros calls outer c text ms cs os at =
     ∙ (ap (λ (k : Control). trace 1000000 macros (record { name = []; statements = outside text; control = k } ∷ []) []) at
     ∙ trace-same 1000000 text macros (begun text) []
     (λ name. ap (λ (ss : List Statement). macro_after name false ss) ms ∙ same_macros name false text)))
-
--- likewise by what the calls answer
-record Answered (within : Bool) (s : Statement) (ends less : ℕ) (last begins inside next : Bool) : Type 0 where
-  less_is : less ≡ ends_below ends (ends_macro s)
-  inside_is : inside ≡ within_by within (ends_below ends (ends_macro s)) (begins_macro s)
-  next_is : next ≡ within_after within (ends_macro s) (within_by within (ends_below ends (ends_macro s)) (begins_macro s))
-
-answered : (within : Bool) (s : Statement) (ends less : ℕ) (last begins inside next : Bool) → last ≡ ends_macro s → less ≡ ends_below ends last
-    → begins ≡ begins_macro s → inside ≡ within_by within less begins → next ≡ within_after within last inside
-    → Answered within s ends less last begins inside next
-answered within s ends less last begins inside next lasts few begin here after =
-    let l : less ≡ ends_below ends (ends_macro s) = few ∙ ap (λ (b : Bool). ends_below ends b) lasts in
-    let i : inside ≡ within_by within (ends_below ends (ends_macro s)) (begins_macro s) =
-    here ∙ (ap (λ (n : ℕ). within_by within n begins) l ∙ ap (λ (b : Bool). within_by within (ends_below ends (ends_macro s)) b) begin) in
-    record {
-      less_is = l;
-      inside_is = i;
-      next_is = after ∙ (ap (λ (b : Bool). within_after within b inside) lasts ∙ ap (λ (b : Bool). within_after within (ends_macro s) b) i);
-    }
-
-pub taken_inside : (within : Bool) (s : Statement) (rest items outs ins new all_outs all_ins : List Statement) (ends less : ℕ)
-    (last begins inside next : Bool) → items ≡ s ∷ rest → ends ≡ count_ends items → outs ++ outside_after within items ≡ all_outs
-    → ins ++ inside_after within items ≡ all_ins → new ≡ ins ++ (s ∷ []) → last ≡ ends_macro s → less ≡ ends_below ends last
-    → begins ≡ begins_macro s → inside ≡ within_by within less begins → next ≡ within_after within last inside → inside ≡ true
-    → IsSplit outs new rest all_outs all_ins next less
-taken_inside within s rest items outs ins new all_outs all_ins ends less last begins inside next are count out into more lasts few begin here after it_is =
-    let a = answered within s ends less last begins inside next lasts few begin here after in
-    subst (λ (b : Bool). IsSplit outs new rest all_outs all_ins b less) (sym a.next_is)
-    (subst (λ (n : ℕ). IsSplit outs new rest all_outs all_ins (within_after within (ends_macro s)
-    (within_by within (ends_below ends (ends_macro s)) (begins_macro s))) n) (sym a.less_is)
-    (goes_inside within s rest items outs ins new all_outs all_ins ends are count out into more (sym a.inside_is ∙ it_is)))
-
-pub taken_outside : (within : Bool) (s : Statement) (rest items outs ins new all_outs all_ins : List Statement) (ends less : ℕ)
-    (last begins inside next : Bool) → items ≡ s ∷ rest → ends ≡ count_ends items → outs ++ outside_after within items ≡ all_outs
-    → ins ++ inside_after within items ≡ all_ins → new ≡ outs ++ (s ∷ []) → last ≡ ends_macro s → less ≡ ends_below ends last
-    → begins ≡ begins_macro s → inside ≡ within_by within less begins → next ≡ within_after within last inside → inside ≡ false
-    → IsSplit new ins rest all_outs all_ins next less
-taken_outside within s rest items outs ins new all_outs all_ins ends less last begins inside next are count out into more lasts few begin here after is_not =
-    let a = answered within s ends less last begins inside next lasts few begin here after in
-    subst (λ (b : Bool). IsSplit new ins rest all_outs all_ins b less) (sym a.next_is)
-    (subst (λ (n : ℕ). IsSplit new ins rest all_outs all_ins (within_after within (ends_macro s)
-    (within_by within (ends_below ends (ends_macro s)) (begins_macro s))) n) (sym a.less_is)
-    (goes_outside within s rest items outs ins new all_outs all_ins ends are count out into more (sym a.inside_is ∙ is_not)))

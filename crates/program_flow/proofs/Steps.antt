@@ -6,7 +6,7 @@ use Rattle.program_flow.specs.declared.faults.ValueFault.{ValueFault}
 use Rattle.program_flow.specs.declared.faults.ValueFault.TheVariants.{TooDeep}
 use Rattle.std.proofs.Common.{[], ◌∷◌, ◌≤◌, Bool, cond, false, length, true}
 use Rattle.std.specs.Prelude.{bytes_eq, codes, drop, get_or, is_some, None, Option, Some}
-use Rattle.dmis_text.specs.Reading.{Reading, text_reading}
+use Rattle.dmis_text.specs.Reading.{text_reading}
 use Rattle.dmis_text.specs.declared.reading.TextFault.{TextFault}
 use Rattle.dmis_text.specs.declared.elements.Statement.{Statement}
 use Rattle.std.specs.Fmt.{digits}
@@ -14,6 +14,7 @@ use Rattle.std.specs.Prelude.{decimal}
 use Rattle.program_flow.specs.Calls.{line_digits}
 use Rattle.program_flow.specs.Conditions.{Parts, holds_within, parts_hold, parts_of}
 use Rattle.program_flow.specs.Flow.{assignment, only_assignment}
+use Rattle.program_flow.proofs.SaidLines.{reading_is}
 
 pub holds_within-done : (values : List ℕ → Result Fraction ValueFault) (n : ℕ) (text : List ℕ) → n ≡ 0 → Err TooDeep ≡ holds_within values n text
 unfolding holds_within
@@ -62,9 +63,6 @@ one_of (t ∷ []) None h = go (bytes_eq t.word (codes "ASSIGN")) refl h
     go false e h = absurd cc
 one_of (t ∷ (u ∷ ss)) fault h = absurd cc
 
-read_is : (r : Reading) (t : Statement) → r.statements ≡ t ∷ [] → r.fault ≡ None → r ≡ record { statements = t ∷ []; fault = None }
-read_is r t e f = λ i. record { statements = e i; fault = f i }
-
 pub record IsMade (text : List ℕ) (line : ℕ) : Type 0 where
   pub read : Statement
   pub only : text_reading text ≡ record { statements = read ∷ []; fault = None }
@@ -80,7 +78,7 @@ made_of text line h =
     let one = one_of (text_reading text).statements (text_reading text).fault h in
     record {
       read = one.read;
-      only = read_is (text_reading text) one.read one.only one.whole;
+      only = reading_is (text_reading text) one.read one.only one.whole;
       made = made_from line (text_reading text).statements (text_reading text).fault one.read one.only one.whole one.assigns;
     }
 

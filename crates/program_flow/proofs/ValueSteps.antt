@@ -1,11 +1,13 @@
 -- Definitions by a number that counts down, one step at a time.
-use Rattle.std.proofs.Common.{◌≡◌, ℕ, zero, suc, ◌<◌, ◌-◌, arith, refl, sym, ap, ◌∙◌}
-use Rattle.std.specs.Prelude.{Result, Ok, Err, List, Option, ◌==◌}
+use Rattle.std.proofs.Common.{◌≡◌, ℕ, zero, suc, ◌<◌, ◌-◌, Bool, true, false, arith, refl, sym, ap, ◌∙◌}
+use Rattle.std.specs.Prelude.{Result, Ok, Err, List, Option, ◌==◌, if◌then◌else◌}
+use Rattle.std.specs.Result.{result_ok}
 use Rattle.program_flow.specs.Numbers.{Fraction, multiplied, and_then, product}
 use Rattle.program_flow.specs.Parts.{Parts, parts_of}
 use Rattle.std.specs.List.{position}
 use Rattle.program_flow.specs.Texts.{expanded_at, expanded_within}
-use Rattle.program_flow.specs.Values.{parts_value, value_within}
+use Rattle.program_flow.specs.ValueCuts.{written_or}
+use Rattle.program_flow.specs.Values.{computed, is_constant, numeral_or, parts_value, value_of, value_within}
 use Rattle.program_flow.specs.declared.faults.ValueFault.{ValueFault}
 use Rattle.program_flow.specs.declared.faults.ValueFault.TheVariants.{TooDeep}
 
@@ -38,6 +40,22 @@ pub value_within-by : (said : List ℕ → Result Fraction ValueFault) (n : ℕ)
     → parts_value said (value_within said (n - 1)) parts ≡ value_within said n text
 value_within-by said n text parts some e = ap (λ p. parts_value said (value_within said (n - 1)) p) e
     ∙ value_within-step said (n - 1) n text (omega (arith, some))
+
+-- a text with its value in its place, by its parts
+or-same : (text : List ℕ) (r : Result Fraction ValueFault) → written_or text (result_ok r) ≡ numeral_or text r
+or-same text (Ok f) = refl
+or-same text (Err fault) = refl
+
+not-constant : (text other : List ℕ) (b : Bool) → b ≡ false → other ≡ (if b then text else other)
+not-constant text other false h = refl
+not-constant text other true h = absurd cc
+
+pub computed-by : (said : List ℕ → Result Fraction ValueFault) (text : List ℕ) (parts : Parts) (value : Result Fraction ValueFault) (made : Option Fraction)
+    → parts ≡ parts_of text → is_constant parts ≡ false → value ≡ parts_value said (value_within said 99) parts → made ≡ result_ok value
+    → written_or text made ≡ computed said text
+computed-by said text parts value made e c v m = ap (λ o. written_or text o) m ∙ (or-same text value
+    ∙ (ap (λ r. numeral_or text r) (v ∙ value_within-by said 100 text parts (omega arith) e)
+    ∙ not-constant text (numeral_or text (value_of said text)) (is_constant (parts_of text)) (ap is_constant (sym e) ∙ c)))
 
 pub expanded-done : (values : List ℕ → Result Fraction ValueFault) (n : ℕ) (text : List ℕ) → n ≡ 0 → expanded_within values n text ≡ Err TooDeep
 unfolding expanded_within

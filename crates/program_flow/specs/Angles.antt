@@ -1,4 +1,5 @@
--- Sines and cosines of radians, and degrees in radians and back (`SIN`, `COS`, `DTOR`, `RTOD` of ISO 22093), as decimals of twelve places.
+-- Sines, cosines and tangents of radians, and degrees in radians and back (`SIN`, `COS`, `TAN`, `DTOR`, `RTOD` of ISO 22093), as decimals of
+-- twelve places.
 -- A value has to be one number, so this says which, by what is computed; what it means is in `Nearness`.
 use Rattle.std.specs.Prelude.{ℕ, zero, suc, ◌+◌, ◌*◌, ◌/◌, ◌^◌, Bool, not, nat_le, nat_lt, pos, unsigned_abs, int_lt, Result, Err, if◌then◌else◌}
 use Rattle.std.specs.Int.{abs_diff}
@@ -49,6 +50,20 @@ sine_from f h = decimal_of (if int_lt f.over (pos 0) then not (is_negative h) el
 
 unfoldable pub sine : Fraction → Result Fraction ValueFault
 sine f = within_limit 7 f (sine_from f (series (unsigned_abs f.over) f.under 20 2))
+
+-- a quotient in units of 10 ^ -12, if one more than it is at most 50 times the divisor, which is in units of 10 ^ -17
+abbrev pub quotient_by : Bool → ℕ → ℕ → Result Fraction ValueFault
+quotient_by negative n m = if nat_le ((rounded n m + 10 ^ 12) * 2000) m then decimal_of negative n m else Err PastBound
+
+abbrev pub differ : Bool → Bool → Bool
+differ a b = if a then not b else b
+
+abbrev pub tangent_from : Fraction → ℕ × ℕ → ℕ × ℕ → Result Fraction ValueFault
+tangent_from f s c = quotient_by (differ (int_lt f.over (pos 0)) (differ (is_negative s) (is_negative c)))
+    (distance s * unsigned_abs f.over / f.under * 10 ^ 12) (distance c)
+
+unfoldable pub tangent : Fraction → Result Fraction ValueFault
+tangent f = within_limit 7 f (tangent_from f (series (unsigned_abs f.over) f.under 20 2) (series (unsigned_abs f.over) f.under 20 1))
 
 -- up to 10 ^ 6: pi / 180 in units of 10 ^ -21, and 180 / pi in units of 10 ^ -18
 unfoldable pub in_radians : Fraction → Result Fraction ValueFault

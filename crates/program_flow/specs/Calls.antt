@@ -5,16 +5,15 @@ use Rattle.std.specs.Prelude.{ℕ, zero, suc, ◌+◌, Bool, true, false, not, �
 use Rattle.std.specs.Prelude.{is_none, is_some, Option, Some, None, if◌then◌else◌}
 use Rattle.std.specs.Fmt.{digits_onto}
 use Rattle.std.specs.List.{list_all}
-use Rattle.dmis_text.specs.Reading.{Reading}
 use Rattle.dmis_text.specs.declared.elements.Statement.{Statement}
 use Rattle.program_flow.specs.LookBack.{value_said}
 use Rattle.program_flow.specs.Values.{is_variable}
 use Rattle.program_flow.specs.Blocks.{part_of}
 use Rattle.program_flow.specs.declared.blocks.Part.{Part}
-use Rattle.program_flow.specs.declared.blocks.Part.TheVariants.{If, Select, Jump}
+use Rattle.program_flow.specs.declared.blocks.Part.TheVariants.{If, Select, Jump, Other}
 use Rattle.program_flow.specs.Flow as flow
 use Rattle.program_flow.specs.Flow.{Control, Turn, Valuation, carried, given_up, most, to, turn}
-use Rattle.program_flow.specs.Macros.{Macro, begins_macro, ends_macro, all_with_arguments, macro_named, outside, pairs_of, said_by, without_parameters}
+use Rattle.program_flow.specs.Macros.{Macro, begins_macro, ends_macro, is_macro_name, all_with_arguments, macro_named, outside, pairs_of, said_by, without_parameters}
 
 -- the statements of a macro, with its arguments in their places, or those outside macros, whose name is empty; and where the flow is there
 pub record Frame : Type 0 where
@@ -160,10 +159,18 @@ begun text = record { name = []; statements = outside text; control = to 0 [] } 
 abbrev pub carried_out : List Statement → List Statement
 carried_out text = trace most text (begun text) []
 
--- a text as it is carried out
-abbrev pub flow_reading : Reading → Reading
-flow_reading reading = record { statements = carried_out reading.statements; fault = reading.fault }
-
 -- no word of macros and calls
 abbrev pub is_plain : Statement → Bool
 is_plain s = not (is_call s || (begins_macro s || ends_macro s))
+
+-- it decides which statements are carried out, or says where they are: a statement of a block, a label, a macro or the call of one
+abbrev pub is_other : Part → Bool
+is_other Other = true
+is_other _ = false
+
+abbrev pub names_macro : List (List ℕ) → Bool
+names_macro [] = false
+names_macro (name ∷ arguments) = is_macro_name name
+
+abbrev pub is_of_flow : Statement → Bool
+is_of_flow s = if is_call s then names_macro s.params else not (is_plain s && is_other (part_of s))

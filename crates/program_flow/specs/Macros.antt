@@ -1,11 +1,11 @@
 -- The macros of a text, and what their parameters stand for (ISO 22093, MACRO and ENDMAC). An apostrophe is 39.
-use Rattle.std.specs.Prelude.{ℕ, Bool, true, false, not, ◌&&◌, ◌||◌, ◌==◌, List, [], ◌∷◌, ◌++◌, map, codes, bytes_eq}
+use Rattle.std.specs.Prelude.{ℕ, Bool, true, false, not, ◌&&◌, ◌==◌, List, [], ◌∷◌, ◌++◌, map, codes, bytes_eq}
 use Rattle.std.specs.Prelude.{◌+◌, drop, take, is_none, is_some, Option, Some, None, if◌then◌else◌}
 use Rattle.std.specs.Option.{option_map}
 use Rattle.dmis_text.specs.Reading.{text_reading}
 use Rattle.dmis_text.specs.declared.elements.Statement.{Statement}
 use Rattle.dmis_text.specs.declared.reading.TextFault.{TextFault}
-use Rattle.std.specs.List.{position}
+use Rattle.std.specs.List.{list_any, position}
 use Rattle.program_flow.specs.Parts.{trimmed}
 use Rattle.program_flow.specs.Values.{is_name_byte}
 use Rattle.program_flow.specs.Blocks.{is_label}
@@ -122,8 +122,7 @@ ends_macro s = is_none s.label && (bytes_eq s.word (codes "ENDMAC") && without_p
 
 -- whether a macro that began above these statements ends there, and its statements
 abbrev pub has_end : List Statement → Bool
-has_end [] = false
-has_end (s ∷ below) = ends_macro s || has_end below
+has_end below = list_any ends_macro below
 
 abbrev pub body_of : List Statement → List Statement
 body_of [] = []

@@ -1,9 +1,9 @@
 -- How the code holds parameters, macros and calls: no public clause cites it.
-use Rattle.std.specs.Prelude.{◌≡◌, ℕ, ◌+◌, Bool, true, false, not, ◌&&◌, ◌||◌, ◌-◌, nat_lt, List, [], ◌∷◌, if◌then◌else◌}
+use Rattle.std.specs.Prelude.{◌≡◌, ℕ, ◌+◌, Bool, true, false, not, ◌&&◌, ◌||◌, ◌-◌, nat_lt, List, [], ◌∷◌, ◌++◌, if◌then◌else◌}
 use Rattle.dmis_text.specs.declared.elements.Statement.{Statement}
 use Rattle.program_flow.specs.Calls.{Frame, next_of}
 use Rattle.program_flow.specs.Flow.{Control, to}
-use Rattle.program_flow.specs.Macros.{Macro, Pair, begins_macro, ends_macro, has_end}
+use Rattle.program_flow.specs.Macros.{Macro, Pair, begins_macro, comma_before, ends_macro, has_end}
 use Rattle.program_flow.specs.Turns.{moved}
 use Rattle.program_flow.specs.declared.blocks.Move.{Move}
 use Rattle.program_flow.specs.declared.calls.Call as code_call
@@ -25,6 +25,11 @@ frame_at name statements p = record { name = name; statements = statements; cont
 
 abbrev pub seen_call : code_call.Call → Frame
 seen_call c = frame_at c.name.items c.lines.items c.position
+
+-- parameters as a text, each after a comma, and the first after this mark
+abbrev pub params_after : ℕ → List (List ℕ) → List ℕ
+params_after mark [] = []
+params_after mark (param ∷ params) = mark ∷ (param ++ comma_before params)
 
 -- ---- the statements within macros, with each MACRO that has its ENDMAC, and that: those that are not outside
 

@@ -1,5 +1,5 @@
--- What is near to a sine, a cosine, an angle in radians or in degrees, or between numbers: inequalities between whole numbers alone.
-use Rattle.std.specs.Prelude.{ℕ, zero, suc, ◌+◌, ◌*◌, ◌^◌, ◌≤◌, Bool, false, pos, unsigned_abs, int_lt, if◌then◌else◌}
+-- What is near to a sine, a cosine, a tangent, an angle in radians or in degrees, or between numbers: inequalities between whole numbers alone.
+use Rattle.std.specs.Prelude.{ℕ, zero, suc, ◌+◌, ◌*◌, ◌^◌, ◌<◌, ◌≤◌, Bool, false, pos, unsigned_abs, int_lt, if◌then◌else◌}
 use Rattle.program_flow.specs.Numbers.{Fraction, opposite}
 
 -- a number as a difference over a third: (plus - minus) / under
@@ -51,6 +51,45 @@ pub record IsSine (f d : Fraction) : Type 0 where
   pub pairs : ℕ
   pub within : IsWithin (times (unsigned_abs f.over) f.under (partial_sum (unsigned_abs f.over) f.under (2 * pairs + 1) 2))
       (times (unsigned_abs f.over) f.under (partial_sum (unsigned_abs f.over) f.under (2 * pairs) 2)) (balance (turned_with f d))
+
+-- the opposite, if it is asked for
+abbrev pub flipped : Bool → Balance → Balance
+flipped negative a = if negative then record { plus = a.minus; minus = a.plus; under = a.under } else a
+
+abbrev pub product_of : Balance → Balance → Balance
+product_of a b = record { plus = a.plus * b.plus + a.minus * b.minus; minus = a.plus * b.minus + a.minus * b.plus; under = a.under * b.under }
+
+-- 10 ^ -12 more, and less
+abbrev pub more : Balance → Balance
+more a = record { plus = a.plus * 10 ^ 12 + a.under; minus = a.minus * 10 ^ 12; under = a.under * 10 ^ 12 }
+
+abbrev pub less : Balance → Balance
+less a = record { plus = a.plus * 10 ^ 12; minus = a.minus * 10 ^ 12 + a.under; under = a.under * 10 ^ 12 }
+
+pub record IsAtMost (a b : Balance) : Type 0 where
+  pub little : a.plus * b.under + b.minus * a.under ≤ b.plus * a.under + a.minus * b.under
+
+-- c is above zero, and d is within 10 ^ -12 of s / c
+pub record IsQuotient (s c d : Balance) : Type 0 where
+  pub some : c.minus < c.plus
+  pub below : IsAtMost s (product_of (more d) c)
+  pub above : IsAtMost (product_of (less d) c) s
+
+-- of partial sums with m and n terms after the first, both with their signs turned or neither
+abbrev pub IsTangentBy : Fraction → Fraction → Bool → ℕ → ℕ → Type 0
+IsTangentBy f d negative m n = IsQuotient
+    (times (unsigned_abs f.over) f.under (flipped negative (partial_sum (unsigned_abs f.over) f.under m 2)))
+    (flipped negative (partial_sum (unsigned_abs f.over) f.under n 1)) (balance (turned_with f d))
+
+-- of the tangent: the sine is between two partial sums, and so is the cosine, which is not zero. What is said is linear in both, so it holds
+-- between them if it holds at the ends
+pub record IsTangent (f d : Fraction) : Type 0 where
+  pub negative : Bool
+  pub pairs : ℕ
+  pub upper_upper : IsTangentBy f d negative (2 * pairs) (2 * pairs)
+  pub upper_lower : IsTangentBy f d negative (2 * pairs) (2 * pairs + 1)
+  pub lower_upper : IsTangentBy f d negative (2 * pairs + 1) (2 * pairs)
+  pub lower_lower : IsTangentBy f d negative (2 * pairs + 1) (2 * pairs + 1)
 
 -- pi is 3.14159265358979323846264338.., so between these, in units of 10 ^ -20
 abbrev pub pi_lower : ℕ

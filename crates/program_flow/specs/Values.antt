@@ -5,7 +5,7 @@ use Rattle.std.specs.Char.{is_ascii_digit, is_ascii_alphanumeric, is_ascii_alpha
 use Rattle.std.specs.List.{position, list_all}
 use Rattle.program_flow.specs.Numbers.{Fraction, and_then, reduced, sum, product, quotient, opposite, power, magnitude, whole_part, numeral}
 use Rattle.program_flow.specs.Roots.{root}
-use Rattle.program_flow.specs.Angles.{cosine, in_degrees, in_radians, sine}
+use Rattle.program_flow.specs.Angles.{cosine, in_degrees, in_radians, sine, tangent}
 use Rattle.program_flow.specs.Parts.{Parts, parts_of, begins_numeral}
 use Rattle.program_flow.specs.Parts.Parts.{Both, Opposite, Same, Called, Leaf}
 use Rattle.program_flow.specs.declared.places.Operator.{Operator}
@@ -93,8 +93,8 @@ applied Power f g = power f g
 -- a value by a function's name
 abbrev pub function_named : List ℕ → Fraction → Result Fraction ValueFault
 function_named name f = if bytes_eq name (codes "SQRT") then root f else (if bytes_eq name (codes "SIN") then sine f else
-    (if bytes_eq name (codes "COS") then cosine f else (if bytes_eq name (codes "DTOR") then in_radians f else
-    (if bytes_eq name (codes "RTOD") then in_degrees f else Err UnknownFunction))))
+    (if bytes_eq name (codes "COS") then cosine f else (if bytes_eq name (codes "TAN") then tangent f else
+    (if bytes_eq name (codes "DTOR") then in_radians f else (if bytes_eq name (codes "RTOD") then in_degrees f else Err UnknownFunction)))))
 
 -- parentheses, the value without its sign, or without its decimals, or another function
 abbrev pub function_of : List ℕ → Fraction → Result Fraction ValueFault

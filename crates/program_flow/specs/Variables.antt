@@ -1,5 +1,6 @@
 -- The variables that a program has declared, with what was assigned to them.
 use Rattle.std.specs.Prelude.{ℕ, suc, Bool, List, [], ◌∷◌, ◌++◌, slice_set, Option, Some, None, Result, Ok, Err, bytes_eq, if◌then◌else◌}
+use Rattle.std.specs.List as lists
 use Rattle.std.specs.Option.{option_map}
 use Rattle.program_flow.specs.Numbers.{Fraction}
 use Rattle.program_flow.specs.declared.faults.ValueFault.{ValueFault}
@@ -13,8 +14,7 @@ pub record Entry : Type 0 where
 
 -- the variable of a name
 abbrev pub find : List Entry → List ℕ → Option Entry
-find [] name = None
-find (e ∷ es) name = if bytes_eq e.name name then Some e else find es name
+find entries name = lists.find (λ (e : Entry). bytes_eq e.name name) entries
 
 -- what was assigned, if anything was
 abbrev pub assigned : Option Fraction → Result Fraction ValueFault

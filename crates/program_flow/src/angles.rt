@@ -1,4 +1,4 @@
-// Sines and cosines, and angles in other units.
+// Sines, cosines and tangents, and angles in other units.
 
 ghost use Rattle.std.specs.Prelude.{◌≡◌, ◌<◌, ◌≤◌, ◌+◌, ◌*◌, ◌^◌};
 ghost use Rattle.program_flow.specs.Angles as spec;
@@ -85,6 +85,48 @@ pub fn sine(number: Number) -> Result<Number, ValueFault>
         plus < minus
     };
     decimal_of(turned, plus.abs_diff(minus) * over, under * 100_000)
+}
+
+fn differ(left: bool, right: bool) -> bool
+    ensures { result ≡ spec.differ left right }
+{
+    if left { !right } else { right }
+}
+
+/// The quotient of a sine and a cosine, which are in units of 10^-17, or `PastBound` if it would not be near to the true one.
+fn quotient_of(negative: bool, sine: u128, cosine: u128) -> Result<Number, ValueFault>
+    requires sine { sine ≤ 10815 * 10 ^ 17 }
+    requires cosine { cosine ≤ 1545 * 10 ^ 17 }
+    ensures { result ≡ spec.quotient_by negative (sine * 10 ^ 12) cosine }
+{
+    if cosine == 0 {
+        return Err(ValueFault::PastBound);
+    }
+    let over = sine * 1_000_000_000_000;
+    let rounded = (2 * over + cosine) / (2 * cosine);
+    if (rounded + 1_000_000_000_000) * 2000 > cosine {
+        return Err(ValueFault::PastBound);
+    }
+    decimal_of(negative, over, cosine)
+}
+
+/// The tangent of a number of radians up to 7, or `PastBound`, also if one more than it is past 50 times the cosine.
+#[tactic(auto, unfolding(crate::specs::Angles::tangent))]
+pub(crate) fn tangent(number: Number) -> Result<Number, ValueFault>
+    ensures { result ≡ spec.tangent number }
+{
+    let (negative, over, under) = number.split();
+    if over > under * 7 {
+        return Err(ValueFault::PastBound);
+    }
+    let (more, less) = series(over, under, TERMS, 2);
+    let (plus, minus) = series(over, under, TERMS, 1);
+    let turned = differ(negative, differ(more < less, plus < minus));
+    quotient_of(
+        turned,
+        more.abs_diff(less) * over / under,
+        plus.abs_diff(minus),
+    )
 }
 
 /// Degrees up to 10^6 in radians, or `PastBound`.

@@ -69,25 +69,6 @@ fn push_word(
     made.extend_from_slice(&text)
 }
 
-fn push_others(
-    alloc: Global,
-    made: &mut Vec<u8>,
-    pairs: &[Pair],
-    params: &[Text],
-) -> Result<(), AllocError>
-    ensures { OnOk result (made.new.items ≡ made.old.items
-        ++ spec.comma_before (map (spec.replaced (map seen_pair pairs.now)) params.now)) }
-{
-    let mut left = params;
-    while let [first, others @ ..] = left {
-        let text = replaced(alloc, pairs, first)?;
-        made.extend_from_slice(b",")?;
-        made.extend_from_slice(&text)?;
-        left = others;
-    }
-    Ok(())
-}
-
 fn push_params(
     alloc: Global,
     made: &mut Vec<u8>,
@@ -97,13 +78,16 @@ fn push_params(
     ensures { OnOk result (made.new.items ≡ made.old.items
         ++ spec.params_text (map (spec.replaced (map seen_pair pairs.now)) params.now)) }
 {
-    let [first, others @ ..] = params else {
-        return Ok(());
-    };
-    let text = replaced(alloc, pairs, first)?;
-    made.extend_from_slice(b"/")?;
-    made.extend_from_slice(&text)?;
-    push_others(alloc, made, pairs, others)
+    let mut mark = b'/';
+    let mut left = params;
+    while let [first, others @ ..] = left {
+        made.push(mark)?;
+        let text = replaced(alloc, pairs, first)?;
+        made.extend_from_slice(&text)?;
+        mark = b',';
+        left = others;
+    }
+    Ok(())
 }
 
 /// The text of a statement, with arguments in the places of parameters.

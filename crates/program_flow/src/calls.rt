@@ -4,7 +4,7 @@ ghost use Rattle.std.specs.Prelude.{◌≡◌, ◌∷◌, ◌||◌, ◌+◌, ℕ
 ghost use Rattle.std.specs.List.{list_all};
 ghost use Rattle.dmis_text.specs.declared.elements.Statement.{Statement};
 ghost use Rattle.program_flow.specs.Variables.{entry_value};
-ghost use Rattle.program_flow.specs.Values.{all_name_bytes, is_variable};
+ghost use Rattle.program_flow.specs.Values.{is_variable};
 ghost use Rattle.program_flow.specs.Blocks.{part_of};
 ghost use Rattle.program_flow.specs.declared.blocks.Part.TheVariants.{Other};
 ghost use Rattle.program_flow.specs.Calls as spec;
@@ -20,7 +20,7 @@ use crate::lines::{Line, read_lines};
 use crate::macros::{Macro, begins_macro, ends_macro, is_call, macro_named};
 use crate::positions::Position;
 use crate::turns::{Header, Turned, assigned_text, turn};
-use crate::values::is_name_byte;
+use crate::values::is_variable;
 use crate::variables::Variables;
 use dmis_text::{Statement, Statements, Text, TextFault};
 use std::alloc::{AllocError, Global};
@@ -109,34 +109,11 @@ fn followed(alloc: Global, line: u64, given: Option<Turned>) -> Result<Outcome, 
     }
 }
 
-fn are_name_bytes(text: &[u8]) -> bool
-    ensures { result ≡ all_name_bytes text.now }
-{
-    text.iter().all(|byte| is_name_byte(*byte))
-}
-
-/// Whether a text is an identifier: a letter, then letters, digits and `_`.
-fn is_identifier(text: &[u8]) -> bool
-    ensures { result ≡ is_variable text.now }
-{
-    match text {
-        [first, ..] if first.is_ascii_alphabetic() => are_name_bytes(text),
-        _ => false,
-    }
-}
-
-/// Whether each of these texts is one.
+/// Whether each of these texts is an identifier.
 fn are_identifiers(texts: &[Text]) -> bool
     ensures { result ≡ list_all is_variable texts.now }
 {
-    let mut left = texts;
-    while let [first, others @ ..] = left {
-        if !is_identifier(first) {
-            return false;
-        }
-        left = others;
-    }
-    true
+    texts.iter().all(|text| is_variable(text))
 }
 
 /// Whether a macro has that many parameters, and each is an identifier.

@@ -5,7 +5,7 @@ ghost use Rattle.dmis_text.specs.declared.elements.Statement.{Statement};
 ghost use Rattle.program_flow.specs.LookBack.{Holds};
 ghost use Rattle.program_flow.specs.Variables.{entry_value};
 ghost use Rattle.std.specs.Option.{option_map};
-ghost use Rattle.program_flow.specs.Calls.{Frame, Step, carried_out, decides, decision, decision_at, given_up_in, is_lead, lead_text, line_digits, next_of, step, told, told_step};
+ghost use Rattle.program_flow.specs.Calls.{Frame, Step, carried_out, decides, decision, decision_at, given_up_in, is_lead, is_of_flow, lead_text, line_digits, next_of, step, told, told_step};
 ghost use Rattle.program_flow.specs.Macros.{said_by};
 ghost use Rattle.program_flow.specs.Flow.{given_up};
 ghost use Rattle.program_flow.specs.Left.{GivesNext, IsGiven, frames_of, left_of, size};
@@ -15,7 +15,7 @@ ghost use Rattle.program_flow.specs.Stepped.{HasEnded, Leads, Steps, ended_on};
 use crate::blocks::{Move, Part, from, part_of};
 use crate::calls::{Call, Outcome, outcome_at, outcome_in};
 use crate::lines::Line;
-use crate::macros::{is_call, split};
+use crate::macros::{begins_macro, ends_macro, is_call, is_macro_name, split};
 use crate::positions::Position;
 use crate::variables::Variables;
 use dmis_text::Statement;
@@ -98,6 +98,17 @@ pub fn is_lead(statement: &Statement) -> bool
     ensures { result ≡ is_lead statement.now }
 {
     (is_call(statement) || decides(part_of(statement))) && !statement.params.is_empty()
+}
+
+/// Whether a statement decides which statements are carried out, or says where they are: one of a block, a label, a macro or the call of one.
+pub fn is_of_flow(statement: &Statement) -> bool
+    ensures { result ≡ is_of_flow statement.now }
+{
+    if is_call(statement) {
+        let name = statement.params.first();
+        return name.is_some_and(|name| is_macro_name(name));
+    }
+    begins_macro(statement) || ends_macro(statement) || !matches!(part_of(statement), Part::Other)
 }
 
 impl<'a> Flow<'a> {

@@ -8,7 +8,7 @@
 //!   `calls`: what follows at a statement where macros are called; `positions`: where the flow is
 //! - `flow`: `Flow`, the statements in the order in which they are carried out
 //! - `faults`: why an expression or a statement has no value
-//! - `numbers`: `Number`, a fraction in lowest terms, and its arithmetic; `roots`: `SQRT`; `angles`: sines, cosines, units of angles
+//! - `numbers`: `Number`, a fraction in lowest terms, and its arithmetic; `roots`: `SQRT`; `angles`: sines, cosines, tangents, units of angles
 //! - `places`: where the operators of an expression are; `parts`: what it is made of; `numerals`; `values`: `value_of`
 //! - `variables`: `Variables`, the table of what was assigned; `texts`: `expanded`, names in texts
 #![tactic(auto)]
@@ -39,7 +39,7 @@ mod variables;
 
 pub use angles::{cosine, in_radians, sine};
 pub use faults::ValueFault;
-pub use flow::{Flow, Given, is_lead};
+pub use flow::{Flow, Given, is_lead, is_of_flow};
 pub use numbers::Number;
 pub use texts::expanded;
 pub use values::{computed, is_text, value_of};

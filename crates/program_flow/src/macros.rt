@@ -1,6 +1,6 @@
 // The macros of a text, and what their parameters stand for.
 
-ghost use Rattle.std.specs.Prelude.{◌≡◌, ◌==◌, ◌<◌, ◌≤◌, ◌++◌, IfOk, IfSome, OnOk, bytes_eq, codes, length, map};
+ghost use Rattle.std.specs.Prelude.{◌≡◌, ◌==◌, ◌≤◌, ◌++◌, IfOk, OnOk, length, map};
 ghost use Rattle.std.specs.List.{position};
 ghost use Rattle.std.specs.Option.{option_map};
 ghost use Rattle.program_flow.specs.Calls.{is_call};
@@ -9,8 +9,8 @@ ghost use Rattle.program_flow.specs.Named as named;
 ghost use Rattle.program_flow.specs.Named.{count_ends, inside, seen_macro, seen_pair};
 
 use crate::blocks::is_label;
-use crate::parts::trimmed;
-use crate::values::is_name_byte;
+use crate::parts::{first_place, trimmed};
+use crate::values::{is_name_byte, is_text};
 use dmis_text::{Statement, Text};
 use std::alloc::{AllocError, Global};
 
@@ -67,7 +67,7 @@ pub(crate) fn replaced(alloc: Global, pairs: &[Pair], text: &[u8]) -> Result<Vec
     Ok(made)
 }
 
-fn is_macro_name(name: &[u8]) -> bool
+pub(crate) fn is_macro_name(name: &[u8]) -> bool
     ensures { result ≡ spec.is_macro_name name.now }
 {
     match name {
@@ -86,28 +86,15 @@ fn name_if(begins: bool, name: &[u8]) -> Option<&[u8]>
     }
 }
 
-fn is_macro_word(word: &[u8]) -> bool
-    ensures { result ≡ bytes_eq word.now (codes "MACRO") }
-{
-    word == b"MACRO".as_slice()
-}
-
-fn equals_place(text: &[u8]) -> Option<usize>
-    ensures value { result ≡ position (λ b. b == 61) text.now }
-    ensures within { IfSome result (λ i. i < length text.now) }
-{
-    text.iter().position(|byte| *byte == b'=')
-}
-
 /// The label of a macro without parameters, whose word has it.
 fn name_before(word: &[u8]) -> Option<&[u8]>
     ensures { option_map (λ n. n.now) result
         ≡ spec.name_before word.now (position (λ b. b == 61) word.now) }
 {
-    let index = equals_place(word)?;
+    let index = first_place(b'=', word)?;
     let (front, _) = word.split_at(index);
     let (_, rest) = word.split_at(index + 1);
-    name_if(is_macro_word(trimmed(rest)), trimmed(front))
+    name_if(is_text(trimmed(rest), "MACRO"), trimmed(front))
 }
 
 /// The label of the macro that begins at a statement.
@@ -115,7 +102,7 @@ fn macro_name<'b>(statement: &'b Statement<'_>) -> Option<&'b [u8]>
     ensures { option_map (λ n. n.now) result ≡ spec.macro_name statement.now }
 {
     match &statement.label {
-        Some(label) => name_if(is_macro_word(&statement.word), label),
+        Some(label) => name_if(is_text(&statement.word, "MACRO"), label),
         None if statement.params.is_empty() => name_before(&statement.word),
         None => None,
     }
@@ -132,30 +119,21 @@ pub(crate) fn begins_macro(statement: &Statement) -> bool
 pub(crate) fn ends_macro(statement: &Statement) -> bool
     ensures { result ≡ spec.ends_macro statement.now }
 {
-    let word: &[u8] = &statement.word;
-    statement.label.is_none() && word == b"ENDMAC".as_slice() && statement.params.is_empty()
+    statement.label.is_none() && is_text(&statement.word, "ENDMAC") && statement.params.is_empty()
 }
 
 /// Whether a statement calls a macro.
 pub(crate) fn is_call(statement: &Statement) -> bool
     ensures { result ≡ is_call statement.now }
 {
-    let word: &[u8] = &statement.word;
-    statement.label.is_none() && word == b"CALL".as_slice() && !statement.params.is_empty()
+    statement.label.is_none() && is_text(&statement.word, "CALL") && !statement.params.is_empty()
 }
 
 /// Whether a macro that began above these statements ends there.
 fn has_end(below: &[Statement]) -> bool
     ensures { result ≡ spec.has_end below.now }
 {
-    let mut left = below;
-    while let [first, others @ ..] = left {
-        if ends_macro(first) {
-            return true;
-        }
-        left = others;
-    }
-    false
+    below.iter().any(|statement| ends_macro(statement))
 }
 
 /// The statements above the first ENDMAC.

@@ -1,7 +1,8 @@
 // What an expression is made of.
 
-ghost use Rattle.std.specs.Prelude.{◌≡◌, ◌<◌, ◌≤◌, ◌==◌, ℕ, IfSome, length, take, drop};
-ghost use Rattle.std.specs.List.{position};
+ghost use Rattle.std.specs.Prelude.{◌≡◌, ◌<◌, ◌≤◌, ◌==◌, ℕ, true, IfSome, length, take, drop};
+ghost use Rattle.std.specs.List.{list_all, position};
+ghost use Rattle.program_flow.specs.ValueCuts as code;
 ghost use Rattle.program_flow.specs.ValueCuts.{seen};
 ghost use Rattle.program_flow.specs.Parts as spec;
 
@@ -43,9 +44,28 @@ pub(crate) fn kept_length(text: &[u8]) -> usize
 pub(crate) fn trimmed(text: &[u8]) -> &[u8]
     ensures { result.now ≡ spec.trimmed text.now }
 {
+    if let [first, .., last] = text
+        && !is_blank(*first)
+        && !is_blank(*last)
+    {
+        return text;
+    }
     let rest = without_front(text);
     let (kept, _) = rest.split_at(kept_length(rest));
     kept
+}
+
+fn is_bare_byte(byte: u8) -> bool
+    ensures { result ≡ code.is_bare byte }
+{
+    !matches!(byte, b' ' | b'\t' | b'+' | b'-' | b'*' | b'/' | b'(')
+}
+
+/// Whether a text has neither blanks nor operators nor parentheses.
+fn is_bare(text: &[u8]) -> bool
+    ensures { result ≡ list_all code.is_bare text.now }
+{
+    text.iter().all(|byte| is_bare_byte(*byte))
 }
 
 fn both_around(rank: Rank, text: &[u8], index: usize) -> Cut<'_>
@@ -97,12 +117,23 @@ fn signed_parts(text: &[u8]) -> Cut<'_>
     }
 }
 
-/// The parts of an expression.
-#[tactic(auto, unfolding(crate::specs::Parts::parts_of))]
-pub fn parts_of(text: &[u8]) -> Cut<'_>
-    ensures { seen result ≡ spec.parts_of text.now }
+/// Whether there is no operator after the first byte, so that none of two operands is before a sign.
+fn is_lone(text: &[u8]) -> bool
+    ensures { result ≡ true → spec.parts_of_trimmed text.now ≡ spec.signed_parts text.now }
 {
-    let text = trimmed(text);
+    match text {
+        [_, rest @ ..] => is_bare(rest),
+        [] => false,
+    }
+}
+
+/// The parts of an expression without blanks at both ends.
+fn parts_of_trimmed(text: &[u8]) -> Cut<'_>
+    ensures { seen result ≡ spec.parts_of_trimmed text.now }
+{
+    if is_lone(text) {
+        return signed_parts(text);
+    }
     if let Some(index) = last_operator(Rank::Sums, text) {
         return both_around(Rank::Sums, text, index);
     }
@@ -110,4 +141,15 @@ pub fn parts_of(text: &[u8]) -> Cut<'_>
         Some(index) => both_around(Rank::Products, text, index),
         None => signed_parts(text),
     }
+}
+
+/// The parts of an expression.
+#[tactic(auto, unfolding(crate::specs::Parts::parts_of))]
+pub fn parts_of(text: &[u8]) -> Cut<'_>
+    ensures { seen result ≡ spec.parts_of text.now }
+{
+    if is_bare(text) {
+        return Cut::Leaf(text);
+    }
+    parts_of_trimmed(trimmed(text))
 }

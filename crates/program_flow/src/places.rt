@@ -1,6 +1,8 @@
 // Where in an expression a byte is, and where the operators are.
 
 ghost use Rattle.std.specs.Prelude.{◌≡◌, ◌<◌, ◌+◌, ◌^◌, ◌≤◌, ◌==◌, IfSome, length, slice_index};
+ghost use Rattle.std.specs.List.{list_all};
+ghost use Rattle.program_flow.specs.ValueCuts as code;
 ghost use Rattle.program_flow.specs.declared.places.Place.TheVariants.{Wanted};
 ghost use Rattle.program_flow.specs.Parts as spec;
 
@@ -136,11 +138,31 @@ fn operator_from(rank: Rank, depth: usize, place: Place, text: &[u8]) -> Option<
     }
 }
 
+/// Whether no operator of a rank begins with this byte.
+fn lacks(rank: Rank, byte: u8) -> bool
+    ensures { result ≡ code.lacks rank byte }
+{
+    match rank {
+        Rank::Sums => !is_sign(byte),
+        Rank::Products => !(byte == b'/' || byte == b'*'),
+        Rank::Powers => byte != b'*',
+    }
+}
+
+fn all_lack(rank: Rank, text: &[u8]) -> bool
+    ensures { result ≡ list_all (code.lacks rank) text.now }
+{
+    text.iter().all(|byte| lacks(rank, *byte))
+}
+
 /// Where the last operator of a rank is in a whole text.
 pub(crate) fn last_operator(rank: Rank, text: &[u8]) -> Option<usize>
     ensures value { result ≡ spec.last_operator rank 0 Wanted text.now }
     ensures within { IfSome result (λ i. i < length text.now) }
 {
+    if all_lack(rank, text) {
+        return None;
+    }
     let _in_memory = text.len();
     operator_from(rank, 0, Place::Wanted, text)
 }

@@ -5,7 +5,7 @@ ghost use Rattle.std.specs.Int.{IsGcd};
 ghost use Rattle.program_flow.specs.Numbers.{Fraction, IsBounded, gcd, numeral, rounded_product};
 ghost use Rattle.program_flow.specs.ValueExamples.{Gives, Fails, a_is_seven, assigning, declaring, refusal, start};
 ghost use Rattle.program_flow.specs.LookBack.{Holds, is_declaration, value_said};
-ghost use Rattle.program_flow.specs.Nearness.{IsCosine, IsInDegrees, IsInRadians, IsSine};
+ghost use Rattle.program_flow.specs.Nearness.{IsCosine, IsInDegrees, IsInRadians, IsSine, IsTangent};
 ghost use Rattle.program_flow.specs.Texts.{expanded};
 ghost use Rattle.program_flow.specs.Values.{computed, function_of, value_of};
 ghost use Rattle.program_flow.specs.Roots.{IsRoot};
@@ -45,10 +45,11 @@ pub fn functions_have_values()
         → IsOk (function_of (codes "DTOR") f) }
 {}
 
-/// A sine and a cosine are within 10^-12 of the true ones.
+/// A sine, a cosine and a tangent are within 10^-12 of the true ones.
 pub fn sines_and_cosines_are_near()
     ensures sines { (f d : Fraction) → IsBounded f → function_of (codes "SIN") f ≡ Ok d → IsSine f d }
     ensures cosines { (f d : Fraction) → IsBounded f → function_of (codes "COS") f ≡ Ok d → IsCosine f d }
+    ensures tangents { (f d : Fraction) → IsBounded f → function_of (codes "TAN") f ≡ Ok d → IsTangent f d }
 {}
 
 /// Angles in other units are within 10^-12 of the true ones.
@@ -107,8 +108,8 @@ pub fn roots_are_decimals()
     ensures lower_case { Fails (codes "sqrt(A)") fault.UnknownFunction }
 {}
 
-/// Sines and cosines are of radians; both, and angles in other units, are decimals of twelve places.
-#[tactic(auto, unfolding(crate::specs::Values::value_within, crate::specs::Values::numeral_value, crate::specs::Parts::parts_of, crate::specs::Numbers::reduced, crate::specs::Numbers::gcd_within, crate::specs::Numbers::multiplied, crate::specs::Angles::sine, crate::specs::Angles::cosine, crate::specs::Angles::in_radians, crate::specs::Angles::in_degrees, crate::specs::Angles::series))]
+/// Sines, cosines and tangents are of radians; these, and angles in other units, are decimals of twelve places.
+#[tactic(auto, unfolding(crate::specs::Values::value_within, crate::specs::Values::numeral_value, crate::specs::Parts::parts_of, crate::specs::Numbers::reduced, crate::specs::Numbers::gcd_within, crate::specs::Numbers::multiplied, crate::specs::Angles::sine, crate::specs::Angles::cosine, crate::specs::Angles::tangent, crate::specs::Angles::in_radians, crate::specs::Angles::in_degrees, crate::specs::Angles::series))]
 pub fn angles_are_decimals()
     ensures zero_sine { Gives (codes "SIN(0)") (pos 0) 1 }
     ensures sine { Gives (codes "SIN(1)") (pos 105183873101) 125000000000 }
@@ -132,6 +133,18 @@ pub fn angles_are_decimals()
     ensures straight { Gives (codes "COS(DTOR(180))") (negsuc 0) 1 }
     ensures whole_turn { Gives (codes "SIN(DTOR(360))") (pos 0) 1 }
     ensures eighth { Gives (codes "COS(DTOR(45))") (pos 707106781187) 1000000000000 }
+    ensures zero_tangent { Gives (codes "TAN(0)") (pos 0) 1 }
+    ensures tangent { Gives (codes "TAN(1)") (pos 311481544931) 200000000000 }
+    ensures opposite_tangent { Gives (codes "TAN(-1)") (negsuc 311481544930) 200000000000 }
+    ensures second_quarter { Gives (codes "TAN(2)") (negsuc 1092519931630) 500000000000 }
+    ensures third_quarter { Gives (codes "TAN(4)") (pos 23156425647) 20000000000 }
+    ensures opposite_quarter { Gives (codes "TAN(-4)") (negsuc 23156425646) 20000000000 }
+    ensures greatest_tangent { Gives (codes "TAN(A)") (pos 217861995681) 250000000000 }
+    ensures thirty { Gives (codes "TAN(DTOR(30))") (pos 577350269189) 1000000000000 }
+    ensures steepest { Gives (codes "TAN(1.4192)") (pos 3272928099699) 500000000000 }
+    ensures too_steep { Fails (codes "TAN(1.4193)") fault.PastBound }
+    ensures right_tangent { Fails (codes "TAN(DTOR(90))") fault.PastBound }
+    ensures past_tangent { Fails (codes "TAN(-7.001)") fault.PastBound }
     ensures past_sine { Fails (codes "SIN(-7.001)") fault.PastBound }
     ensures past_cosine { Fails (codes "COS(A+.001)") fault.PastBound }
     ensures past_radians { Fails (codes "DTOR(1E6+1)") fault.PastBound }

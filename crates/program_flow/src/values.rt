@@ -1,12 +1,11 @@
 // The value of an expression.
 
 ghost use Rattle.std.specs.Prelude.{◌≡◌, IfOk, bytes_eq};
-ghost use Rattle.program_flow.specs.ValueCuts.{seen};
-ghost use Rattle.program_flow.specs.Parts as cuts;
+ghost use Rattle.program_flow.specs.ValueCuts.{seen, written_or};
 ghost use Rattle.program_flow.specs.Values as spec;
 ghost use Rattle.program_flow.specs.Variables.{entry_value};
 
-use crate::angles::{cosine, in_degrees, in_radians, sine};
+use crate::angles::{cosine, in_degrees, in_radians, sine, tangent};
 use crate::faults::ValueFault;
 use crate::numbers::Number;
 use crate::numerals::numeral_value;
@@ -38,7 +37,8 @@ fn all_name_bytes(text: &[u8]) -> bool
     text.iter().all(|byte| is_name_byte(*byte))
 }
 
-fn is_variable(text: &[u8]) -> bool
+/// Whether a text is a name of a variable: a letter, then letters, digits and `_`.
+pub(crate) fn is_variable(text: &[u8]) -> bool
     ensures { result ≡ spec.is_variable text.now }
 {
     match text {
@@ -89,6 +89,8 @@ fn function_named(name: &[u8], number: Number) -> Result<Number, ValueFault>
         sine(number)
     } else if is_text(name, "COS") {
         cosine(number)
+    } else if is_text(name, "TAN") {
+        tangent(number)
     } else if is_text(name, "DTOR") {
         in_radians(number)
     } else if is_text(name, "RTOD") {
@@ -141,7 +143,7 @@ fn value_within(text: &[u8], variables: &Variables, levels: u64) -> Result<Numbe
 }
 
 /// The value of an expression of numerals, names of variables, `+ - * / **`, signs, parentheses, and `ABS`, `INT`, `SQRT`, `SIN`, `COS`,
-/// `DTOR` and `RTOD`. Operators of one rank, `**` too, apply from left to right. The left operand's fault comes first.
+/// `TAN`, `DTOR` and `RTOD`. Operators of one rank, `**` too, apply from left to right. The left operand's fault comes first.
 pub fn value_of(text: &[u8], variables: &Variables) -> Result<Number, ValueFault>
     ensures { result ≡ spec.value_of (entry_value variables.now) text.now }
 {
@@ -157,14 +159,25 @@ fn is_alone(cut: &Cut) -> bool
     }
 }
 
-/// Whether a text is a numeral, with one sign or without.
-fn is_constant(text: &[u8]) -> bool
-    ensures { result ≡ spec.is_constant (cuts.parts_of text.now) }
+/// Whether a text of these parts is a numeral, with one sign or without.
+fn is_constant(cut: &Cut) -> bool
+    ensures { result ≡ spec.is_constant (seen cut.now) }
 {
-    match parts_of(text) {
+    match cut {
         Cut::Opposite(rest) | Cut::Same(rest) => is_alone(&parts_of(rest)),
-        cut => is_alone(&cut),
+        cut => is_alone(cut),
     }
+}
+
+/// What a text that is no numeral has as its value, if it has one.
+fn other_value(text: &[u8], variables: &Variables) -> Option<Number>
+    ensures { written_or text.now result ≡ spec.computed (entry_value variables.now) text.now }
+{
+    let cut = parts_of(text);
+    if is_constant(&cut) {
+        return None;
+    }
+    parts_value(&cut, variables, LEVELS - 1).ok()
 }
 
 /// A text with the value of its expression in its place, as a numeral. A numeral stays as it is, and so does what has no value.
@@ -172,10 +185,7 @@ pub fn computed(text: Vec<u8>, variables: &Variables) -> Result<Vec<u8>, AllocEr
     ensures { IfOk result (λ out. out.items
         ≡ spec.computed (entry_value variables.now) text.items) }
 {
-    if is_constant(&text) {
-        return Ok(text);
-    }
-    let Ok(number) = value_of(&text, variables) else {
+    let Some(number) = other_value(&text, variables) else {
         return Ok(text);
     };
     let mut out = Vec::new(*text.allocator());

@@ -59,11 +59,7 @@ impl Variable {
 fn find<'a>(entries: &'a [Variable], name: &[u8]) -> Option<&'a Variable>
     ensures { option_map (λ v. v.now) result ≡ spec.find entries.now name.now }
 {
-    match entries {
-        [] => None,
-        [first, _rest @ ..] if first.has_name(name) => Some(first),
-        [_, rest @ ..] => find(rest, name),
-    }
+    entries.iter().find(|variable| variable.has_name(name))
 }
 
 /// Where the variable of a name is.

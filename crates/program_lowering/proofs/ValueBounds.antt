@@ -8,7 +8,7 @@ use Rattle.std.proofs.Math.Nat.{div-le_self, mul-div_cancel', pow-suc}
 use Rattle.std.proofs.lemmas.Bool.{leb-true, eqb-false}
 use Rattle.std.proofs.lemmas.Nat.{mul-le}
 use Rattle.program_flow.proofs.Divisors.{gcd-is, unsigned_abs-signed}
-use Rattle.program_flow.specs.Angles.{cosine, in_degrees, in_radians, sine}
+use Rattle.program_flow.specs.Angles.{cosine, in_degrees, in_radians, sine, tangent}
 use Rattle.program_flow.specs.LookBack.{value_said}
 use Rattle.program_flow.specs.Numbers.{Fraction, IsBounded, and_then, bound, gcd, inverse, magnitude, multiplied, opposite, power, product, quotient}
 use Rattle.program_flow.specs.Numbers.{reduced, signed, sum, whole_number, whole_part}
@@ -141,6 +141,10 @@ pub cosine-bounded : (f : Fraction) → Bounded (cosine f)
 unfolding cosine
 cosine-bounded f = either _ _ _ (reduced-bounded _ _ (ten-some 12)) (refused _)
 
+tangent-bounded : (f : Fraction) → Bounded (tangent f)
+unfolding tangent
+tangent-bounded f = either _ _ _ (either _ _ _ (reduced-bounded _ _ (ten-some 12)) (refused _)) (refused _)
+
 pub radians-bounded : (f : Fraction) → Bounded (in_radians f)
 unfolding in_radians
 radians-bounded f = either _ _ _ (reduced-bounded _ _ (ten-some 12)) (refused _)
@@ -157,7 +161,7 @@ function-bounded : (name : List ℕ) (f : Fraction) → IsBounded f → Bounded 
 function-bounded name f h =
     either _ _ _ (given f h) (either _ _ _ (given (magnitude f) (record { over = h.over; some = h.some; under = h.under }))
     (either _ _ _ (given (whole_part f) (whole-bounded f h)) (either _ _ _ (root-bounded f) (either _ _ _ (sine-bounded f)
-    (either _ _ _ (cosine-bounded f) (either _ _ _ (radians-bounded f) (either _ _ _ (degrees-bounded f) (refused _))))))))
+    (either _ _ _ (cosine-bounded f) (either _ _ _ (tangent-bounded f) (either _ _ _ (radians-bounded f) (either _ _ _ (degrees-bounded f) (refused _)))))))))
 
 applied-bounded : (operator : Operator) (f g : Fraction) → IsBounded f → IsBounded g → Bounded (applied operator f g)
 applied-bounded Plus f g h k = sum-bounded f g h k

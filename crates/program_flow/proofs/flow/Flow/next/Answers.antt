@@ -1,9 +1,8 @@
-use Rattle.std.proofs.Common.{◌≡◌, ◌∙◌, [], ◌∷◌, ◌+◌, ◌<◌, List, ap, arith, map, subst, sym}
+use Rattle.std.proofs.Common.{◌≡◌, ◌∙◌, [], ◌∷◌, ◌+◌, ◌<◌, List, ap, arith, subst, sym}
 use Rattle.dmis_text.specs.declared.elements.Statement.{Statement}
 use Rattle.program_flow.specs.Flow.{carried}
 use Rattle.program_flow.specs.Left.{IsGiven, Left, left_of, size}
-use Rattle.program_flow.specs.Named.{seen_call, seen_position}
-use Rattle.program_flow.proofs.Frames.{ends-next, fewer-left, given-on, gives-next, passes-next, stops-next}
+use Rattle.program_flow.proofs.Frames.{ends-next, fewer-seen, given-on, gives-next, passes-next, stops-next}
 use Rattle.program_flow.proofs.flow.Flow.next.Goals as goal
 
 pub returns-in-Ends-clause-given : goal.returns-in-Ends-clause-given
@@ -15,15 +14,7 @@ returns-in-Ends-clause-given c = λ above h.
 pub loop-self-preserved : goal.loop-self-preserved
 loop-self-preserved c =
     let fewer : c.self.inside.turns ≡ c.take_turn.new.self.turns + 1 = omega (arith, c.loop-self-test.true, c.take_turn.ensures.turns) in
-    let mid : Left = record {
-      macros = c.self.inside.macros.items;
-      calls = map seen_call c.self.inside.calls.items;
-      outside = c.self.inside.outside.items;
-      control = seen_position c.self.inside.position;
-      turns = c.self.inside.turns;
-    } in
-    let less : size c.take_turn.new.self < size c.loop-self.self =
-    subst (λ (l : Left). size c.take_turn.new.self < size l) c.self.view_is (fewer-left mid c.take_turn.new.self fewer) in
+    let less : size c.take_turn.new.self < size c.loop-self.self = fewer-seen _ c.take_turn.new.self _ c.self.view_is fewer in
     let step = rw c.in-Passes.is at c.in_ok-take_turn.ensures.step in (
       c.take_turn.ensures.outside ∙ (ap (λ (l : Left). l.outside) c.self.view_is ∙ c.loop-self.invariant.0),
       omega (arith, less, c.loop-self.invariant.1),
@@ -45,15 +36,7 @@ returns-in-Gives-clause-given c = λ above h.
 pub returns-in-Gives-clause-fewer : goal.returns-in-Gives-clause-fewer
 returns-in-Gives-clause-fewer c =
     let fewer : c.self.inside.turns ≡ c.take_turn.new.self.turns + 1 = omega (arith, c.loop-self-test.true, c.take_turn.ensures.turns) in
-    let mid : Left = record {
-      macros = c.self.inside.macros.items;
-      calls = map seen_call c.self.inside.calls.items;
-      outside = c.self.inside.outside.items;
-      control = seen_position c.self.inside.position;
-      turns = c.self.inside.turns;
-    } in
-    let less : size c.take_turn.new.self < size c.loop-self.self =
-    subst (λ (l : Left). size c.take_turn.new.self < size l) c.self.view_is (fewer-left mid c.take_turn.new.self fewer) in
+    let less : size c.take_turn.new.self < size c.loop-self.self = fewer-seen _ c.take_turn.new.self _ c.self.view_is fewer in
     omega (arith, less, c.loop-self.invariant.1)
 
 pub returns-in-Stops-clause-given : goal.returns-in-Stops-clause-given
@@ -70,15 +53,7 @@ returns-in-Stops-clause-given c = λ above h.
 pub returns-in-Stops-clause-fewer : goal.returns-in-Stops-clause-fewer
 returns-in-Stops-clause-fewer c =
     let fewer : c.self.inside.turns ≡ c.take_turn.new.self.turns + 1 = omega (arith, c.loop-self-test.true, c.take_turn.ensures.turns) in
-    let mid : Left = record {
-      macros = c.self.inside.macros.items;
-      calls = map seen_call c.self.inside.calls.items;
-      outside = c.self.inside.outside.items;
-      control = seen_position c.self.inside.position;
-      turns = c.self.inside.turns;
-    } in
-    let less : size c.take_turn.new.self < size c.loop-self.self =
-    subst (λ (l : Left). size c.take_turn.new.self < size l) c.self.view_is (fewer-left mid c.take_turn.new.self fewer) in
+    let less : size c.take_turn.new.self < size c.loop-self.self = fewer-seen _ c.take_turn.new.self _ c.self.view_is fewer in
     omega (arith, less, c.loop-self.invariant.1)
 
 pub returns-clause-given : goal.returns-clause-given
