@@ -1,13 +1,14 @@
 """Programs with variables, branches, selections, loops, jumps and macros, made at random and lowered.
 
 Each is carried out here, too, by a second reading: of the tree that its text is written from, with exact fractions, and with power series for
-the functions. The moves, in Cartesian coordinates, the touches that bores are given, their lines, their order and where each decision leads
-have to be those of `dme lower`; or the line of the first statement that cannot be carried out that of its refusal. Some of the programs are
+the functions. The moves, in Cartesian coordinates, the touches that bores are given, their lines and passes, their order and where each decision
+leads have to be those of `dme lower`; or the line of the first statement that cannot be carried out that of its refusal. Some of the programs are
 flat already. What is lowered is lowered again, and stays.
 
 `run` calls this with a few programs; by itself: tests/lowered.py [COUNT], 3000 by default.
 """
 
+import collections
 import fractions
 import math
 import random
@@ -52,12 +53,23 @@ def inverse_tangent(number):
 PI = 16 * inverse_tangent(5) - 4 * inverse_tangent(239)
 
 
-def wave(angle, first):
+def series(angle, first):
     """The sine (from the first power on) or the cosine (from the power of zero on) of radians, as a power series."""
     if abs(angle) > 7:
         raise NoValue
-    terms = ((-1) ** it * angle ** (2 * it + first) / math.factorial(2 * it + first) for it in range(26))
-    return rounded(sum(terms), 12)
+    return sum((-1) ** it * angle ** (2 * it + first) / math.factorial(2 * it + first) for it in range(26))
+
+
+def wave(angle, first):
+    return rounded(series(angle, first), 12)
+
+
+def tangent(angle):
+    """It is not taken if one more than it is past 50 times the cosine."""
+    sine, cosine = series(angle, 1), series(angle, 0)
+    if abs(cosine) + abs(sine) > 50 * cosine**2:
+        raise NoValue
+    return rounded(sine / cosine, 12)
 
 
 def root(number):
@@ -79,6 +91,8 @@ FUNCTIONS = {
     "SIN(DTOR({}))": lambda it: wave(turned(it, PI / 180), 1),
     "COS({}/4)": lambda it: wave(it / 4, 0),
     "SIN({}/4)": lambda it: wave(it / 4, 1),
+    "TAN(DTOR({}))": lambda it: tangent(turned(it, PI / 180)),
+    "TAN({}/4)": lambda it: tangent(it / 4),
     "RTOD({})": lambda it: turned(it, 180 / PI),
 }
 
@@ -209,11 +223,14 @@ class Made:
         last = self.add("ENDMES")
 
         def carry_out(flow):
-            flow.out.append(f"MEAS/POINT,F(P{flow.values[name]}),1 $$ line {first}")
+            flow.comes_to(first)
+            flow.write(first, f"MEAS/POINT,F(P{flow.values[name]}),1")
+            flow.comes_to(line)
             values = flow.around(line, texts) if form == "POL" else flow.decimals(line, texts)
             values = ",".join(map(written, flow.micrometres(line, values)))
-            flow.out.append(f"PTMEAS/CART,{values},0.000000,0.000000,1.000000 $$ line {line}")
-            flow.out.append(f"ENDMES $$ line {last}")
+            flow.write(line, f"PTMEAS/CART,{values},0.000000,0.000000,1.000000")
+            flow.comes_to(last)
+            flow.write(last, "ENDMES")
             flow.place = None
 
         return carry_out
@@ -231,11 +248,14 @@ class Made:
         def carry_out(flow):
             if count == 2:
                 raise Refused(last)
-            flow.out.append(f"MEAS/CIRCLE,F(B),{count} $$ line {first}")
+            flow.comes_to(first)
+            flow.write(first, f"MEAS/CIRCLE,F(B),{count}")
+            flow.comes_to(last)
             for it in range(count):
-                flow.move(last, centre)
+                flow.write_move(last, centre)
                 flow.touch_outwards(last, centre, diameter / 2, turned(fractions.Fraction(360 * it, count), PI / 180), PLANES[plane])
-            flow.out.append(f"ENDMES $$ line {last}")
+            flow.write_move(last, centre)
+            flow.write(last, "ENDMES")
             flow.place = None
 
         return carry_out
@@ -255,7 +275,8 @@ class Made:
         line = self.add(f"UNITS/MM,{name}")
 
         def carry_out(flow):
-            flow.out.append(f"UNITS/MM $$ line {line}")
+            flow.comes_to(line)
+            flow.write(line, "UNITS/MM")
             flow.unit, flow.place = {"ANGDEC": PI / 180, "ANGRAD": 1, "ANGDMS": None}[name], None
 
         return carry_out
@@ -419,7 +440,14 @@ class Flow:
 
     def __init__(self, lines):
         self.lines, self.values, self.out, self.leads, self.open, self.calls, self.turns = lines, Scope({}, {}), [], [], [], [], 0
-        self.plane, self.unit, self.place = PLANES["XYPLAN"], PI / 180, None
+        self.plane, self.unit, self.place, self.passes = PLANES["XYPLAN"], PI / 180, None, collections.Counter()
+
+    def comes_to(self, line):
+        self.passes[line] += 1
+
+    def write(self, line, text):
+        passes = f", pass {self.passes[line]}" if self.passes[line] > 1 else ""
+        self.out.append(f"{text} $$ line {line}{passes}")
 
     def lead(self, line, word, target):
         """A decision: what follows is the statement on a line, or below it, if it ends a macro or begins one."""
@@ -429,15 +457,19 @@ class Flow:
         self.leads.append(f"dme: line {line}: {word} is left out: it leads to line {target}")
 
     def move(self, line, values):
-        self.out.append(f"GOTO/CART,{','.join(map(written, self.micrometres(line, values)))} $$ line {line}")
+        self.comes_to(line)
+        self.write_move(line, values)
         self.place = values
+
+    def write_move(self, line, values):
+        self.write(line, f"GOTO/CART,{','.join(map(written, self.micrometres(line, values)))}")
 
     def touch_outwards(self, line, centre, radius, turn, plane):
         """A touch from the centre: the surface looks back to it."""
         way = [value for _, value in sorted(zip(plane, (wave(turn, 0), wave(turn, 1), fractions.Fraction(0))))]
         place = ",".join(map(written, self.micrometres(line, [at + rounded(radius * it, 6) for at, it in zip(centre, way)])))
         direction = ",".join(written(int(rounded(-it, 6) * 10**6), 6) for it in way)
-        self.out.append(f"PTMEAS/CART,{place},{direction} $$ line {line}")
+        self.write(line, f"PTMEAS/CART,{place},{direction}")
 
     def decimals(self, line, texts):
         """Values of coordinates: one that is not whole is written with six decimals."""

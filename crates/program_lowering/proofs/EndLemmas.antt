@@ -14,10 +14,16 @@ use Rattle.program_lowering.proofs.RunLemmas.{run_from_start, with_texts}
 use Rattle.program_lowering.proofs.Runs.{Written, run, steps_up_to}
 use Rattle.program_lowering.specs.declared.lowering.Lowered.{Lowered}
 use Rattle.program_lowering.specs.Inches.{all_stated}
-use Rattle.program_lowering.proofs.Names.{◌++◌}
-use Rattle.program_lowering.specs.Carried.{all_steps, frames_closed}
-use Rattle.program_lowering.proofs.EvenLemmas.{AllOn, run_through}
-use Rattle.program_lowering.specs.Lowering.{prepared}
+use Rattle.program_lowering.proofs.Names.{◌++◌, ◌∷◌, Bool}
+use Rattle.program_lowering.specs.Carried.{Knows, Seen, all_steps, frames_closed, seen_by, touches_due}
+use Rattle.program_lowering.specs.Cartesian.{all_cartesian, cartesian, reference_after}
+use Rattle.program_lowering.specs.declared.cartesian.Reference.{Reference}
+use Rattle.program_lowering.specs.EvenTouches.{touched_from}
+use Rattle.program_lowering.specs.Valued.{all_valued, valued}
+use Rattle.program_flow.specs.Flow.{carried}
+use Rattle.program_flow.specs.Variables.{Entry}
+use Rattle.program_lowering.proofs.EvenLemmas.{AllOn, Sees, due_on, run_through, sees_after, touched_next}
+use Rattle.program_lowering.specs.Lowering.{kept_passes, prepared}
 use Rattle.program_lowering.specs.StoredFrames.{frame_notes, if_stored}
 
 -- all of a text
@@ -55,7 +61,7 @@ unfolding meaning_of
 written_of frames choices text w h =
     let statements = prepared choices text in
     let t = has_texts (steps_up_to frames (text_reading text).fault (length (lines text)) [] (all_stated [] (kept choices statements)))
-    (ended_lines (flat_lines (all_stated [] (kept choices statements)))) (notes_from choices [] statements)
+    (ended_lines (flat_lines (kept_passes choices statements) (all_stated [] (kept choices statements)))) (notes_from choices [] statements)
     (frame_notes (all_stated [] (kept choices statements))) w
     (sym (run_from_start frames choices (text_reading text).fault (length (lines text)) statements) ∙ h) in
     record {
@@ -71,7 +77,7 @@ unfolding meaning_of
 refused_of frames choices text e h =
     let statements = prepared choices text in
     has_refusal (steps_up_to frames (text_reading text).fault (length (lines text)) [] (all_stated [] (kept choices statements)))
-    (ended_lines (flat_lines (all_stated [] (kept choices statements)))) (notes_from choices [] statements)
+    (ended_lines (flat_lines (kept_passes choices statements) (all_stated [] (kept choices statements)))) (notes_from choices [] statements)
     (frame_notes (all_stated [] (kept choices statements))) e
     (sym (run_from_start frames choices (text_reading text).fault (length (lines text)) statements) ∙ h)
 
@@ -95,6 +101,34 @@ refused_at_statement frames choices fault n line xs all left c refusal split on 
 pub ends_at : (frames : List (List ℕ × Point)) (choices : Choices) (fault : Option TextFault) (n : ℕ) (all : List Statement) (c : Carried)
     → all ≡ [] → run frames choices fault n all c ≡ Err (ended fault c.above.number n)
 ends_at frames choices fault n all c e = rw e refl
+
+-- the next statement that comes out, with what is given before it, and what is below it
+pub split_next : (choices : Choices) (told above left rest : List Statement) (ref : Reference) (seen : Seen) (t : Statement) → Sees choices told seen
+    → left ≡ t ∷ rest → touched_from choices told (all_cartesian ref (all_valued above left))
+    ≡ (touches_due choices seen (cartesian ref (valued above t)) ++ cartesian ref (valued above t) ∷ [])
+    ++ touched_from choices (cartesian ref (valued above t) ∷ told)
+    (all_cartesian (reference_after ref (cartesian ref (valued above t))) (all_valued (carried above t) rest))
+split_next choices told above left rest ref seen t sees is =
+    ap (λ (ss : List Statement). touched_from choices told (all_cartesian ref (all_valued above ss))) is
+    ∙ touched_next choices told (all_cartesian (reference_after ref (cartesian ref (valued above t))) (all_valued (carried above t) rest)) seen
+    (cartesian ref (valued above t)) sees
+
+-- what is known below it
+pub goes_round : (frames : List (List ℕ × Point)) (choices : Choices) (text : List ℕ) (told above left : List Statement)
+    (below : List Statement → List Statement) (ref after : Reference) (seen now : Seen) (c d : Carried) (t : Statement) (entries : List Entry)
+    (declared : Bool) → Sees choices told seen → left ≡ t ∷ below (carried above t)
+    → all_steps frames choices c (touches_due choices seen (cartesian ref (valued above t)) ++ cartesian ref (valued above t) ∷ []) ≡ Ok (false, d)
+    → after ≡ reference_after ref (cartesian ref (valued above t)) → now ≡ seen_by choices seen (cartesian ref (valued above t))
+    → Knows (carried above t) entries declared → run frames choices (text_reading text).fault (length (lines text))
+    (touched_from choices told (all_cartesian ref (all_valued above left))) c ≡ run_of frames choices text
+    → (next : List Statement) × Knows next entries declared × ((more : List Statement) × Sees choices more now
+    × (run frames choices (text_reading text).fault (length (lines text)) (touched_from choices more (all_cartesian after (all_valued next (below next)))) d
+    ≡ run_of frames choices text))
+goes_round frames choices text told above left below ref after seen now c d t entries declared sees is steps refers looks knows same =
+    let s = cartesian ref (valued above t) in
+    let past = goes_past frames choices (text_reading text).fault (length (lines text)) s.line _ _ _ c d
+    (split_next choices told above left (below (carried above t)) ref seen t sees is) (due_on choices seen s) steps in
+    (carried above t, knows, (s ∷ told, rw looks (sees_after choices told seen s sees), rw refers (past ∙ same)))
 
 -- what is answered where a statement is refused
 pub at_statement : (frames : List (List ℕ × Point)) (choices : Choices) (text : List ℕ) (refused : StatementFault) (fault : Option TextFault) (n line : ℕ)

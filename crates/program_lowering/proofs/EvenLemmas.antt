@@ -3,7 +3,7 @@ use Rattle.program_lowering.proofs.Names.{[], ◌&&◌, ◌++◌, ◌==◌, ◌�
 use Rattle.program_lowering.proofs.Names.{BadArguments, bytes_eq, Carried, GivesStep, Choices, cond, context_at, Err, false, in_manual, is_badly_formed, is_none, IfOk, judged, length, ltb-true, List}
 use Rattle.program_lowering.proofs.Names.{left_out_in, manual_after, nat_le, nat_lt, nat_tests, nearest, None, not, NotDmis, Ok, Option, or_else, Point, refl, Refusal, Result, SaidBy, Some}
 use Rattle.program_lowering.proofs.Names.{Statement, StatementMeaning, step, suc, subst, sym, TextFault, touched, touched_with, true, without_parameters, zero, ℕ, ◌<◌, ◌+◌}
-use Rattle.std.proofs.Common.{filter, flat_map, length-append}
+use Rattle.std.proofs.Common.{filter, length-append}
 use Rattle.dmis_program.specs.Keywords.{keyword_of}
 use Rattle.dmis_program.specs.Sayings.{said_by, said_of}
 use Rattle.dmis_program.specs.Judging.{settled}
@@ -23,14 +23,15 @@ use Rattle.std.proofs.Common.{codes, decimal}
 use Rattle.program_lowering.specs.Flats.{note_line}
 use Rattle.program_lowering.specs.Lowering.{note_for, note_start}
 use Rattle.program_lowering.specs.Reasons.{touches_text}
+use Rattle.program_lowering.specs.Texts.{begins_with}
 use Rattle.program_lowering.specs.Words.{given_word}
 use Rattle.tool_rack.specs.Setups.{has_name}
 use Rattle.program_lowering.specs.StoredFrames.{by_frame, selecting}
 use Rattle.program_lowering.specs.declared.words.Reason.TheVariants.{Manual, Touched}
-use Rattle.program_lowering.specs.Carried.{Seen, judged_in, noted, all_steps, bore_among, features_after, filling_due, latest, seen_after, seen_by, touch_steps, touched_step, touches_due, unless_closed, with_feature}
+use Rattle.program_lowering.specs.Carried.{Seen, entered, judged_in, noted, all_steps, bore_among, features_after, filling_due, latest, seen_after, seen_by, touch_steps, touched_step, touches_due, unless_closed, with_feature}
 use Rattle.program_lowering.specs.Cartesian.{◌>>=◌, Triple}
 use Rattle.program_lowering.specs.EvenTouches.{EachBelow, Filling, all_touched, angle_text, begun, bore_at, bore_named, bore_said, ends_block, feature_name, filling_of, filling_with}
-use Rattle.program_lowering.specs.EvenTouches.{from_centre, given_by, is_bare, is_circle, is_endmes, is_touch, ends_nominals, notice, to_centre, touch_at, touched_from, touches_before, touches_to, waiting, waiting_after}
+use Rattle.program_lowering.specs.EvenTouches.{from_centre, given_by, is_bare, is_endmes, is_touch, ends_nominals, last_of, notice, there_and_back, to_centre, touch_at, touched_from, touches_before, touches_to, waiting, waiting_after}
 use Rattle.program_lowering.specs.declared.even.Bore.{Bore}
 use Rattle.program_lowering.specs.declared.even.Feature.{Feature}
 use Rattle.program_lowering.specs.declared.even.Touch.{Touch}
@@ -135,8 +136,8 @@ run_through frames choices fault n line (s ∷ xs) left c on =
     go (Ok (true, d)) more = refl
     go (Ok (false, d)) more = more d
 
-touches_on : (line : ℕ) (c : Triple) (touches : List Touch) → AllOn line (flat_map (from_centre line c) touches)
-touches_on line c [] = tt
+touches_on : (line : ℕ) (c : Triple) (touches : List Touch) → AllOn line (there_and_back line c touches)
+touches_on line c [] = (refl, tt)
 touches_on line c (t ∷ touches) = (refl, (refl, touches_on line c touches))
 
 given_on : (line : ℕ) (o : Option Filling) → AllOn line (given_by line o)
@@ -207,7 +208,7 @@ notice_stays choices used line f = go (choices.stored_frames && true)
     go false = refl
 
 pub notice_next : (frames : List (List ℕ × Point)) (choices : Choices) (c : Carried) (line : ℕ) (f : Filling) → (c.above.number == 0) ≡ false
-    → step frames choices c (notice line f) ≡ Ok (false, noted c (notice line f) (Some Touched))
+    → step frames choices c (notice line f) ≡ Ok (false, noted (entered c line) (notice line f) (Some Touched))
 notice_next frames choices c line f some = rw (some, notice_left choices (manual_after c.manual (notice line f)) line f) refl
 
 pub notice_first : (frames : List (List ℕ × Point)) (choices : Choices) (c : Carried) (line : ℕ) (f : Filling) → c.above.number ≡ 0
@@ -216,16 +217,16 @@ unfolding judged_in keyword_of
 notice_first frames choices c line f none = rw (none, notice_stays choices (has_name c.used) line f) refl
 
 touch_by_touch : (frames : List (List ℕ × Point)) (choices : Choices) (line : ℕ) (centre : Triple) (c : Carried) (touches : List Touch)
-    → touch_steps frames choices line centre c touches ≡ all_steps frames choices c (flat_map (from_centre line centre) touches)
-touch_by_touch frames choices line centre c [] = refl
+    → touch_steps frames choices line centre c touches ≡ all_steps frames choices c (there_and_back line centre touches)
+touch_by_touch frames choices line centre c [] = sym (one_step frames choices c (to_centre line centre))
 touch_by_touch frames choices line centre c (t ∷ touches) =
     go (all_steps frames choices c (from_centre line centre t)) (λ d. touch_by_touch frames choices line centre d touches)
-    ∙ sym (steps_append frames choices c (from_centre line centre t) (flat_map (from_centre line centre) touches))
+    ∙ sym (steps_append frames choices c (from_centre line centre t) (there_and_back line centre touches))
   where
     go : (r : Result (Bool × Carried) Refusal) → ((d : Carried) → touch_steps frames choices line centre d touches
-        ≡ all_steps frames choices d (flat_map (from_centre line centre) touches))
+        ≡ all_steps frames choices d (there_and_back line centre touches))
         → unless_closed r (λ d. touch_steps frames choices line centre d touches)
-        ≡ unless_closed r (λ d. all_steps frames choices d (flat_map (from_centre line centre) touches))
+        ≡ unless_closed r (λ d. all_steps frames choices d (there_and_back line centre touches))
     go (Err refusal) more = refl
     go (Ok (true, d)) more = refl
     go (Ok (false, d)) more = more d
@@ -233,19 +234,19 @@ touch_by_touch frames choices line centre c (t ∷ touches) =
 pub filling_first : (frames : List (List ℕ × Point)) (choices : Choices) (c : Carried) (line : ℕ) (f : Filling) → c.above.number ≡ 0
     → all_steps frames choices c (given_by line (Some f)) ≡ Err NotDmis
 filling_first frames choices c line f none = ap (λ (r : Result (Bool × Carried) Refusal). unless_closed r
-    (λ d. all_steps frames choices d (flat_map (from_centre line f.centre) f.touches))) (notice_first frames choices c line f none)
+    (λ d. all_steps frames choices d (there_and_back line f.centre f.touches))) (notice_first frames choices c line f none)
 
 pub filling_next : (frames : List (List ℕ × Point)) (choices : Choices) (c d e : Carried) (line : ℕ) (f : Filling) (centre : Triple) (touches : List Touch)
-    (r : Result Bool StatementFault) → d ≡ noted c (notice line f) (Some Touched) → GivesStep r e (touch_steps frames choices line centre d touches)
+    (r : Result Bool StatementFault) → d ≡ noted (entered c line) (notice line f) (Some Touched) → GivesStep r e (touch_steps frames choices line centre d touches)
     → centre ≡ f.centre → touches ≡ f.touches → (c.above.number == 0) ≡ false → GivesStep r e (all_steps frames choices c (given_by line (Some f)))
 filling_next frames choices c d e line f centre touches r after g at_centre all some =
     let is : touch_steps frames choices line centre d touches ≡ all_steps frames choices c (given_by line (Some f)) =
     touch_by_touch frames choices line centre d touches
-    ∙ (ap (λ (x : Triple). all_steps frames choices d (flat_map (from_centre line x) touches)) at_centre
-    ∙ (ap (λ (xs : List Touch). all_steps frames choices d (flat_map (from_centre line f.centre) xs)) all
-    ∙ (ap (λ (x : Carried). all_steps frames choices x (flat_map (from_centre line f.centre) f.touches)) after
+    ∙ (ap (λ (x : Triple). all_steps frames choices d (there_and_back line x touches)) at_centre
+    ∙ (ap (λ (xs : List Touch). all_steps frames choices d (there_and_back line f.centre xs)) all
+    ∙ (ap (λ (x : Carried). all_steps frames choices x (there_and_back line f.centre f.touches)) after
     ∙ sym (ap (λ (r : Result (Bool × Carried) Refusal). unless_closed r (λ d. all_steps frames choices d
-    (flat_map (from_centre line f.centre) f.touches))) (notice_next frames choices c line f some))))) in
+    (there_and_back line f.centre f.touches))) (notice_next frames choices c line f some))))) in
     subst (λ (due : Result (Bool × Carried) Refusal). GivesStep r e due) is g
 
 -- ---- a statement after what is given before it
@@ -375,7 +376,7 @@ waits (s ∷ above) w h =
     let c = go (keyword_of s.word) (λ g. waits above w g) h in record { wanted = c.wanted; none = c.none }
   where
     go : (k : Keyword) → (waiting above ≡ Some w → Waits above w) → waiting_after (waiting above) k s ≡ Some w → Counts above (said_of k s) w
-    go word.Meas more g = begun_counts above (is_circle s.params) (said_of word.Meas s) w g
+    go word.Meas more g = begun_counts above (begins_with (codes "CIRCLE") s.params) (said_of word.Meas s) w g
     go word.Ptmeas more g = absurd cc
     go word.Endmes more g = absurd cc
     go word.Dmismn more g = quiet above word.Dmismn (said_of word.Dmismn s) w refl (said_of_if word.Dmismn s) (more g)
@@ -507,27 +508,33 @@ some_more bore n t earlier new touch h g k =
     let next : suc t ≡ t + 1 = omega arith in
     subst (λ (m : ℕ). touches_to bore n m ≡ Some new) next (rw (h, g, k) refl)
 
-touches_kept : (line : ℕ) (c : Triple) (touches : List Touch) → length (filter is_touch (flat_map (from_centre line c) touches)) ≡ length touches
+touches_kept : (line : ℕ) (c : Triple) (touches : List Touch) → length (filter is_touch (there_and_back line c touches)) ≡ length touches
 touches_kept line c [] = refl
 touches_kept line c (t ∷ touches) = ap suc (touches_kept line c touches)
 
-each_below : (line : ℕ) (c : Triple) (touches : List Touch) (before : Statement) → EachBelow (to_centre line c) before (flat_map (from_centre line c) touches)
-each_below line c [] before = tt
+each_below : (line : ℕ) (c : Triple) (touches : List Touch) (before : Statement) → EachBelow (to_centre line c) before (there_and_back line c touches)
+each_below line c [] before = ((λ e. absurd cc), tt)
 each_below line c (t ∷ touches) before = ((λ e. absurd cc), ((λ e. refl), each_below line c touches _))
+
+ends_there : (line : ℕ) (c : Triple) (touches : List Touch) (before : Statement) → last_of before (there_and_back line c touches) ≡ to_centre line c
+ends_there line c [] before = refl
+ends_there line c (t ∷ touches) before = ends_there line c touches _
 
 record IsFilled (above : List Statement) (line : ℕ) (w : Wanted) (bore : Option Bore) (given : List Statement) : Type 0 where
   count : (given ≡ [] → ⊥) → length (filter is_touch given) ≡ w.count
+  back : (b : Bore) (before : Statement) → bore ≡ Some b → (given ≡ [] → ⊥) → last_of before given ≡ to_centre line b.centre
   below : (b : Bore) (before : Statement) → bore ≡ Some b → EachBelow (to_centre line b.centre) before given
 
 filled_with : (above : List Statement) (line : ℕ) (w : Wanted) (o : Option Bore) → IsFilled above line w o (given_by line (filling_with w o))
-filled_with above line w None = record { count = λ some. absurd (some refl); below = λ b before e. absurd cc }
+filled_with above line w None = record { count = λ some. absurd (some refl); back = λ b before e some. absurd cc; below = λ b before e. absurd cc }
 filled_with above line w (Some bore) = go (touches_to bore w.count w.count) refl
   where
     go : (o : Option (List Touch)) → touches_to bore w.count w.count ≡ o → IsFilled above line w (Some bore)
         (given_by line (o >>= λ touches. Some (record { name = w.name; count = w.count; centre = bore.centre; touches = touches })))
-    go None e = record { count = λ some. absurd (some refl); below = λ b before h. tt }
+    go None e = record { count = λ some. absurd (some refl); back = λ b before h some. absurd (some refl); below = λ b before h. tt }
     go (Some touches) e = record {
       count = λ some. touches_kept line bore.centre touches ∙ touches_count bore w.count w.count touches e;
+      back = λ b before h some. let is : bore ≡ b = cc in ends_there line bore.centre touches _ ∙ ap (λ (x : Bore). to_centre line x.centre) is;
       below = λ b before h. let is : bore ≡ b = cc in subst (λ (x : Bore). EachBelow (to_centre line x.centre) before
           (given_by line (Some (record { name = w.name; count = w.count; centre = bore.centre; touches = touches })))) is
           ((λ g. absurd cc), each_below line bore.centre touches _);
@@ -538,7 +545,7 @@ filled : (above : List Statement) (s : Statement) (w : Wanted) → waiting above
 filled above s w e = rw e (go (ends_block (in_manual above) s) (nat_le 3 w.count && nat_le w.count 1000))
   where
     none : IsFilled above s.line w (bore_named above w.name) []
-    none = record { count = λ some. absurd (some refl); below = λ b before h. tt }
+    none = record { count = λ some. absurd (some refl); back = λ b before h some. absurd (some refl); below = λ b before h. tt }
 
     go : (a b : Bool) → IsFilled above s.line w (bore_named above w.name)
         (cond a (given_by s.line (cond b (filling_with w (bore_named above w.name)) None)) [])
@@ -553,3 +560,7 @@ asked_count above s w e = (filled above s w e).count
 pub asked_below : (above : List Statement) (s : Statement) (w : Wanted) (bore : Bore) → waiting above ≡ Some w → bore_named above w.name ≡ Some bore
     → EachBelow (to_centre s.line bore.centre) s (touches_before above s)
 asked_below above s w bore e h = (filled above s w e).below bore s h
+
+pub asked_back : (above : List Statement) (s : Statement) (w : Wanted) (bore : Bore) → waiting above ≡ Some w → bore_named above w.name ≡ Some bore
+    → (touches_before above s ≡ [] → ⊥) → last_of s (touches_before above s) ≡ to_centre s.line bore.centre
+asked_back above s w bore e h some = (filled above s w e).back bore s h some

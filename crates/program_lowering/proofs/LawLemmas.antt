@@ -20,7 +20,7 @@ use Rattle.program_flow.specs.Calls.{carried_out}
 use Rattle.program_flow.specs.Flow.{carried}
 use Rattle.program_flow.proofs.Comes.{all_carried_out}
 use Rattle.program_lowering.specs.Valued.{all_valued, new_params}
-use Rattle.program_lowering.specs.Lowering.{counted_at, kept_above, prepared}
+use Rattle.program_lowering.specs.Lowering.{counted_at, kept_above, kept_passes, prepared}
 use Rattle.program_lowering.specs.StoredFrames.{is_used}
 use Rattle.program_lowering.proofs.FrameLemmas.{same_line}
 use Rattle.program_lowering.proofs.Names.{subst}
@@ -98,8 +98,8 @@ pub programs_read_back : (frames : List (List ℕ × Point)) (choices : Choices)
     → program_of frames (ended_lines heads ++ flat_program choices text) ≡ Ok m
 unfolding meaning_of
 programs_read_back frames choices text heads m few comments h =
-    ap (λ (t : List ℕ). program_of frames t) (sym (ended_append heads (flat_lines (all_stated [] (kept choices (prepared choices text))))))
-    ∙ reads_back frames (text_reading text).fault (length (lines text)) (all_stated [] (kept choices (prepared choices text))) heads m
+    ap (λ (t : List ℕ). program_of frames t) (sym (ended_append heads (flat_lines (kept_passes choices (prepared choices text)) (all_stated [] (kept choices (prepared choices text))))))
+    ∙ reads_back frames (text_reading text).fault (length (lines text)) (kept_passes choices (prepared choices text)) (all_stated [] (kept choices (prepared choices text))) heads m
     (text_short choices text few) comments h
 
 pub texts_stay : (frames : List (List ℕ × Point)) (choices : Choices) (text : List ℕ) (heads : List (List ℕ)) (m : Meaning)
@@ -108,8 +108,8 @@ pub texts_stay : (frames : List (List ℕ × Point)) (choices : Choices) (text :
     ≡ acts_of frames (all_stated [] (kept choices (prepared choices text)))
 unfolding meaning_of
 texts_stay frames choices text heads m few comments h =
-    ap (λ (t : List ℕ). acts_of frames (text_reading t).statements) (sym (ended_append heads (flat_lines (all_stated [] (kept choices (prepared choices text))))))
-    ∙ acts_back frames (text_reading text).fault (length (lines text)) (all_stated [] (kept choices (prepared choices text))) heads m
+    ap (λ (t : List ℕ). acts_of frames (text_reading t).statements) (sym (ended_append heads (flat_lines (kept_passes choices (prepared choices text)) (all_stated [] (kept choices (prepared choices text))))))
+    ∙ acts_back frames (text_reading text).fault (length (lines text)) (kept_passes choices (prepared choices text)) (all_stated [] (kept choices (prepared choices text))) heads m
     (text_short choices text few) comments h
 
 pub sources_keep : (frames : List (List ℕ × Point)) (choices : Choices) (text : List ℕ) (m : Meaning) → TextsFit text → program_of frames text ≡ Ok m

@@ -1,6 +1,7 @@
 pub mod Names
 pub mod AboveLemmas
 pub mod Runs
+pub mod PassLemmas
 pub mod RunLemmas
 pub mod Solid
 pub mod SolidLemmas

@@ -5,6 +5,10 @@ use Rattle.program_lowering.proofs.Names.{digit_value, element_of, eqb, false, F
 use Rattle.program_lowering.proofs.Names.{is_plain, Last, leb-true, length, length-append, length-decimal-le, line_role, List, list_all}
 use Rattle.program_lowering.proofs.Names.{list_all-append, map, may_stand, nat_le, nat_lt, nat_tests, None, not, not-true, pieces, refl, Role}
 use Rattle.program_lowering.proofs.Names.{Statement, statement_of, true, turned, with_commas, ℕ}
+use Rattle.program_lowering.proofs.Names.{◌%◌, ◌/◌, ◌==◌, append-nil, subst, suc, sym, zero}
+use Rattle.program_lowering.specs.Flats.{with_pass}
+use Rattle.std.proofs.Common.{mod-lt, lt-ltb}
+use Rattle.std.specs.Fmt.{digit_glyph, digits, digits_onto}
 use Rattle.program_lowering.proofs.Solid.{is_bare, solid, stands, IsSolid}
 use Rattle.program_lowering.proofs.SolidLemmas.{all_plain, cut_slash, no_slash, no_equals, first_piece, last_piece, first_stands, open_not_blank}
 use Rattle.program_lowering.proofs.SolidLemmas.{element_same, element_before_blank, plain_stands, solid_plain}
@@ -129,11 +133,8 @@ digits_stand (d ∷ ds) h = and_from (may_stand true d) (list_all (may_stand tru
 abbrev tail : ℕ → List ℕ
 tail line = codes " $$ line " ++ decimal line
 
-tail_clean : (line : ℕ) → line < 2 ^ 64 → is_clean false (tail line) ≡ true
-tail_clean line few = digits_stand (decimal line) (decimal_is_IsNumeral line few).0.1
-
-tail_content : (line : ℕ) → before_comment false (tail line) ≡ 32 ∷ []
-tail_content line = refl
+tail_clean : (line : ℕ) (more : List ℕ) → line < 2 ^ 64 → list_all (may_stand true) more ≡ true → is_clean false (tail line ++ more) ≡ true
+tail_clean line more few h = rw (list_all-append (may_stand true) (decimal line) more, digits_stand (decimal line) (decimal_is_IsNumeral line few).0.1) h
 
 tail_length : (line : ℕ) → line < 2 ^ 64 → length (tail line) ≤ 30
 tail_length line few = omega (arith, length-append (codes " $$ line ") (decimal line), length-decimal-le 20 line (omega arith) (omega (arith, few)) few)
@@ -195,14 +196,60 @@ solid_held f line h few = record {
   few = few;
 }
 
-pub line_read : (f : Flat) (line : ℕ) → IsHeld f line → line_role false (flat_line f line) ≡ Last (flat_text f ++ 32 ∷ [])
-line_read f line h =
+-- with more in the comment
+read_more : (f : Flat) (line : ℕ) (more : List ℕ) → IsHeld f line → list_all (may_stand true) more ≡ true → length (flat_line f line ++ more) ≤ 4096
+    → line_role false (flat_line f line ++ more) ≡ Last (flat_text f ++ 32 ∷ [])
+read_more f line more h g short =
     let bytes = text_stands f.word f.params h.word h.params in
-    let content : before_comment false (flat_line f line) ≡ flat_text f ++ 32 ∷ [] = content_before false (flat_text f) (tail line) bytes in
-    let clean : is_clean false (flat_line f line) ≡ true = clean_before false (flat_text f) (tail line) bytes (tail_clean line h.few) in
+    let whole : flat_line f line ++ more ≡ flat_text f ++ (tail line ++ more) = append_assoc (flat_text f) (tail line) more in
+    let content : before_comment false (flat_text f ++ (tail line ++ more)) ≡ flat_text f ++ 32 ∷ [] =
+    content_before false (flat_text f) (tail line ++ more) bytes in
+    let clean : is_clean false (flat_text f ++ (tail line ++ more)) ≡ true =
+    clean_before false (flat_text f) (tail line ++ more) bytes (tail_clean line more h.few g) in
     let some : 1 ≤ length (flat_text f) = omega (arith, length-append f.word (after_word f.params), h.some_word) in
-    let long : nat_lt 4096 (length (flat_line f line)) ≡ false = grind (arith, nat_tests, h.short) in
-    rw (long, clean, content, not_blank (flat_text f) (32 ∷ []) bytes some, not_continued false (flat_text f) bytes) refl
+    let long : nat_lt 4096 (length (flat_text f ++ (tail line ++ more))) ≡ false = grind (arith, nat_tests, ap (λ (xs : List ℕ). length xs) whole, short) in
+    rw whole (rw (long, clean, content, not_blank (flat_text f) (32 ∷ []) bytes some, not_continued false (flat_text f) bytes) refl)
+
+-- the digits of any number
+all_stand : (k n : ℕ) (after : List ℕ) → list_all (may_stand true) after ≡ true → list_all (may_stand true) (digits_onto k 10 false n after) ≡ true
+all_stand zero n after h = h
+all_stand (suc k) n after h = go (n / 10 == 0) (glyph_stands (n % 10) (mod-lt n (omega arith))) (λ g. all_stand k (n / 10) _ g)
+  where
+    glyph_stands : (d : ℕ) → d < 10 → may_stand true (digit_glyph false d) ≡ true
+    glyph_stands d small = rw (lt-ltb d 10 small) (grind (arith, nat_tests, small))
+
+    go : (b : Bool) → may_stand true (digit_glyph false (n % 10)) ≡ true
+        → (list_all (may_stand true) (digit_glyph false (n % 10) ∷ after) ≡ true
+        → list_all (may_stand true) (digits_onto k 10 false (n / 10) (digit_glyph false (n % 10) ∷ after)) ≡ true)
+        → list_all (may_stand true) (cond b (digit_glyph false (n % 10) ∷ after) (digits_onto k 10 false (n / 10) (digit_glyph false (n % 10) ∷ after))) ≡ true
+    go true g more = rw g h
+    go false g more = more (rw g h)
+
+decimal_stands : (n : ℕ) → list_all (may_stand true) (decimal n) ≡ true
+unfolding digits
+decimal_stands n = all_stand 64 n [] refl
+
+-- what holds of each line with more in its comment holds of a line in each pass
+abbrev pass_text : ℕ → List ℕ
+pass_text pass = codes ", pass " ++ decimal pass
+
+in_each_pass : (P : List ℕ → Type 0) (f : Flat) (line pass : ℕ) → IsHeld f line
+    → ((more : List ℕ) → list_all (may_stand true) more ≡ true → length (flat_line f line ++ more) ≤ 4096 → P (flat_line f line ++ more))
+    → P (with_pass (flat_line f line) pass)
+in_each_pass P f line pass h each = go (nat_le pass 1) (nat_le (length (flat_line f line ++ pass_text pass)) 4096) refl
+  where
+    first : P (flat_line f line)
+    first = subst P (append-nil (flat_line f line)) (each [] refl (subst (λ (xs : List ℕ). length xs ≤ 4096) (sym (append-nil (flat_line f line))) h.short))
+
+    go : (a b : Bool) → nat_le (length (flat_line f line ++ pass_text pass)) 4096 ≡ b
+        → P (cond a (flat_line f line) (cond b (flat_line f line ++ pass_text pass) (flat_line f line)))
+    go true b e = first
+    go false false e = first
+    go false true e = each (pass_text pass) (decimal_stands pass) (leb-true _ _ e)
+
+pub line_read : (f : Flat) (line pass : ℕ) → IsHeld f line → line_role false (with_pass (flat_line f line) pass) ≡ Last (flat_text f ++ 32 ∷ [])
+line_read f line pass h =
+    in_each_pass (λ (xs : List ℕ). line_role false xs ≡ Last (flat_text f ++ 32 ∷ [])) f line pass h (λ more g short. read_more f line more h g short)
 
 -- a written line is a line: its bytes may stand, so none ends one
 standing_lacks : (xs : List ℕ) → list_all (may_stand true) xs ≡ true → is_line xs ≡ true
@@ -231,9 +278,10 @@ stands_free false (c ∷ cs) h = let b = first_stands false c cs h in rw (bare_b
 pub comment_is_line : (text : List ℕ) → list_all (may_stand true) text ≡ true → is_line (36 ∷ 36 ∷ text) ≡ true
 comment_is_line text h = standing_lacks (36 ∷ 36 ∷ text) h
 
-pub flat_is_line : (f : Flat) (line : ℕ) → IsHeld f line → is_line (flat_line f line) ≡ true
-flat_is_line f line h =
-    standing_lacks (flat_line f line) (rw (
-      list_all-append (may_stand true) (flat_text f) (tail line),
+pub flat_is_line : (f : Flat) (line pass : ℕ) → IsHeld f line → is_line (with_pass (flat_line f line) pass) ≡ true
+flat_is_line f line pass h = in_each_pass (λ (xs : List ℕ). is_line xs ≡ true) f line pass h (λ more g short.
+    standing_lacks (flat_line f line ++ more) (rw (
+      append_assoc (flat_text f) (tail line) more,
+      list_all-append (may_stand true) (flat_text f) (tail line ++ more),
       stands_free false (flat_text f) (text_stands f.word f.params h.word h.params),
-    ) (digits_stand (decimal line) (decimal_is_IsNumeral line h.few).0.1))
+    ) (tail_clean line more h.few g)))

@@ -1,27 +1,25 @@
 -- Lines are written part by part.
 use Rattle.program_lowering.proofs.Names.{[], ◌++◌, ◌∙◌, ◌∷◌, ◌≡◌, after_word, ap, append-nil, append_assoc, as_read, Bool, Choices, codes, decimal}
-use Rattle.program_lowering.proofs.Names.{encode_lower, ended_lines, false, Flat, flat_line, flat_meant, flat_said, flat_text, head_lines}
-use Rattle.program_lowering.proofs.Names.{is_operator_text, is_some, keyword_of, line_end, line_for, List, marked, Names, None, note_for, note_start}
+use Rattle.program_lowering.proofs.Names.{encode_lower, ended_lines, false, Flat, flat_line, flat_text, head_lines}
+use Rattle.program_lowering.proofs.Names.{is_some, line_for, List, marked, Names, None, note_for, note_start}
 use Rattle.program_lowering.proofs.Names.{Option, options_text, Reason, refl, setup_name, shown_name, Some, Statement}
-use Rattle.program_lowering.proofs.Names.{StatementMeaning, sym, text_for, true, with_commas, ℕ}
+use Rattle.program_lowering.proofs.Names.{sym, text_for, true, with_commas, ℕ}
+use Rattle.program_lowering.specs.Flats.{with_pass}
 use Rattle.sha2.specs.Sha256.{sha256}
 use Rattle.program_lowering.specs.Lowering.{ended}
 use Rattle.program_lowering.specs.Reasons.{detail, joint, reason_text}
 
-parts : (line : ℕ) (old : List ℕ) (o : Option Flat)
-    → ((old ++ text_for o) ++ line_end line (is_some o)) ≡ (old ++ ended_lines (line_for line o))
-parts line old None = append-nil (old ++ [])
-parts line old (Some f) =
-    rw (
-      append-nil ((flat_text f ++ (codes " $$ line " ++ decimal line)) ++ 10 ∷ []),
-      append_assoc (flat_text f) (codes " $$ line " ++ decimal line) (10 ∷ []),
-      append_assoc old (flat_text f) (codes " $$ line " ++ (decimal line ++ 10 ∷ [])),
-    )
-    refl
+pub line_none : (line pass : ℕ) (o : Option Flat) (old : List ℕ) (written : Bool) → written ≡ is_some o → written ≡ false
+    → old ≡ old ++ ended_lines (line_for line pass o)
+line_none line pass None old written e h = sym (append-nil old)
+line_none line pass (Some f) old written e h = let both : true ≡ false = sym e ∙ h in absurd cc
 
-pub line_is : (line : ℕ) (o : Option Flat) (old middle new : List ℕ) (written : Bool) → middle ≡ old ++ text_for o → written ≡ is_some o
-    → new ≡ middle ++ line_end line written → new ≡ old ++ ended_lines (line_for line o)
-line_is line o old middle new written e h g = g ∙ rw (e, h) (parts line old o)
+pub line_some : (line pass : ℕ) (o : Option Flat) (old text whole made most new : List ℕ) (written : Bool) → written ≡ is_some o → written ≡ true
+    → text ≡ text_for o → whole ≡ text ++ (codes " $$ line " ++ decimal line) → made ≡ with_pass whole pass → most ≡ old ++ made → new ≡ most ++ 10 ∷ []
+    → new ≡ old ++ ended_lines (line_for line pass o)
+line_some line pass None old text whole made most new written e h t a b c d = let both : false ≡ true = sym e ∙ h in absurd cc
+line_some line pass (Some f) old text whole made most new written e h t a b c d =
+    rw (d, c, b, a, t, append-nil (with_pass (flat_line f line) pass ++ 10 ∷ [])) (append_assoc old (with_pass (flat_line f line) pass) (10 ∷ []))
 
 -- a note
 pub note_is : (s : Statement) (reason : Reason) (old start mark shown told new : List ℕ) → start ≡ old ++ note_start s
@@ -73,18 +71,6 @@ head_is names choices source none one two three four last program digest setup o
     (ended (codes "$$ SHA-256 of the source: " ++ encode_lower (sha256 source))) (ended (codes "$$ setup: " ++ shown_name (setup_name names.setup)))
     (ended (codes "$$ options:" ++ options_text choices)))
 
--- a text for the operator
-pub text_line_is : (s : Statement) (m : StatementMeaning) (old middle new : List ℕ) → is_operator_text s ≡ true
-    → middle ≡ old ++ flat_line (as_read s) s.line → new ≡ middle ++ 10 ∷ [] → new ≡ old ++ ended_lines (line_for s.line (flat_meant s m))
-text_line_is s m old middle new is e h =
-    rw (is, h, e, append-nil (flat_line (as_read s) s.line ++ 10 ∷ [])) (append_assoc old (flat_line (as_read s) s.line) (10 ∷ []))
-
-pub other_line_is : (s : Statement) (m : StatementMeaning) (old middle new : List ℕ) (written : Bool) → is_operator_text s ≡ false
-    → middle ≡ old ++ text_for (flat_said (keyword_of s.word) s.params m) → written ≡ is_some (flat_said (keyword_of s.word) s.params m)
-    → new ≡ middle ++ line_end s.line written → new ≡ old ++ ended_lines (line_for s.line (flat_meant s m))
-other_line_is s m old middle new written is e h g =
-    rw is (line_is s.line (flat_said (keyword_of s.word) s.params m) old middle new written e h g)
-
 -- parameters, each after its mark
 commas_are : (mark : ℕ) (p : List ℕ) (ps : List (List ℕ)) → mark ∷ with_commas p ps ≡ marked mark (p ∷ ps)
 commas_are mark p [] = ap (λ (xs : List ℕ). mark ∷ xs) (sym (append-nil p))
@@ -100,4 +86,4 @@ as_read_is s old middle new e h = rw (h, e, append_assoc old s.word (marked 47 s
 
 pub ruleset marks = (as_read_is)
 
-pub ruleset lines = (text_line_is, other_line_is)
+pub ruleset lines = (line_none, line_some)

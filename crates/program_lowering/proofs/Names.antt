@@ -34,7 +34,7 @@ pub use Rattle.program_lowering.specs.Acts.{Act, acts_from, acts_of, shown_by}
 pub use Rattle.program_lowering.specs.Acts.Act.{Does, Shows}
 pub use Rattle.program_lowering.specs.Carried.{after_said, AreLines, Carried, context_of, due, followed, GivesLines, GivesStep, none_above, noted}
 pub use Rattle.program_lowering.specs.Carried.{nothing_carried, some_tool, step, stepped}
-pub use Rattle.program_lowering.specs.Flats.{after_word, components, Flat, flat, flat_line, flat_passed, flat_said, flat_text, kind_of, line_end}
+pub use Rattle.program_lowering.specs.Flats.{after_word, components, Flat, flat, flat_line, flat_passed, flat_said, flat_text, kind_of}
 pub use Rattle.program_lowering.specs.Flats.{place, text_for, with_commas, within}
 pub use Rattle.program_lowering.specs.Heads.{head_lines, IsComment, Names, names_of, options_text, setup_name, shown_byte, shown_name, whole_text}
 pub use Rattle.program_lowering.specs.Lowering.{ended_lines, flat_lines, flat_program, is_closing, kept, kept_below, left_out_at, left_out_in, line_for}

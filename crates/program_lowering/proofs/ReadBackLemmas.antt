@@ -9,6 +9,8 @@ use Rattle.program_lowering.proofs.Names.{program_of, reading_of, refl, Refusal,
 use Rattle.program_lowering.proofs.Names.{steps_from, steps_of, subst, suc, sym, text_reading, text_refusal, TextFault, tool_said, touched}
 use Rattle.program_lowering.proofs.Names.{touched_with, true, Unsupported, up_to_refused, with_first, with_front, word_refusal, ℕ}
 use Rattle.dmis_text.proofs.LineLaws.{lines_written}
+use Rattle.program_lowering.specs.Flats.{with_pass}
+use Rattle.program_lowering.specs.Lowering.{first_pass, other_passes}
 use Rattle.dmis_program.specs.Meaning.{meaning_of}
 use Rattle.dmis_program.specs.declared.keywords.Keyword.TheVariants as word
 use Rattle.dmis_program.specs.declared.sayings.StatementMeaning.TheVariants as said
@@ -20,10 +22,10 @@ use Rattle.program_lowering.proofs.TextLemmas.{IsWrittenOf, written_is}
 -- ---- the lines of a flat program
 
 -- a written line is a statement
-pub line_first : (n k : ℕ) (f : Flat) (rest : List (List ℕ)) → IsHeld f k
-    → reading_of n (flat_line f k ∷ rest) ≡ with_first (flat_statement f n) (reading_of (n + 1) rest)
-line_first n k f rest h =
-    rw (line_read f k h) (ap (λ (s : Statement). with_first s (reading_of (n + 1) rest)) (statement_read n f.word f.params h.word h.params))
+pub line_first : (n k pass : ℕ) (f : Flat) (rest : List (List ℕ)) → IsHeld f k
+    → reading_of n (with_pass (flat_line f k) pass ∷ rest) ≡ with_first (flat_statement f n) (reading_of (n + 1) rest)
+line_first n k pass f rest h =
+    rw (line_read f k pass h) (ap (λ (s : Statement). with_first s (reading_of (n + 1) rest)) (statement_read n f.word f.params h.word h.params))
 
 -- a comment is not a statement
 comment_role : (line : List ℕ) → IsComment line → line_role false line ≡ Dropped
@@ -211,49 +213,49 @@ fronted front steps (Err e) h = absurd cc
 
 -- what follows a statement, wherever its flat lines begin
 abbrev Later : List (List ℕ × Point) → Option TextFault → ℕ → ℕ → List Statement → List Statement → Type 0
-Later frames fault lines end aboves below = (n : ℕ) (flats : List Statement) (more : List Step) → Similar aboves flats
-    → steps_up_to frames fault lines aboves below ≡ Ok more → Reads frames end n flats more (acts_from frames aboves below) (flat_lines below)
+Later frames fault lines end aboves below = (n : ℕ) (flats : List Statement) (passes : List ℕ) (more : List Step) → Similar aboves flats
+    → steps_up_to frames fault lines aboves below ≡ Ok more → Reads frames end n flats more (acts_from frames aboves below) (flat_lines passes below)
 
 -- a statement that is not written
 past : (frames : List (List ℕ × Point)) (fault : Option TextFault) (lines end n : ℕ) (aboves flats : List Statement) (s : Statement)
-    (below : List Statement) (steps : List Step) → Similar aboves flats → (length flats == 0) ≡ false → saying s ≡ Ok said.Passes
+    (below : List Statement) (passes : List ℕ) (steps : List Step) → Similar aboves flats → (length flats == 0) ≡ false → saying s ≡ Ok said.Passes
     → is_operator_text s ≡ false → with_front [] (steps_up_to frames fault lines (s ∷ aboves) below) ≡ Ok steps → Later frames fault lines end (s ∷ aboves) below
-    → Reads frames end n flats steps (shown_by s ++ acts_from frames (s ∷ aboves) below) (flat_lines below)
-past frames fault lines end n aboves flats s below steps h some says none e later =
+    → Reads frames end n flats steps (shown_by s ++ acts_from frames (s ∷ aboves) below) (flat_lines passes below)
+past frames fault lines end n aboves flats s below passes steps h some says none e later =
     let f = fronted [] steps (steps_up_to frames fault lines (s ∷ aboves) below) e in
-    rw none (subst (λ (all : List Step). Reads frames end n flats all (acts_from frames (s ∷ aboves) below) (flat_lines below)) (sym f.is)
-    (later n flats f.more (similar_passed aboves flats s h some says) f.rest))
+    rw none (subst (λ (all : List Step). Reads frames end n flats all (acts_from frames (s ∷ aboves) below) (flat_lines passes below)) (sym f.is)
+    (later n flats passes f.more (similar_passed aboves flats s h some says) f.rest))
 
 -- the line of a statement, and what follows it
-line_then : (frames : List (List ℕ × Point)) (end n : ℕ) (flats : List Statement) (m : StatementMeaning) (f : Flat) (line : ℕ)
+line_then : (frames : List (List ℕ × Point)) (end n : ℕ) (flats : List Statement) (m : StatementMeaning) (f : Flat) (line pass : ℕ)
     (written : List (List ℕ)) (steps : List Step) (acts : List Act) (b : Bool) → closes m ≡ b → IsHeld f line
     → judged frames (context_at frames flats) (flat_statement f n) ≡ Ok m → saying (flat_statement f n) ≡ Ok m → list_all is_line written ≡ true
     → ((fault : Option TextFault) → cond b (Ok []) (with_front (steps_of frames (context_at frames flats) m)
     (steps_from frames fault end (flat_statement f n ∷ flats) (reading_of (n + 1) written).statements)) ≡ Ok steps)
     → cond b [] (shown_by (flat_statement f n) ++ (map (λ (t : Step). Does t) (steps_of frames (context_at frames flats) m)
     ++ acts_from frames (flat_statement f n ∷ flats) (reading_of (n + 1) written).statements)) ≡ acts
-    → Reads frames end n flats steps acts (flat_line f line ∷ written)
-line_then frames end n flats m f line written steps acts b e h g says all then shows = record {
-  are_lines = rw (flat_is_line f line h) all;
-  steps_are = λ fault. rw (line_first n line f written h, g, e) (then fault);
-  acts_are = rw (line_first n line f written h, says, e) shows;
+    → Reads frames end n flats steps acts (with_pass (flat_line f line) pass ∷ written)
+line_then frames end n flats m f line pass written steps acts b e h g says all then shows = record {
+  are_lines = rw (flat_is_line f line pass h) all;
+  steps_are = λ fault. rw (line_first n line pass f written h, g, e) (then fault);
+  acts_are = rw (line_first n line pass f written h, says, e) shows;
 }
 
-by_end : (frames : List (List ℕ × Point)) (fault : Option TextFault) (lines end n : ℕ) (aboves flats : List Statement) (s : Statement)
-    (below : List Statement) (steps : List Step) (m : StatementMeaning) (f : Flat) (b : Bool) → closes m ≡ b
+by_end : (frames : List (List ℕ × Point)) (fault : Option TextFault) (lines end n pass : ℕ) (aboves flats : List Statement) (s : Statement)
+    (below : List Statement) (passes : List ℕ) (steps : List Step) (m : StatementMeaning) (f : Flat) (b : Bool) → closes m ≡ b
     → Similar aboves flats → IsAccepted frames (context_at frames aboves) s m → IsWrittenOf s m f
     → cond b (Ok []) (with_front (steps_of frames (context_at frames aboves) m) (steps_up_to frames fault lines (s ∷ aboves) below)) ≡ Ok steps
     → Later frames fault lines end (s ∷ aboves) below
     → Reads frames end n flats steps (cond b [] (shown_by s ++ (map (λ (t : Step). Does t) (steps_of frames (context_at frames aboves) m)
-    ++ acts_from frames (s ∷ aboves) below))) (flat_line f s.line ∷ cond b [] (flat_lines below))
-by_end frames fault lines end n aboves flats s below steps m f true e h a g ends later =
-    line_then frames end n flats m f s.line [] steps _ true e g.held
+    ++ acts_from frames (s ∷ aboves) below))) (with_pass (flat_line f s.line) pass ∷ cond b [] (flat_lines passes below))
+by_end frames fault lines end n pass aboves flats s below passes steps m f true e h a g ends later =
+    line_then frames end n flats m f s.line pass [] steps _ true e g.held
     (accepts frames (context_at frames flats) (flat_statement f n) m (accepted_flat frames aboves flats s m f n h a g)) (g.says n) refl (λ _. ends) refl
-by_end frames fault lines end n aboves flats s below steps m f false e h a g ends later =
+by_end frames fault lines end n pass aboves flats s below passes steps m f false e h a g ends later =
     let front = fronted (steps_of frames (context_at frames aboves) m) steps (steps_up_to frames fault lines (s ∷ aboves) below) ends in
-    let rest = later (n + 1) (flat_statement f n ∷ flats) front.more (similar_written aboves flats s (flat_statement f n) m h a.says (g.says n))
+    let rest = later (n + 1) (flat_statement f n ∷ flats) passes front.more (similar_written aboves flats s (flat_statement f n) m h a.says (g.says n))
     front.rest in
-    line_then frames end n flats m f s.line (flat_lines below) steps _ false e g.held
+    line_then frames end n flats m f s.line pass (flat_lines passes below) steps _ false e g.held
     (accepts frames (context_at frames flats) (flat_statement f n) m (accepted_flat frames aboves flats s m f n h a g)) (g.says n) rest.are_lines
     (λ fault. rw (rest.steps_are fault, steps_alike frames aboves flats m h) (ap (λ (all : List Step). Ok all) (sym front.is)))
     (rw (g.shown n, steps_alike frames aboves flats m h, rest.acts_are) refl)
@@ -269,51 +271,51 @@ is_no_text false f o h = refl
 taken : (o : Option Flat) (P : Flat → Type 0) (f : Flat) → o ≡ Some f → IfSome o P → P f
 taken o P f e h = rw e at h
 
-by_flat : (frames : List (List ℕ × Point)) (fault : Option TextFault) (lines end n : ℕ) (aboves flats : List Statement) (s : Statement)
-    (below : List Statement) (steps : List Step) (m : StatementMeaning) (o : Option Flat) → flat_meant s m ≡ o
+by_flat : (frames : List (List ℕ × Point)) (fault : Option TextFault) (lines end n pass : ℕ) (aboves flats : List Statement) (s : Statement)
+    (below : List Statement) (passes : List ℕ) (steps : List Step) (m : StatementMeaning) (o : Option Flat) → flat_meant s m ≡ o
     → text_refusal s ≡ None → s.line < 2 ^ 64 → Similar aboves flats → IsAccepted frames (context_at frames aboves) s m
     → continued s.line (Ok m) (steps_of frames (context_at frames aboves)) (steps_up_to frames fault lines (s ∷ aboves) below) ≡ Ok steps
     → Later frames fault lines end (s ∷ aboves) below
     → Reads frames end n flats steps (cond (closes m) [] (shown_by s ++ (map (λ (t : Step). Does t) (steps_of frames (context_at frames aboves) m)
-    ++ acts_from frames (s ∷ aboves) below))) (line_for s.line o ++ cond (closes m) [] (flat_lines below))
-by_flat frames fault lines end n aboves flats s below steps m (Some f) e none few h a ends later =
+    ++ acts_from frames (s ∷ aboves) below))) (line_for s.line pass o ++ cond (closes m) [] (flat_lines passes below))
+by_flat frames fault lines end n pass aboves flats s below passes steps m (Some f) e none few h a ends later =
     let g = taken (flat_meant s m) (IsWrittenOf s m) f e (written_is s m a.says none few) in
-    by_end frames fault lines end n aboves flats s below steps m f (closes m) refl h a g ends later
-by_flat frames fault lines end n aboves flats s below steps m None e none few h a ends later =
+    by_end frames fault lines end n pass aboves flats s below passes steps m f (closes m) refl h a g ends later
+by_flat frames fault lines end n pass aboves flats s below passes steps m None e none few h a ends later =
     let p = only_passes (keyword_of s.word) s.params m (no_text (is_operator_text s) (as_read s) (flat_said (keyword_of s.word) s.params m) e) in
     let tests = by_tests (length aboves) (bound_count (nearest bound_said aboves)) (keyword_of s.word) s.params a.known in
     let some = first_written (length aboves == 0) (keyword_of s.word) tests.first p.1 in
     let ends2 = subst (λ (k : StatementMeaning). continued s.line (Ok k) (steps_of frames (context_at frames aboves))
     (steps_up_to frames fault lines (s ∷ aboves) below) ≡ Ok steps) p.0 ends in
-    rw p.0 (past frames fault lines end n aboves flats s below steps h (h.start ∙ some) (a.says ∙ ap (λ (k : StatementMeaning). Ok k) p.0)
+    rw p.0 (past frames fault lines end n aboves flats s below passes steps h (h.start ∙ some) (a.says ∙ ap (λ (k : StatementMeaning). Ok k) p.0)
     (is_no_text (is_operator_text s) (as_read s) (flat_said (keyword_of s.word) s.params m) e) ends2 later)
 
 by_judged : (frames : List (List ℕ × Point)) (fault : Option TextFault) (lines end n : ℕ) (aboves flats : List Statement) (s : Statement)
-    (below : List Statement) (steps : List Step) (r : Result StatementMeaning Refusal) → judged frames (context_at frames aboves) s ≡ r
+    (below : List Statement) (passes : List ℕ) (steps : List Step) (r : Result StatementMeaning Refusal) → judged frames (context_at frames aboves) s ≡ r
     → text_refusal s ≡ None → s.line < 2 ^ 64 → Similar aboves flats
     → continued s.line r (steps_of frames (context_at frames aboves)) (steps_up_to frames fault lines (s ∷ aboves) below) ≡ Ok steps
     → Later frames fault lines end (s ∷ aboves) below
-    → Reads frames end n flats steps (acts_from frames aboves (s ∷ below)) (flat_lines (s ∷ below))
-by_judged frames fault lines end n aboves flats s below steps (Err refusal) e none few h ends later = absurd cc
-by_judged frames fault lines end n aboves flats s below steps (Ok m) e none few h ends later =
+    → Reads frames end n flats steps (acts_from frames aboves (s ∷ below)) (flat_lines passes (s ∷ below))
+by_judged frames fault lines end n aboves flats s below passes steps (Err refusal) e none few h ends later = absurd cc
+by_judged frames fault lines end n aboves flats s below passes steps (Ok m) e none few h ends later =
     let a = accepted_if frames (context_at frames aboves) s m e in
-    rw a.says (by_flat frames fault lines end n aboves flats s below steps m (flat_meant s m) refl none few h a ends later)
+    rw a.says (by_flat frames fault lines end n (first_pass passes) aboves flats s below (other_passes passes) steps m (flat_meant s m) refl none few h a ends later)
 
 by_text : (frames : List (List ℕ × Point)) (fault : Option TextFault) (lines end n : ℕ) (aboves flats : List Statement) (s : Statement)
-    (below : List Statement) (steps : List Step) (o : Option Refusal) → text_refusal s ≡ o → s.line < 2 ^ 64 → Similar aboves flats
+    (below : List Statement) (passes : List ℕ) (steps : List Step) (o : Option Refusal) → text_refusal s ≡ o → s.line < 2 ^ 64 → Similar aboves flats
     → steps_from frames (before_refused s o (up_to_refused fault below)).fault lines aboves
     (before_refused s o (up_to_refused fault below)).statements ≡ Ok steps
     → Later frames fault lines end (s ∷ aboves) below
-    → Reads frames end n flats steps (acts_from frames aboves (s ∷ below)) (flat_lines (s ∷ below))
-by_text frames fault lines end n aboves flats s below steps (Some refusal) e few h ends later = absurd cc
-by_text frames fault lines end n aboves flats s below steps None e few h ends later =
-    by_judged frames fault lines end n aboves flats s below steps (judged frames (context_at frames aboves) s) refl e few h ends later
+    → Reads frames end n flats steps (acts_from frames aboves (s ∷ below)) (flat_lines passes (s ∷ below))
+by_text frames fault lines end n aboves flats s below passes steps (Some refusal) e few h ends later = absurd cc
+by_text frames fault lines end n aboves flats s below passes steps None e few h ends later =
+    by_judged frames fault lines end n aboves flats s below passes steps (judged frames (context_at frames aboves) s) refl e few h ends later
 
 reads : (frames : List (List ℕ × Point)) (fault : Option TextFault) (lines end : ℕ) (aboves below : List Statement)
     → AllByRecursion HasShortLine below → Later frames fault lines end aboves below
-reads frames fault lines end aboves [] short n flats steps h e = absurd cc
-reads frames fault lines end aboves (s ∷ below) short n flats steps h e =
-    by_text frames fault lines end n aboves flats s below steps (text_refusal s) refl short.0 h e
+reads frames fault lines end aboves [] short n flats passes steps h e = absurd cc
+reads frames fault lines end aboves (s ∷ below) short n flats passes steps h e =
+    by_text frames fault lines end n aboves flats s below passes steps (text_refusal s) refl short.0 h e
     (reads frames fault lines end (s ∷ aboves) below short.1)
 
 none_similar : Similar [] []
@@ -332,32 +334,32 @@ meant_steps m (Ok steps) h = (steps, refl, cc)
 meant_steps m (Err e) h = absurd cc
 
 -- a text of comments and of the flat lines of statements means what those mean
-pub reads_back : (frames : List (List ℕ × Point)) (fault : Option TextFault) (n : ℕ) (statements : List Statement) (heads : List (List ℕ))
+pub reads_back : (frames : List (List ℕ × Point)) (fault : Option TextFault) (n : ℕ) (passes : List ℕ) (statements : List Statement) (heads : List (List ℕ))
     (m : Meaning) → AllByRecursion HasShortLine statements → AllByRecursion IsComment heads
     → meant (steps_up_to frames fault n [] statements) ≡ Ok m
-    → program_of frames (ended_lines (heads ++ flat_lines statements)) ≡ Ok m
+    → program_of frames (ended_lines (heads ++ flat_lines passes statements)) ≡ Ok m
 unfolding meaning_of
-reads_back frames fault n statements heads m short comments h =
+reads_back frames fault n passes statements heads m short comments h =
     let found = meant_steps m (steps_up_to frames fault n [] statements) h in
-    let end = length (heads ++ flat_lines statements) in
-    let back = reads frames fault n end [] statements short (1 + length heads) [] found.0 none_similar found.1 in
-    let all : list_all is_line (heads ++ flat_lines statements) ≡ true =
-    rw (list_all-append is_line heads (flat_lines statements), heads_are_lines heads comments) back.are_lines in
+    let end = length (heads ++ flat_lines passes statements) in
+    let back = reads frames fault n end [] statements short (1 + length heads) [] passes found.0 none_similar found.1 in
+    let all : list_all is_line (heads ++ flat_lines passes statements) ≡ true =
+    rw (list_all-append is_line heads (flat_lines passes statements), heads_are_lines heads comments) back.are_lines in
     rw (
-      lines_written (heads ++ flat_lines statements) all,
-      comments_first 1 heads (flat_lines statements) comments,
-      back.steps_are (reading_of (1 + length heads) (flat_lines statements)).fault,
+      lines_written (heads ++ flat_lines passes statements) all,
+      comments_first 1 heads (flat_lines passes statements) comments,
+      back.steps_are (reading_of (1 + length heads) (flat_lines passes statements)).fault,
     )
     (ap (λ (all : Meaning). Ok all) (sym found.2))
 
 -- and shows the same texts in the same places
-pub acts_back : (frames : List (List ℕ × Point)) (fault : Option TextFault) (n : ℕ) (statements : List Statement) (heads : List (List ℕ))
+pub acts_back : (frames : List (List ℕ × Point)) (fault : Option TextFault) (n : ℕ) (passes : List ℕ) (statements : List Statement) (heads : List (List ℕ))
     (m : Meaning) → AllByRecursion HasShortLine statements → AllByRecursion IsComment heads
     → meant (steps_up_to frames fault n [] statements) ≡ Ok m
-    → acts_from frames [] (text_reading (ended_lines (heads ++ flat_lines statements))).statements ≡ acts_from frames [] statements
-acts_back frames fault n statements heads m short comments h =
+    → acts_from frames [] (text_reading (ended_lines (heads ++ flat_lines passes statements))).statements ≡ acts_from frames [] statements
+acts_back frames fault n passes statements heads m short comments h =
     let found = meant_steps m (steps_up_to frames fault n [] statements) h in
-    let back = reads frames fault n 0 [] statements short (1 + length heads) [] found.0 none_similar found.1 in
-    let all : list_all is_line (heads ++ flat_lines statements) ≡ true =
-    rw (list_all-append is_line heads (flat_lines statements), heads_are_lines heads comments) back.are_lines in
-    rw (lines_written (heads ++ flat_lines statements) all, comments_first 1 heads (flat_lines statements) comments) back.acts_are
+    let back = reads frames fault n 0 [] statements short (1 + length heads) [] passes found.0 none_similar found.1 in
+    let all : list_all is_line (heads ++ flat_lines passes statements) ≡ true =
+    rw (list_all-append is_line heads (flat_lines passes statements), heads_are_lines heads comments) back.are_lines in
+    rw (lines_written (heads ++ flat_lines passes statements) all, comments_first 1 heads (flat_lines passes statements) comments) back.acts_are

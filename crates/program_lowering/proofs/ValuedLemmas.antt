@@ -177,8 +177,8 @@ made_good word (Err fault) good = held_none word good
 one_line : (f : Flat) → IsHeld f 1 → text_reading (ended (flat_line f 1)) ≡ record { statements = flat_statement f 1 ∷ []; fault = None }
 one_line f h =
     let whole : lines (ended (flat_line f 1)) ≡ flat_line f 1 ∷ [] =
-    ap lines (sym (append-nil (ended (flat_line f 1)))) ∙ lines_written (flat_line f 1 ∷ []) (and_from (is_line (flat_line f 1)) true (flat_is_line f 1 h) refl) in
-    ap (λ (ls : List (List ℕ)). reading_of 1 ls) whole ∙ line_first 1 1 f [] h
+    ap lines (sym (append-nil (ended (flat_line f 1)))) ∙ lines_written (flat_line f 1 ∷ []) (and_from (is_line (flat_line f 1)) true (flat_is_line f 1 1 h) refl) in
+    ap (λ (ls : List (List ℕ)). reading_of 1 ls) whole ∙ line_first 1 1 1 f [] h
 
 -- the line of these parameters, if it holds them
 pub line_held : (word text new : List ℕ) (params : List (List ℕ)) (plain : Bool) → text ≡ word ++ marked 47 params

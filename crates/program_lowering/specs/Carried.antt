@@ -17,7 +17,10 @@ use Rattle.dmis_program.specs.declared.sayings.StatementMeaning.{StatementMeanin
 use Rattle.dmis_program.specs.declared.sayings.StatementMeaning.TheVariants as said
 use Rattle.dmis_text.specs.Reading.{text_reading}
 use Rattle.std.specs.List.{list_all}
-use Rattle.std.specs.Option.{option_map}
+use Rattle.std.specs.BTreeMap.{insert_entry, is_at}
+use Rattle.std.specs.Map.{lookup}
+use Rattle.std.specs.Option.{option_map, unwrap_or}
+use Rattle.std.specs.Ordering.{nat_cmp}
 use Rattle.program_flow.specs.LookBack.{Holds}
 use Rattle.program_flow.specs.Numbers.{Fraction, and_then, numeral}
 use Rattle.program_flow.specs.Variables.{Entry}
@@ -28,7 +31,7 @@ use Rattle.program_flow.specs.Flow.{carried}
 use Rattle.program_lowering.specs.Cartesian.{Triple, cartesian, reference_after}
 use Rattle.program_lowering.specs.Valued.{has_variables, held_or_none, valued}
 use Rattle.program_lowering.specs.declared.cartesian.Reference.{Reference}
-use Rattle.program_lowering.specs.EvenTouches.{Filling, bore_said, ends_block, feature_name, filling_of, from_centre, given_by, ends_nominals, waiting_after}
+use Rattle.program_lowering.specs.EvenTouches.{Filling, bore_said, ends_block, feature_name, filling_of, from_centre, given_by, ends_nominals, to_centre, waiting_after}
 use Rattle.program_lowering.specs.declared.even.Bore.{Bore}
 use Rattle.program_lowering.specs.declared.even.Feature.{Feature}
 use Rattle.program_lowering.specs.declared.even.Touch.{Touch}
@@ -85,6 +88,24 @@ after_said above said.Ends = record (one_more above) { wanted = None; touched = 
 after_said above (said.Selects name) = record (one_more above) { has_tool = true }
 after_said above _ = one_more above
 
+-- the line of the last statement, and how often each line was passed
+pub record PassCounts : Type 0 where
+  pub last : Option ℕ
+  pub counts : List (ℕ × ℕ)
+
+abbrev pub none_passed : PassCounts
+none_passed = record { last = None; counts = [] }
+
+abbrev pub is_last : Option ℕ → ℕ → Bool
+is_last None line = false
+is_last (Some last) line = line == last
+
+unfoldable pub pass_of : PassCounts → ℕ → ℕ
+pass_of p line = unwrap_or (lookup (is_at (nat_cmp line)) p.counts) 0
+
+unfoldable pub passed : PassCounts → ℕ → PassCounts
+passed p line = if is_last p.last line then p else record { last = Some line; counts = insert_entry nat_cmp p.counts line (pass_of p line + 1) }
+
 -- what is above, and what was written so far
 pub record Carried : Type 0 where
   pub above : Above
@@ -96,6 +117,7 @@ pub record Carried : Type 0 where
   pub since : Option ℕ
   pub selected : Option (List ℕ)
   pub used : List (List ℕ)
+  pub passes : PassCounts
 
 abbrev pub nothing_carried : Carried
 nothing_carried = record {
@@ -108,7 +130,12 @@ nothing_carried = record {
   since = None;
   selected = None;
   used = [];
+  passes = none_passed;
 }
+
+-- at a statement on a line
+abbrev pub entered : Carried → ℕ → Carried
+entered c line = record c { passes = passed c.passes line }
 
 -- after a statement that is left out, and after one that says this
 abbrev pub noted : Carried → Statement → Option Reason → Carried
@@ -151,12 +178,13 @@ followed c s meaning = record {
   above = after_said c.above meaning;
   inches = inches_after c.inches s;
   manual = manual_after c.manual s;
-  text = c.text ++ ended_lines (line_for s.line (flat_meant s meaning));
+  text = c.text ++ ended_lines (line_for s.line (pass_of c.passes s.line) (flat_meant s meaning));
   notes = c.notes ++ note_for s (passed_over s (Ok meaning));
   frames = frames_after c.frames c.since s.line meaning;
   since = since_after c.since meaning;
   selected = selected_after c.selected meaning;
   used = used_after c.selected c.used meaning;
+  passes = c.passes;
 }
 
 -- the first statement is never left out
@@ -177,7 +205,7 @@ frame_due frames above name = if nat_le 10000 above.number then Err TooLarge els
 
 -- after a statement: whether the program ends there, and what is carried on; or the refusal that is due
 abbrev pub step : List (List ℕ × Point) → Choices → Carried → Statement → Result (Bool × Carried) Refusal
-step frames choices c s = stepped frames c s (by_frame choices (has_name c.used) s) (left_out_after choices c.above.number (manual_after c.manual s) s)
+step frames choices c s = stepped frames (entered c s.line) s (by_frame choices (has_name c.used) s) (left_out_after choices c.above.number (manual_after c.manual s) s)
 
 -- what a call gives and leaves is what is due, unless memory ran out
 abbrev pub GivesStep : Result Bool StatementFault → Carried → Result (Bool × Carried) Refusal → Type 0
@@ -273,7 +301,7 @@ all_steps frames choices c [] = Ok (false, c)
 all_steps frames choices c (s ∷ statements) = unless_closed (step frames choices c s) (λ d. all_steps frames choices d statements)
 
 abbrev pub touch_steps : List (List ℕ × Point) → Choices → ℕ → Triple → Carried → List Touch → Result (Bool × Carried) Refusal
-touch_steps frames choices line centre c [] = Ok (false, c)
+touch_steps frames choices line centre c [] = step frames choices c (to_centre line centre)
 touch_steps frames choices line centre c (t ∷ touches) =
     unless_closed (all_steps frames choices c (from_centre line centre t)) (λ d. touch_steps frames choices line centre d touches)
 

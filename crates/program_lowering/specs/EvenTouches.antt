@@ -22,6 +22,7 @@ use Rattle.program_flow.specs.Texts.{whole_of}
 use Rattle.program_flow.specs.declared.faults.ValueFault.{ValueFault}
 use Rattle.program_lowering.specs.Cartesian.{◌>>=◌, Triple, in_plane, moved_by, number_in, numbers_in}
 use Rattle.program_lowering.specs.Manual.{in_manual}
+use Rattle.program_lowering.specs.Texts.{begins_with}
 use Rattle.program_lowering.specs.Valued.{with_params}
 use Rattle.program_lowering.specs.StoredFrames.{alignments}
 use Rattle.program_lowering.specs.Words.{given_word, names_frame}
@@ -33,16 +34,12 @@ use Rattle.program_lowering.specs.declared.even.Wanted.{Wanted}
 use Rattle.program_lowering.specs.declared.words.Choices.{Choices}
 
 -- the block of a circle that is open and has no touch
-abbrev pub is_circle : List (List ℕ) → Bool
-is_circle [] = false
-is_circle (kind ∷ rest) = bytes_eq kind (codes "CIRCLE")
-
 abbrev pub begun : Bool → Result StatementMeaning Refusal → Option Wanted
 begun circle (Ok (said.Begins name count)) = if circle then Some (record { name = name; count = count }) else None
 begun circle _ = None
 
 abbrev pub waiting_after : Option Wanted → Keyword → Statement → Option Wanted
-waiting_after block word.Meas s = begun (is_circle s.params) (said_of word.Meas s)
+waiting_after block word.Meas s = begun (begins_with (codes "CIRCLE") s.params) (said_of word.Meas s)
 waiting_after block word.Ptmeas s = None
 waiting_after block word.Endmes s = None
 waiting_after block _ s = block
@@ -148,7 +145,8 @@ filling_of (Some w) bores = if nat_le 3 w.count && nat_le w.count 1000 then fill
 abbrev pub moving : List (List ℕ)
 moving = codes "GOTO" ∷ codes "PTMEAS" ∷ []
 
--- the statements for it: one that is noted and not written, whose last parameter is empty, and a move to the centre before each touch
+-- the statements for it: one that is noted and not written, whose last parameter is empty, and a move to the centre before each touch and after
+-- the last one
 abbrev pub made_at : ℕ → List ℕ → List Fraction → Statement
 made_at line name numbers = with_params (record { line = line; label = None; word = name; params = [] }) (Some (Ok (codes "CART" ∷ map numeral numbers)))
 
@@ -159,12 +157,15 @@ abbrev pub from_centre : ℕ → Triple → Touch → List Statement
 from_centre line c t = to_centre line c
     ∷ made_at line (codes "PTMEAS") (t.place.0 ∷ t.place.1 ∷ t.place.2 ∷ t.direction.0 ∷ t.direction.1 ∷ t.direction.2 ∷ []) ∷ []
 
+abbrev pub there_and_back : ℕ → Triple → List Touch → List Statement
+there_and_back line c touches = flat_map (from_centre line c) touches ++ to_centre line c ∷ []
+
 abbrev pub notice : ℕ → Filling → Statement
 notice line f = record { line = line; label = None; word = given_word; params = decimal f.count ∷ f.name ∷ [] ∷ [] }
 
 abbrev pub given_by : ℕ → Option Filling → List Statement
 given_by line None = []
-given_by line (Some f) = notice line f ∷ flat_map (from_centre line f.centre) f.touches
+given_by line (Some f) = notice line f ∷ there_and_back line f.centre f.touches
 
 -- what is given before a statement: something before the `ENDMES` of such a block alone, and where the operator does not measure
 abbrev pub is_endmes : Keyword → Bool
@@ -188,6 +189,11 @@ all_touched above (s ∷ statements) = touches_before above s ++ (s ∷ all_touc
 -- if it is chosen
 abbrev pub touched_from : Choices → List Statement → List Statement → List Statement
 touched_from choices above statements = if choices.even_touches then all_touched above statements else statements
+
+-- the last of these, if there is one
+abbrev pub last_of : Statement → List Statement → Statement
+last_of before [] = before
+last_of before (s ∷ below) = last_of s below
 
 -- each touch is directly below this statement
 abbrev pub is_touch : Statement → Bool

@@ -1,5 +1,5 @@
 -- What the examples of this crate speak of.
-use Rattle.std.specs.Prelude.{ℕ, List, [], ◌∷◌, ◌++◌, codes, decimal, true, false, Option, None, Some, Result, Ok}
+use Rattle.std.specs.Prelude.{ℕ, List, [], ◌∷◌, ◌++◌, codes, decimal, map, true, false, Option, None, Some, Result, Ok}
 use Rattle.dmis_text.specs.declared.elements.Statement.{Statement}
 use Rattle.program_flow.specs.declared.faults.ValueFault.{ValueFault}
 use Rattle.program_lowering.specs.Cartesian.{no_reference, reference_after}
@@ -134,11 +134,27 @@ given_below above = touches_before above end_of_block
 abbrev pub told_of : ℕ → Statement
 told_of n = bare (codes "ENDMES is given") (decimal n ∷ codes "A" ∷ [] ∷ [])
 
+-- statements on lines; and a round over a bore that is given its touches, with a statement that is left out
+abbrev pub on_line : ℕ → Statement → Statement
+on_line line s = record s { line = line }
+
+abbrev pub moves_on : List ℕ → List Statement
+moves_on lines = map (λ line. on_line line a_move) lines
+
+abbrev pub bore_round : List Statement
+bore_round = on_line 3 three_of_a ∷ on_line 4 end_of_block ∷ on_line 5 (bare (codes "VFORM") []) ∷ []
+
+abbrev pub two_rounds : List Statement
+two_rounds = start ∷ on_line 2 upright ∷ (bore_round ++ bore_round)
+
 abbrev pub minus : ℕ → List ℕ
 minus n = codes "-" ++ decimal n
 
+abbrev pub to_five : List Statement
+to_five = bare (codes "GOTO") (codes "CART" ∷ decimal 0 ∷ decimal 0 ∷ minus 5 ∷ []) ∷ []
+
 abbrev pub from_five : List (List ℕ) → List Statement
-from_five numbers = bare (codes "GOTO") (codes "CART" ∷ decimal 0 ∷ decimal 0 ∷ minus 5 ∷ []) ∷ bare (codes "PTMEAS") (codes "CART" ∷ numbers) ∷ []
+from_five numbers = to_five ++ bare (codes "PTMEAS") (codes "CART" ∷ numbers) ∷ []
 
 abbrev pub on_wall : List ℕ → List ℕ → List ℕ → List ℕ → List Statement
 on_wall x y i j = from_five (x ∷ y ∷ minus 5 ∷ i ∷ j ∷ decimal 0 ∷ [])

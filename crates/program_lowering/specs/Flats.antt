@@ -1,6 +1,6 @@
 -- The statement of a flat program that a statement stands for, and its line (this profile: numbers with all their decimals, and the line of
 -- the source in a comment).
-use Rattle.std.specs.Prelude.{ℕ, Bool, true, false, List, [], ◌∷◌, ◌++◌, codes, decimal, map, take, Option, Some, None}
+use Rattle.std.specs.Prelude.{ℕ, List, [], ◌∷◌, ◌++◌, codes, decimal, length, map, nat_le, take, Option, Some, None, if◌then◌else◌}
 use Rattle.std.specs.Char.{to_ascii_uppercase}
 use Rattle.fixed_um.specs.Shapes.{Direction}
 use Rattle.fixed_um.specs.Written.{written, written_component, written_direction}
@@ -72,6 +72,13 @@ flat_text f = f.word ++ after_word f.params
 abbrev pub flat_line : Flat → ℕ → List ℕ
 flat_line f line = flat_text f ++ (codes " $$ line " ++ decimal line)
 
+-- and with the pass over that line, from the second one on, if the line has room for it
+abbrev pub if_short : List ℕ → List ℕ → List ℕ
+if_short longer line = if nat_le (length longer) 4096 then longer else line
+
+abbrev pub with_pass : List ℕ → ℕ → List ℕ
+with_pass line pass = if nat_le pass 1 then line else if_short (line ++ (codes ", pass " ++ decimal pass)) line
+
 -- what begins a note: the line of the source
 unfoldable pub note_line : ℕ → List ℕ
 note_line line = codes "dme: line " ++ (decimal line ++ codes ": ")
@@ -87,7 +94,3 @@ place_text p = written p.x ++ 44 ∷ (written p.y ++ 44 ∷ written p.z)
 abbrev pub components_text : Option Direction → List ℕ
 components_text None = []
 components_text (Some d) = 44 ∷ written_direction d (codes ",")
-
-abbrev pub line_end : ℕ → Bool → List ℕ
-line_end line false = []
-line_end line true = codes " $$ line " ++ (decimal line ++ 10 ∷ [])

@@ -1,5 +1,5 @@
 -- The flat program that a program stands for, and what was decided about it (this profile).
-use Rattle.std.specs.Prelude.{ℕ, Bool, false, List, [], ◌∷◌, ◌++◌, length, codes, flat_map, Option, Some, None}
+use Rattle.std.specs.Prelude.{ℕ, ◌+◌, ◌==◌, Bool, false, true, not, List, [], ◌∷◌, ◌++◌, length, codes, flat_map, Option, Some, None}
 use Rattle.std.specs.Prelude.{Result, Ok, Err, ◌&&◌, if◌then◌else◌}
 use Rattle.std.specs.Str.Lines.{lines}
 use Rattle.dmis_text.specs.Reading.{text_reading}
@@ -13,7 +13,7 @@ use Rattle.dmis_program.specs.declared.sayings.StatementMeaning.{StatementMeanin
 use Rattle.dmis_program.specs.declared.sayings.StatementMeaning.TheVariants as said
 use Rattle.program_lowering.specs.Words.{left_out, passed_reason}
 use Rattle.program_lowering.specs.Manual.{in_manual, is_skipped}
-use Rattle.program_lowering.specs.Flats.{Flat, flat_line, note_line}
+use Rattle.program_lowering.specs.Flats.{Flat, flat_line, note_line, with_pass}
 use Rattle.program_lowering.specs.StoredFrames.{by_frame, frame_notes, if_stored, is_used}
 use Rattle.program_lowering.specs.Texts.{is_operator_text}
 use Rattle.program_lowering.specs.Inches.{all_stated}
@@ -37,7 +37,7 @@ left_out_at choices [] s = None
 left_out_at choices (t ∷ above) s = left_out_in choices (in_manual (s ∷ (t ∷ above))) s
 
 -- the statements that count: those that are not left out, with frames by name
-abbrev pub unless_left_out : Option Reason → Statement → List Statement
+abbrev pub unless_left_out : {A : Type 0} → Option Reason → A → List A
 unless_left_out None s = s ∷ []
 unless_left_out (Some reason) s = []
 
@@ -55,6 +55,30 @@ kept_below choices above (s ∷ statements) = unless_left_out (left_out_at choic
 
 abbrev pub kept : Choices → List Statement → List Statement
 kept choices statements = kept_below choices [] statements
+
+-- the passes over a line, in the statements down to here, the nearest first. Each begins with a statement on it that is directly below none on
+-- it: every way back (an ENDDO, a JUMPTO, a CALL) comes out as a statement on a line of its own, and what a block is given is on that of its end
+abbrev pub is_on : ℕ → List Statement → Bool
+is_on line [] = false
+is_on line (s ∷ above) = line == s.line
+
+abbrev pub passes_over : ℕ → List Statement → ℕ
+passes_over line [] = 0
+passes_over line (s ∷ above) = if line == s.line && not (is_on line above) then passes_over line above + 1 else passes_over line above
+
+-- none is directly below another on its line
+abbrev pub are_apart : List Statement → Bool
+are_apart [] = true
+are_apart (s ∷ above) = not (is_on s.line above) && are_apart above
+
+-- that of each statement that counts: those that are left out are passed, too
+abbrev pub passes_below : Choices → List Statement → List Statement → List ℕ
+passes_below choices above [] = []
+passes_below choices above (s ∷ statements) =
+    unless_left_out (left_out_at choices above s) (passes_over s.line (s ∷ above)) ++ passes_below choices (s ∷ above) statements
+
+abbrev pub kept_passes : Choices → List Statement → List ℕ
+kept_passes choices statements = passes_below choices [] statements
 
 -- the statements of a text as they are carried out, with their values and in Cartesian coordinates
 abbrev pub valued_statements : List ℕ → List Statement
@@ -80,14 +104,23 @@ flat_of s (Ok meaning) = flat_meant s meaning
 flat_of s (Err refusal) = None
 
 -- the line that is written, if one is
-abbrev pub line_for : ℕ → Option Flat → List (List ℕ)
-line_for line None = []
-line_for line (Some f) = flat_line f line ∷ []
+abbrev pub line_for : ℕ → ℕ → Option Flat → List (List ℕ)
+line_for line pass None = []
+line_for line pass (Some f) = with_pass (flat_line f line) pass ∷ []
 
--- the lines of statements up to the one that closes the program
-abbrev pub flat_lines : List Statement → List (List ℕ)
-flat_lines [] = []
-flat_lines (s ∷ statements) = line_for s.line (flat_of s (saying s)) ++ (if is_closing (saying s) then [] else flat_lines statements)
+-- the lines of statements with these passes, up to the one that closes the program
+abbrev pub first_pass : List ℕ → ℕ
+first_pass [] = 1
+first_pass (pass ∷ passes) = pass
+
+abbrev pub other_passes : List ℕ → List ℕ
+other_passes [] = []
+other_passes (pass ∷ passes) = passes
+
+abbrev pub flat_lines : List ℕ → List Statement → List (List ℕ)
+flat_lines passes [] = []
+flat_lines passes (s ∷ statements) = line_for s.line (first_pass passes) (flat_of s (saying s))
+    ++ (if is_closing (saying s) then [] else flat_lines (other_passes passes) statements)
 
 -- a line with its end, and lines with their ends: LF is 10
 abbrev pub ended : List ℕ → List ℕ
@@ -98,7 +131,7 @@ ended_lines written = flat_map ended written
 
 -- the flat program of a text, but for its head
 abbrev pub flat_program : Choices → List ℕ → List ℕ
-flat_program choices text = ended_lines (flat_lines (all_stated [] (kept choices (prepared choices text))))
+flat_program choices text = ended_lines (flat_lines (kept_passes choices (prepared choices text)) (all_stated [] (kept choices (prepared choices text))))
 
 -- why nothing is written of a statement: it is left out, or commands nothing
 abbrev pub passed_over : Statement → Result StatementMeaning Refusal → Option Reason

@@ -1,7 +1,7 @@
 -- Alignments by name (ISO 22093, DATSET, TRANS, ROTATE, RECALL): what makes or recalls a coordinate system selects the frame of its name in
 -- the setup, as `RECALL/D` does (this profile). The frame of a touch is then that of the nearest such statement above it. What makes a system
 -- again after a touch in it selects nothing, and is refused: its name has another meaning from there on, and the setup has one frame for both.
-use Rattle.std.specs.Prelude.{ℕ, ◌+◌, Bool, true, false, not, ◌&&◌, ◌||◌, List, [], ◌∷◌, ◌++◌, codes, decimal, Option, Some, None, Result, Ok}
+use Rattle.std.specs.Prelude.{ℕ, ◌+◌, Bool, true, false, not, ◌&&◌, ◌||◌, List, [], ◌∷◌, ◌++◌, codes, decimal, is_some, Option, Some, None, Result, Ok}
 use Rattle.std.specs.Prelude.{if◌then◌else◌}
 use Rattle.std.specs.Str.{bytes_eq}
 use Rattle.dmis_text.specs.Statements.{has_open_text}
@@ -15,7 +15,9 @@ use Rattle.dmis_program.specs.declared.keywords.Keyword.TheVariants as word
 use Rattle.dmis_program.specs.declared.sayings.StatementMeaning.{StatementMeaning}
 use Rattle.dmis_program.specs.declared.sayings.StatementMeaning.TheVariants as said
 use Rattle.program_lowering.specs.Flats.{note_line, within}
+use Rattle.program_lowering.specs.Words.{every}
 use Rattle.program_lowering.specs.declared.words.Choices.{Choices}
+use Rattle.tool_rack.specs.Setups.{has_name}
 
 -- the words that make a coordinate system, whose label names it
 abbrev pub alignments : List (List ℕ)
@@ -58,6 +60,10 @@ named_frame used _ s = None
 
 abbrev pub stored_frame : Choices → (List ℕ → Bool) → Statement → Option (List ℕ)
 stored_frame choices used s = if choices.stored_frames && not (has_open_text s) then named_frame used (keyword_of s.word) s else None
+
+-- whether a statement selects a frame by name, before any touch
+abbrev pub selects_frame : Statement → Bool
+selects_frame s = is_some (stored_frame every (has_name []) s)
 
 -- the statement that counts in its place
 abbrev pub selecting : Option (List ℕ) → Statement → Statement

@@ -14,6 +14,10 @@ use Rattle.program_lowering.specs.declared.words.Choices.{Choices}
 use Rattle.program_lowering.specs.declared.words.Reason.{Reason}
 use Rattle.program_lowering.specs.declared.words.Reason.TheVariants as reason
 
+-- all that may be chosen
+abbrev pub every : Choices
+every = record { no_clearing = true; compensated = true; skip_manual = true; stored_frames = true; even_touches = true }
+
 -- how results are printed, and where
 abbrev pub printing : List (List ℕ)
 printing = codes "VFORM" ∷ codes "DECPL" ∷ codes "DEVICE" ∷ codes "OPEN" ∷ codes "CLOSE" ∷ codes "REPORT" ∷ []

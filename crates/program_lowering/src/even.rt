@@ -1,6 +1,6 @@
 // Touches from the nominal.
 
-ghost use Rattle.std.specs.Prelude.{◌≡◌, [], IfOk, OnOk, None, Ok};
+ghost use Rattle.std.specs.Prelude.{◌≡◌, [], codes, IfOk, OnOk, None, Ok};
 ghost use Rattle.std.specs.Option.{option_map};
 ghost use Rattle.dmis_program.specs.Keywords.{keyword_of};
 ghost use Rattle.dmis_program.specs.Sayings.{said_of};
@@ -8,11 +8,13 @@ ghost use Rattle.program_flow.specs.Numbers.{and_then, magnitude, quotient};
 ghost use Rattle.program_flow.specs.Texts.{whole_of};
 ghost use Rattle.program_lowering.specs.Carried as code;
 ghost use Rattle.program_lowering.specs.EvenTouches as spec;
+ghost use Rattle.program_lowering.specs.Texts.{begins_with};
 
 use crate::cartesian::{Plane, Triple, in_plane, moved_by, number_in, numbers_in};
 use crate::flats::push_number;
 use crate::manual::manual_after;
 use crate::stored::{makes_frame, name_within};
+use crate::texts::begins_with;
 use crate::words::names_frame;
 use dmis_program::{Keyword, StatementFault, StatementMeaning, said_of};
 use dmis_text::{Statement, Text};
@@ -84,21 +86,12 @@ impl Model for Even {
     ghost view = { λ e. record { waiting = e.waiting; features = e.features.items; manual = e.manual } };
 }
 
-fn is_circle(params: &[Text]) -> bool
-    ensures { result ≡ spec.is_circle params.now }
-{
-    match params {
-        [kind, ..] => is_text(kind, "CIRCLE"),
-        [] => false,
-    }
-}
-
 /// The block that a `MEAS` begins, if it is of a circle.
 fn begun(alloc: Global, statement: &Statement) -> Result<Option<Wanted>, AllocError>
-    ensures { IfOk result (λ block. block ≡ spec.begun (spec.is_circle statement.now.params)
-        (said_of Keyword.Meas statement.now)) }
+    ensures { IfOk result (λ block. block ≡ spec.begun (begins_with (codes "CIRCLE")
+        statement.now.params) (said_of Keyword.Meas statement.now)) }
 {
-    let circle = is_circle(&statement.params);
+    let circle = begins_with("CIRCLE", &statement.params);
     match said_of(alloc, Keyword::Meas, statement) {
         Ok(StatementMeaning::Begins(name, count)) => {
             if circle {
@@ -117,10 +110,9 @@ fn begun(alloc: Global, statement: &Statement) -> Result<Option<Wanted>, AllocEr
 fn has_size(size: u64, number: Number) -> bool
     ensures { result ≡ spec.has_size size (whole_of number) }
 {
-    match number.get_whole() {
-        Ok(whole) => whole.unsigned_abs() == size,
-        Err(_) => false,
-    }
+    number
+        .get_whole()
+        .is_ok_and(|whole| whole.unsigned_abs() == size)
 }
 
 fn are_along(along: Number, second: Number, third: Number) -> bool
@@ -148,10 +140,7 @@ fn is_above_zero(number: Number) -> bool
     ensures { result ≡ spec.is_above_zero (and_then (quotient number (magnitude number)) whole_of) }
 {
     match number.quotient(number.magnitude()) {
-        Ok(sign) => match sign.get_whole() {
-            Ok(whole) => whole > 0,
-            Err(_) => false,
-        },
+        Ok(sign) => sign.get_whole().is_ok_and(|whole| whole > 0),
         Err(_) => false,
     }
 }
@@ -206,17 +195,6 @@ fn bore_of(alloc: Global, params: &[Text]) -> Option<Bore>
             bore_in(alloc, rest)
         }
         _ => None,
-    }
-}
-
-/// The bore that a statement says.
-fn bore_said(alloc: Global, statement: &Statement) -> Option<Bore>
-    ensures { result ≡ spec.bore_said statement.now }
-{
-    if is_text(&statement.word, "FEAT") {
-        bore_of(alloc, &statement.params)
-    } else {
-        None
     }
 }
 
@@ -386,7 +364,11 @@ impl Even {
             return Ok(());
         }
         if let Some(name) = feature_name(alloc, &statement.label)? {
-            let bore = bore_said(alloc, statement);
+            let bore = if is_text(&statement.word, "FEAT") {
+                bore_of(alloc, &statement.params)
+            } else {
+                None
+            };
             self.features.push(Feature { name, bore })?;
         }
         Ok(())

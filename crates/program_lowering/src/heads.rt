@@ -82,30 +82,7 @@ fn or_none(options: &[u8]) -> &[u8]
     }
 }
 
-/// The head of a flat program: the name of its source with the digest of that text, the name of the setup, and the options.
-fn head(
-    alloc: Global,
-    names: SourceNames<'_>,
-    choices: Choices,
-    source: &[u8],
-) -> Result<Vec<u8>, AllocError>
-    ensures { IfOk result (λ head. head.items ≡ ended_lines (head_lines
-        (names_of names.entry.program.now names.entry.setup.now) choices source.now)) }
-{
-    let program = shown_name(alloc, names.program.as_bytes())?;
-    let digest = digest_of(alloc, source)?;
-    let setup = shown_name(alloc, setup_name(names.setup.as_bytes()))?;
-    let options = given_options(alloc, choices)?;
-    let mut head = Vec::new(alloc);
-    push_named(&mut head, b"$$ flat program, written by dme lower", b"")?;
-    push_named(&mut head, b"$$ source: ", program.as_slice())?;
-    push_named(&mut head, b"$$ SHA-256 of the source: ", digest.as_bytes())?;
-    push_named(&mut head, b"$$ setup: ", setup.as_slice())?;
-    push_named(&mut head, b"$$ options:", or_none(options.as_slice()))?;
-    Ok(head)
-}
-
-/// The lines of a flat program with the head before them.
+/// The lines of a flat program after its head: the name of its source with the digest of that text, the name of the setup, and the options.
 pub(crate) fn with_head(
     alloc: Global,
     names: SourceNames<'_>,
@@ -117,7 +94,16 @@ pub(crate) fn with_head(
         (names_of names.entry.program.now names.entry.setup.now) choices source.now)
         ++ lines.now) }
 {
-    let mut text = head(alloc, names, choices, source)?;
-    text.extend_from_slice(lines)?;
-    Ok(text)
+    let program = shown_name(alloc, names.program.as_bytes())?;
+    let digest = digest_of(alloc, source)?;
+    let setup = shown_name(alloc, setup_name(names.setup.as_bytes()))?;
+    let options = given_options(alloc, choices)?;
+    let mut head = Vec::new(alloc);
+    push_named(&mut head, b"$$ flat program, written by dme lower", b"")?;
+    push_named(&mut head, b"$$ source: ", program.as_slice())?;
+    push_named(&mut head, b"$$ SHA-256 of the source: ", digest.as_bytes())?;
+    push_named(&mut head, b"$$ setup: ", setup.as_slice())?;
+    push_named(&mut head, b"$$ options:", or_none(options.as_slice()))?;
+    head.extend_from_slice(lines)?;
+    Ok(head)
 }

@@ -1,5 +1,5 @@
 // What follows from the definitions alone. Each function has laws for its contract and does nothing.
-ghost use Rattle.std.specs.Prelude.{◌≡◌, ◌<◌, ◌^◌, ◌++◌, ◌∷◌, ◌*◌, [], ℕ, ℤ, pos, neg_ℤ, int_lt, unsigned_abs, Bool, Err, List, filter, length, map, codes, decimal, false, true, take, Some, None, Ok};
+ghost use Rattle.std.specs.Prelude.{◌≡◌, ◌<◌, ◌^◌, ◌++◌, ◌∷◌, ◌*◌, ◌+◌, ◌==◌, [], ℕ, ℤ, pos, neg_ℤ, int_lt, unsigned_abs, Bool, Err, List, filter, length, map, codes, decimal, false, true, take, Some, None, Ok};
 ghost use Rattle.std.specs.List.{AllByRecursion};
 ghost use Rattle.std.specs.Option.{option_map};
 ghost use Rattle.dmis_program.specs.Keywords.{keyword_of};
@@ -22,14 +22,14 @@ ghost use Rattle.program_lowering.specs.declared.cartesian.AngleUnit.TheVariants
 ghost use Rattle.program_lowering.specs.declared.cartesian.Plane.TheVariants.{Xy, Yz, Zx};
 ghost use Rattle.program_lowering.specs.declared.cartesian.Reference.{Reference};
 ghost use Rattle.program_lowering.specs.Acts.{acts_of};
-ghost use Rattle.program_lowering.specs.Examples.{all_choices, assign, bare, declare_x, first_by_hand, manual_front, measured, mode_man, mode_prog, plain_choices, start, to_operator, a_touch, make_a, make_a_on_7, make_b, recall_a, naming_a, naming_none, of_setup, saving, two_frames, labelled, x_is_five, a_move, around, below, by_ten, placed, bore_a, block_a, end_of_block, given_below, minus, no_blocks, no_bores, on_wall, three_of_a, told_of, upright, from_five};
-ghost use Rattle.program_lowering.specs.EvenTouches.{EachBelow, bore_named, is_touch, to_centre, touches_before, waiting};
+ghost use Rattle.program_lowering.specs.Examples.{all_choices, assign, bare, declare_x, first_by_hand, manual_front, measured, mode_man, mode_prog, plain_choices, start, to_operator, a_touch, make_a, make_a_on_7, make_b, recall_a, naming_a, naming_none, of_setup, saving, two_frames, labelled, x_is_five, a_move, around, below, by_ten, placed, bore_a, block_a, end_of_block, given_below, minus, moves_on, no_blocks, no_bores, on_line, on_wall, three_of_a, to_five, told_of, two_rounds, upright, from_five};
+ghost use Rattle.program_lowering.specs.EvenTouches.{EachBelow, all_touched, bore_named, is_touch, last_of, to_centre, touches_before, waiting};
 ghost use Rattle.program_lowering.specs.declared.even.Bore.{Bore};
 ghost use Rattle.program_lowering.specs.declared.even.Wanted.{Wanted};
-ghost use Rattle.program_lowering.specs.Flats.{flat, flat_text};
+ghost use Rattle.program_lowering.specs.Flats.{flat, flat_text, with_pass};
 ghost use Rattle.program_lowering.specs.Heads.{IsComment, Names, head_lines};
 ghost use Rattle.program_lowering.specs.Inches.{all_stated, in_inches, in_millimetres, inch_length, stated};
-ghost use Rattle.program_lowering.specs.Lowering.{counted_at, ended_lines, flat_program, kept, left_out_at, lowered_meaning, passed_over, prepared, valued_statements};
+ghost use Rattle.program_lowering.specs.Lowering.{are_apart, counted_at, ended_lines, flat_program, is_on, kept, kept_passes, left_out_at, lowered_meaning, passed_over, passes_over, prepared, valued_statements};
 ghost use Rattle.program_lowering.specs.Manual.{in_manual, is_skipped};
 ghost use Rattle.program_lowering.specs.OperatorTexts.{TextsFit, flat_meant, text_refusal};
 ghost use Rattle.program_lowering.specs.StoredFrames.{by_frame, frame_note, frame_notes, is_used, stored_frame};
@@ -213,7 +213,7 @@ pub fn blocks_with_touches_stay()
         → touches_before (since ++ touch ∷ above) s ≡ [] }
 {}
 
-/// A block that is given something is given the touches that it asks for, each directly below a move to the centre of its bore.
+/// A block that is given something is given the touches that it asks for, each directly between moves to the centre of its bore.
 pub fn blocks_are_given_what_they_ask_for()
     ensures count { (above : List Statement) (s : Statement) (w : Wanted) → waiting above ≡ Some w
         → (touches_before above s ≡ [] → ⊥)
@@ -221,6 +221,10 @@ pub fn blocks_are_given_what_they_ask_for()
     ensures from_centre { (above : List Statement) (s : Statement) (w : Wanted) (bore : Bore)
         → waiting above ≡ Some w → bore_named above w.name ≡ Some bore
         → EachBelow (to_centre s.line bore.centre) s (touches_before above s) }
+    ensures back { (above : List Statement) (s : Statement) (w : Wanted) (bore : Bore)
+        → waiting above ≡ Some w → bore_named above w.name ≡ Some bore
+        → (touches_before above s ≡ [] → ⊥)
+        → last_of s (touches_before above s) ≡ to_centre s.line bore.centre }
     ensures others { (above : List Statement) (s : Statement) → waiting above ≡ None
         → touches_before above s ≡ [] }
 {}
@@ -232,13 +236,13 @@ pub fn examples_of_even_touches()
         ≡ told_of 4 ∷ (on_wall (decimal 25) (decimal 0) (minus 1) (decimal 0)
         ++ (on_wall (decimal 0) (decimal 25) (decimal 0) (minus 1)
         ++ (on_wall (minus 25) (decimal 0) (decimal 1) (decimal 0)
-        ++ on_wall (decimal 0) (minus 25) (decimal 0) (decimal 1)))) }
+        ++ (on_wall (decimal 0) (minus 25) (decimal 0) (decimal 1) ++ to_five)))) }
     ensures three { given_below (three_of_a ∷ (upright ∷ []))
         ≡ told_of 3 ∷ (on_wall (decimal 25) (decimal 0) (minus 1) (decimal 0)
         ++ (on_wall (minus 12 ++ codes ".500000") (decimal 21 ++ codes ".650635")
         (decimal 0 ++ codes ".500000") (minus 0 ++ codes ".866025")
-        ++ on_wall (minus 12 ++ codes ".500000") (minus 21 ++ codes ".650635")
-        (decimal 0 ++ codes ".500000") (decimal 0 ++ codes ".866025"))) }
+        ++ (on_wall (minus 12 ++ codes ".500000") (minus 21 ++ codes ".650635")
+        (decimal 0 ++ codes ".500000") (decimal 0 ++ codes ".866025") ++ to_five))) }
     ensures second_plane { take 3 (given_below (three_of_a
         ∷ (bore_a (codes "1") (codes "0") (codes "0") ∷ [])))
         ≡ told_of 3 ∷ from_five (decimal 0 ∷ (decimal 25 ∷ (minus 5
@@ -247,9 +251,36 @@ pub fn examples_of_even_touches()
         ∷ (bore_a (codes "0") (codes "-1") (codes "0") ∷ [])))
         ≡ told_of 3 ∷ from_five (decimal 0 ∷ (decimal 0 ∷ (decimal 20
         ∷ (decimal 0 ∷ (decimal 0 ∷ (minus 1 ∷ [])))))) }
-    ensures nearest { length (given_below (three_of_a ∷ (upright ∷ no_bores))) ≡ 7 }
+    ensures nearest { length (given_below (three_of_a ∷ (upright ∷ no_bores))) ≡ 8 }
     ensures noted { detail reason.Touched (codes "4" ∷ (codes "A" ∷ [])) ≡ codes
         "4 touches of F(A), each from its centre: see that the way there is free" }
+{}
+
+/// Statements on one line that follow one another are of one pass, as what a block is given and its end. Where none follows another on its line,
+/// there are as many passes over a line as statements on it.
+pub fn passes_begin_below_other_lines()
+    ensures one { (line : ℕ) (given above : List Statement)
+        → AllByRecursion (λ s. s.line ≡ line) given → (given ≡ [] → ⊥) → is_on line above ≡ false
+        → passes_over line (given ++ above) ≡ passes_over line above + 1 }
+    ensures each { (line : ℕ) (all : List Statement) → are_apart all ≡ true
+        → passes_over line all ≡ length (filter (λ s. line == s.line) all) }
+{}
+
+/// Examples: the pass of each statement that counts, and how it is written.
+pub fn examples_of_passes()
+    ensures rounds { kept_passes plain_choices (moves_on (1 ∷ (3 ∷ (4 ∷ (5 ∷ (4 ∷ (5 ∷ (6 ∷ []))))))))
+        ≡ 1 ∷ (1 ∷ (1 ∷ (1 ∷ (2 ∷ (2 ∷ (1 ∷ [])))))) }
+    ensures calls { kept_passes plain_choices (moves_on (8 ∷ (2 ∷ (9 ∷ (2 ∷ (10 ∷ (2 ∷ [])))))))
+        ≡ 1 ∷ (1 ∷ (1 ∷ (2 ∷ (1 ∷ (3 ∷ []))))) }
+    ensures filled { kept_passes plain_choices (all_touched [] two_rounds)
+        ≡ 1 ∷ (1 ∷ (1 ∷ (1 ∷ (1 ∷ (1 ∷ (1 ∷ (1 ∷ (1 ∷ (1 ∷ (1
+        ∷ (2 ∷ (2 ∷ (2 ∷ (2 ∷ (2 ∷ (2 ∷ (2 ∷ (2 ∷ (2 ∷ []))))))))))))))))))) }
+    ensures left_out { kept_passes all_choices (start ∷ (on_line 2 mode_man ∷ (on_line 3 a_move
+        ∷ (on_line 4 mode_prog ∷ (on_line 3 a_move ∷ []))))) ≡ 1 ∷ (1 ∷ (2 ∷ [])) }
+    ensures first { (line : List ℕ) → with_pass line 1 ≡ line }
+    ensures second { with_pass (codes "ENDMES $$ line 7") 2
+        ≡ codes "ENDMES $$ line 7, pass " ++ decimal 2 }
+    ensures no_room { (line : List ℕ) (pass : ℕ) → length line ≡ 4096 → with_pass line pass ≡ line }
 {}
 
 /// Examples: blocks that are given nothing.

@@ -10,7 +10,7 @@
 //! - `values`: statements with the values of variables; `cartesian`: and with Cartesian coordinates
 //! - `even`: the touches that a block is given
 //! - `heads`: the comments before a flat program
-//! - `above`: what the statements above leave for the one that is judged
+//! - `above`: what the statements above leave for the one that is judged; `passes`: how often each line was passed
 //! - `lowering`: `lower`, the flat program of a text, or its first refusal; `laws`: what follows from the definitions
 //!
 //! What a program stands for is said by `lowered_meaning`, `flat_program` and `notes_of` of specs/Lowering.antt.
@@ -27,6 +27,7 @@ mod lines;
 mod lowering;
 mod manual;
 pub mod near_laws;
+mod passes;
 mod stored;
 mod texts;
 mod values;
@@ -34,5 +35,7 @@ mod words;
 
 pub use heads::SourceNames;
 pub use lowering::{Lowered, lower};
+pub use manual::{is_skipped, manual_after};
+pub use stored::selects_frame;
 pub use texts::{begins_with, is_among, is_operator_text, without_cart};
-pub use words::{Choices, Reason};
+pub use words::{Choices, Reason, left_out};

@@ -1,10 +1,10 @@
 // The line that is written of a statement. Texts for the operator are written as they are read.
 
-ghost use Rattle.std.specs.Prelude.{◌≡◌, ◌++◌, codes, decimal, false, true, OnOk, IfOk};
+ghost use Rattle.std.specs.Prelude.{◌≡◌, ◌++◌, codes, decimal, false, is_some, true, OnOk, IfOk};
 ghost use Rattle.std.specs.List.{list_all};
 ghost use Rattle.dmis_text.specs.Texts.{may_stand};
 ghost use Rattle.dmis_program.specs.Keywords.{keyword_of};
-ghost use Rattle.program_lowering.specs.Flats.{flat_line, flat_text, line_end};
+ghost use Rattle.program_lowering.specs.Flats.{flat_text, text_for, with_pass};
 ghost use Rattle.program_lowering.specs.Lowering.{ended_lines, line_for};
 ghost use Rattle.program_lowering.specs.OperatorTexts as spec;
 
@@ -93,15 +93,6 @@ pub(crate) fn push_comment(out: &mut Vec<u8>, line: u64) -> Result<(), AllocErro
     push_number(out, line)
 }
 
-/// Appends the line of a text for the operator, without its end.
-fn push_text_line(out: &mut Vec<u8>, statement: &Statement) -> Result<(), AllocError>
-    ensures { OnOk result (out.new.items
-        ≡ out.old.items ++ flat_line (spec.as_read statement.now) statement.now.line) }
-{
-    push_as_read(out, statement)?;
-    push_comment(out, statement.line)
-}
-
 /// Why no line can hold a statement that is a text for the operator; none for other statements.
 pub(crate) fn text_refusal(
     alloc: Global,
@@ -116,40 +107,71 @@ pub(crate) fn text_refusal(
         return Ok(Some(Refusal::BadByte));
     }
     let mut line = Vec::new(alloc);
-    push_text_line(&mut line, statement)?;
+    push_as_read(&mut line, statement)?;
+    push_comment(&mut line, statement.line)?;
     if line.len() > LONGEST_LINE {
         return Ok(Some(Refusal::LineTooLong));
     }
     Ok(None)
 }
 
-/// Appends what ends the line of a statement, if it is written: the line of the source in a comment.
-fn push_end(out: &mut Vec<u8>, line: u64, is_written: bool) -> Result<(), AllocError>
-    ensures { OnOk result (out.new.items ≡ out.old.items ++ line_end line is_written) }
+/// Appends the text that is written of a statement with this keyword that says this. Whether one is.
+fn push_meant(
+    out: &mut Vec<u8>,
+    keyword: Keyword,
+    statement: &Statement,
+    meaning: &StatementMeaning,
+) -> Result<bool, AllocError>
+    requires { keyword ≡ keyword_of statement.now.word }
+    ensures text { OnOk result (out.new.items
+        ≡ out.old.items ++ text_for (spec.flat_meant statement.now meaning.now)) }
+    ensures written { IfOk result (λ written. written
+        ≡ is_some (spec.flat_meant statement.now meaning.now)) }
 {
-    if !is_written {
-        return Ok(());
+    if is_operator_text(statement) {
+        push_as_read(out, statement)?;
+        return Ok(true);
     }
-    push_comment(out, line)?;
-    Ok(out.push(b'\n')?)
+    push_text(out, keyword, &statement.params, meaning)?;
+    Ok(is_written(keyword, meaning))
 }
 
-/// Appends the line that is written of a statement with this keyword that says this; nothing, if nothing is.
+/// A line with the pass over its line of the source, from the second one on, if there is room for it.
+fn with_pass(line: Vec<u8>, pass: u64) -> Result<Vec<u8>, AllocError>
+    ensures { IfOk result (λ made. made.items ≡ with_pass line.items pass) }
+{
+    if pass <= 1 {
+        return Ok(line);
+    }
+    let mut longer = Vec::from_slice(*line.allocator(), &line)?;
+    longer.extend_from_slice(b", pass ")?;
+    push_number(&mut longer, pass)?;
+    if longer.len() <= LONGEST_LINE {
+        Ok(longer)
+    } else {
+        Ok(line)
+    }
+}
+
+/// Appends the line that is written of a statement with this keyword that says this, in this pass; nothing, if nothing is.
 #[tactic(auto, using(crate::proofs::LineParts::lines))]
 pub(crate) fn push_line(
     out: &mut Vec<u8>,
     keyword: Keyword,
     statement: &Statement,
+    pass: u64,
     meaning: &StatementMeaning,
 ) -> Result<(), AllocError>
     requires { keyword ≡ keyword_of statement.now.word }
-    ensures { OnOk result (out.new.items ≡ out.old.items
-        ++ ended_lines (line_for statement.now.line (spec.flat_meant statement.now meaning.now))) }
+    ensures { OnOk result (out.new.items ≡ out.old.items ++ ended_lines
+        (line_for statement.now.line pass (spec.flat_meant statement.now meaning.now))) }
 {
-    if is_operator_text(statement) {
-        push_text_line(out, statement)?;
-        return Ok(out.push(b'\n')?);
+    let mut line = Vec::new(*out.allocator());
+    if !push_meant(&mut line, keyword, statement, meaning)? {
+        return Ok(());
     }
-    push_text(out, keyword, &statement.params, meaning)?;
-    push_end(out, statement.line, is_written(keyword, meaning))
+    push_comment(&mut line, statement.line)?;
+    let line = with_pass(line, pass)?;
+    out.extend_from_slice(&line)?;
+    Ok(out.push(b'\n')?)
 }

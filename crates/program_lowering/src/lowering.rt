@@ -6,7 +6,7 @@ ghost use Rattle.dmis_program.specs.Meaning.{closes, ended};
 ghost use Rattle.dmis_program.specs.Outcomes.{fault_at, refused_at, Gives};
 ghost use Rattle.dmis_text.specs.declared.elements.Statement.{Statement};
 ghost use Rattle.program_flow.specs.Left.{IsGiven};
-ghost use Rattle.program_lowering.specs.Carried.{GivesLines, GivesStep, Knows, TakesCartesian, TakesValued, all_steps, followed, left_out_after, nothing_carried, noted, seen_by, step, touch_steps, touched_step, frames_closed, judged_next};
+ghost use Rattle.program_lowering.specs.Carried.{GivesLines, GivesStep, Knows, TakesCartesian, TakesValued, all_steps, entered, followed, left_out_after, nothing_carried, noted, seen_by, step, touch_steps, touched_step, frames_closed, judged_next};
 ghost use Rattle.program_lowering.specs.EvenTouches.{from_centre, given_by, made_at, moving, notice};
 ghost use Rattle.program_lowering.specs.Heads.{names_of};
 ghost use Rattle.program_lowering.specs.declared.words.Reason.TheVariants.{Touched};
@@ -24,6 +24,7 @@ use crate::heads::{SourceNames, with_head};
 use crate::inches::inches_after;
 use crate::lines::{push_line, text_refusal};
 use crate::manual::{is_skipped, manual_after};
+use crate::passes::PassTable;
 use crate::stored::{FrameNotes, FrameUses, stored_frame};
 use crate::texts::is_operator_text;
 use crate::values::{Values, read_back};
@@ -58,6 +59,7 @@ struct Lowering {
     notes: Vec<u8>,
     frames: FrameNotes,
     uses: FrameUses,
+    passes: PassTable,
 }
 
 impl Model for Lowering {
@@ -66,7 +68,7 @@ impl Model for Lowering {
 
     ghost Value = { Carried };
 
-    ghost view = { λ l. record { above = l.above; inches = l.inches; manual = l.manual; text = l.text.items; notes = l.notes.items; frames = l.frames.text.items; since = l.frames.since; selected = l.uses.selected; used = l.uses.used.items } };
+    ghost view = { λ l. record { above = l.above; inches = l.inches; manual = l.manual; text = l.text.items; notes = l.notes.items; frames = l.frames.text.items; since = l.frames.since; selected = l.uses.selected; used = l.uses.used.items; passes = l.passes } };
 
     ghost invariant = { λ l. (l.above.number ≤ 10000) × (l.above.touched ≤ l.above.number) × (IfSome l.frames.since (λ n. n ≤ l.above.number)) };
 }
@@ -199,6 +201,7 @@ impl Lowering {
                 selected: None,
                 used: Vec::new(alloc),
             },
+            passes: PassTable::new(alloc),
         }
     }
 
@@ -233,7 +236,8 @@ impl Lowering {
         requires few { self.old.above.number < 10000 }
         ensures { OnOk result (self.new ≡ followed self.old statement.now meaning.now) }
     {
-        push_line(&mut self.text, keyword, statement, meaning)?;
+        let pass = self.passes.passes(statement.line);
+        push_line(&mut self.text, keyword, statement, pass, meaning)?;
         push_note(
             &mut self.notes,
             statement,
@@ -282,6 +286,7 @@ impl Lowering {
     ) -> Result<bool, StatementFault>
         ensures { GivesStep result self.new (step frames.now choices self.old statement.now) }
     {
+        self.passes.enter(statement.line)?;
         let keyword = keyword_of_word(&statement.word);
         let manual = manual_after(self.manual, keyword, statement);
         if let Some(reason) = self.left_out(choices, manual, keyword, statement) {
@@ -334,7 +339,7 @@ impl Lowering {
         self.take_made(choices, frames, line, b"PTMEAS", &numbers)
     }
 
-    /// Likewise for each touch of these.
+    /// Likewise for each touch of these, and then a move to the centre.
     fn take_touches(
         &mut self,
         choices: Choices,
@@ -347,7 +352,8 @@ impl Lowering {
             touches.now) }
     {
         let [first, rest @ ..] = touches else {
-            return Ok(false);
+            let end = [centre.0, centre.1, centre.2];
+            return self.take_made(choices, frames, line, b"GOTO", &end);
         };
         if self.take_touch(choices, frames, line, centre, first)? {
             return Ok(true);
@@ -358,8 +364,10 @@ impl Lowering {
     /// Notes what a block is given.
     #[tactic(auto, unfolding(dmis_program::specs::Keywords::keyword_of))]
     fn note(&mut self, line: u64, filling: &Filling) -> Result<(), AllocError>
-        ensures { OnOk result (self.new ≡ noted self.old (notice line filling.now) (Some Touched)) }
+        ensures { OnOk result (self.new
+            ≡ noted (entered self.old line) (notice line filling.now) (Some Touched)) }
     {
+        self.passes.enter(line)?;
         push_notice(&mut self.notes, line, filling)
     }
 
@@ -409,6 +417,7 @@ impl Lowering {
             mut notes,
             mut frames,
             uses: _,
+            passes: _,
         } = self;
         if choices.stored_frames && frames.push_to(&mut notes).is_err() {
             return Err(ProgramFault::Memory);

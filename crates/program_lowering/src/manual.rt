@@ -20,7 +20,7 @@ fn is_manual(params: &[Text]) -> bool
 }
 
 /// Whether the operator measures from a statement with this keyword on.
-pub(crate) fn manual_after(manual: bool, keyword: Keyword, statement: &Statement) -> bool
+pub fn manual_after(manual: bool, keyword: Keyword, statement: &Statement) -> bool
     requires { keyword ≡ keyword_of statement.now.word }
     ensures { result ≡ spec.manual_after manual statement.now }
 {
@@ -54,7 +54,7 @@ fn measures(keyword: Keyword, word: &[u8]) -> bool
 }
 
 /// Whether a statement with this keyword is left out, where the operator measures or not.
-pub(crate) fn is_skipped(manual: bool, keyword: Keyword, statement: &Statement) -> bool
+pub fn is_skipped(manual: bool, keyword: Keyword, statement: &Statement) -> bool
     requires { keyword ≡ keyword_of statement.now.word }
     ensures { result ≡ spec.is_skipped manual statement.now }
 {

@@ -166,6 +166,21 @@ pub(crate) fn stored_frame(
     }
 }
 
+/// Whether a statement with this keyword selects a frame of the setup by name, before any touch.
+pub fn selects_frame(
+    alloc: Global,
+    keyword: Keyword,
+    statement: &Statement,
+) -> Result<bool, AllocError>
+    requires { keyword ≡ keyword_of statement.now.word }
+    ensures { IfOk result (λ selects. selects ≡ spec.selects_frame statement.now) }
+{
+    let (selected, used) = (None, Vec::new(alloc));
+    let uses = FrameUses { selected, used };
+    let frame = stored_frame(alloc, Choices::every(), &uses, keyword, statement)?;
+    Ok(frame.is_some())
+}
+
 /// The notes on frames that are selected by name.
 #[derive(Drop)]
 pub(crate) struct FrameNotes {

@@ -3,7 +3,7 @@
 ghost use Rattle.std.specs.Prelude.{◌≡◌, ◌++◌, OnOk};
 ghost use Rattle.dmis_program.specs.Keywords.{is_among, keyword_of};
 ghost use Rattle.program_lowering.specs.Reasons.{assigned_text, detail, joint, reason_text, touches_text};
-ghost use Rattle.program_lowering.specs.Words.{clearing, compensation, left_out, naming, is_assigned, passed_motion, passed_reason, printing, reason_for, reason_of, is_of_setup, names_frame};
+ghost use Rattle.program_lowering.specs.Words.{compensation, every, left_out, naming, is_assigned, passed_motion, passed_reason, reason_for, reason_of, is_of_setup, names_frame};
 
 use crate::texts::is_among;
 use dmis_program::Keyword;
@@ -24,6 +24,21 @@ pub struct Choices {
     pub stored_frames: bool,
     /// A block for a bore that has no touch is given those that it asks for, from the nominal.
     pub even_touches: bool,
+}
+
+impl Choices {
+    /// All of them.
+    pub fn every() -> Choices
+        ensures { result ≡ every }
+    {
+        Choices {
+            no_clearing: true,
+            compensated: true,
+            skip_manual: true,
+            stored_frames: true,
+            even_touches: true,
+        }
+    }
 }
 
 /// Why nothing is written of a statement.
@@ -59,16 +74,6 @@ pub enum Reason {
     Touched,
 }
 
-/// How results are printed, and where.
-fn is_printing(word: &[u8]) -> bool
-    ensures { result ≡ is_among word.now printing }
-{
-    is_among(
-        word,
-        &["VFORM", "DECPL", "DEVICE", "OPEN", "CLOSE", "REPORT"],
-    )
-}
-
 /// What is measured, by whom, by which plan, and on what it is clamped.
 fn is_naming(word: &[u8]) -> bool
     ensures { result ≡ is_among word.now naming }
@@ -80,13 +85,6 @@ fn is_naming(word: &[u8]) -> bool
             "MFGDEV", "CLMPID", "CLMPSN", "FIXTID", "FIXTSN",
         ],
     )
-}
-
-/// Where the machine clears the part.
-fn is_clearing(word: &[u8]) -> bool
-    ensures { result ≡ is_among word.now clearing }
-{
-    is_among(word, &["CLRSRF", "CLRPLN", "CZONE", "CZSLCT"])
 }
 
 /// `TECOMP`.
@@ -124,7 +122,8 @@ fn is_of_setup(word: &[u8], params: &[Text]) -> bool
 fn reason_of(choices: Choices, word: &[u8], params: &[Text]) -> Option<Reason>
     ensures { result ≡ reason_of choices word.now params.now }
 {
-    if is_printing(word) {
+    let printing = &["VFORM", "DECPL", "DEVICE", "OPEN", "CLOSE", "REPORT"];
+    if is_among(word, printing) {
         return Some(Reason::Printing);
     }
     if is_naming(word) {
@@ -136,7 +135,7 @@ fn reason_of(choices: Choices, word: &[u8], params: &[Text]) -> Option<Reason>
     if is_text(word, "FLY") || is_text(word, "RAPID") {
         return Some(Reason::Motion);
     }
-    if is_clearing(word) {
+    if is_among(word, &["CLRSRF", "CLRPLN", "CZONE", "CZSLCT"]) {
         return if choices.no_clearing {
             Some(Reason::Clearing)
         } else {
@@ -186,7 +185,7 @@ fn reason_for(choices: Choices, statement: &Statement) -> Option<Reason>
 }
 
 /// Why a statement with this keyword is left out.
-pub(crate) fn left_out(choices: Choices, keyword: Keyword, statement: &Statement) -> Option<Reason>
+pub fn left_out(choices: Choices, keyword: Keyword, statement: &Statement) -> Option<Reason>
     requires { keyword ≡ keyword_of statement.now.word }
     ensures { result ≡ left_out choices statement.now }
 {

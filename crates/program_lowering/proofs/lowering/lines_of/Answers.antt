@@ -1,12 +1,11 @@
-use Rattle.program_lowering.proofs.Names.{◌++◌, ◌∙◌, ◌∷◌, ◌≡◌, [], ap, Err, fault_at, GivesLines, length, lines, List, Statement, subst, sym, text_reading, ℕ}
+use Rattle.program_lowering.proofs.Names.{◌∙◌, ap, Err, fault_at, GivesLines, length, lines, List, Statement, subst, sym, text_reading, ℕ}
 use Rattle.program_flow.specs.Flow.{carried}
 use Rattle.program_flow.specs.Left.{IsGiven, left_of}
-use Rattle.program_lowering.specs.Carried.{touches_due}
-use Rattle.program_lowering.specs.Cartesian.{all_cartesian, cartesian, made_cartesian, reference_after}
+use Rattle.program_lowering.specs.Cartesian.{all_cartesian, cartesian, made_cartesian}
 use Rattle.program_lowering.specs.EvenTouches.{touched_from}
 use Rattle.program_lowering.specs.Valued.{all_valued, new_params, valued}
-use Rattle.program_lowering.proofs.EndLemmas.{at_end, at_statement, closes_at, finished, goes_past, written_of}
-use Rattle.program_lowering.proofs.EvenLemmas.{due_on, no_more, sees_after, touched_next}
+use Rattle.program_lowering.proofs.EndLemmas.{at_end, at_statement, closes_at, finished, goes_round, split_next, written_of}
+use Rattle.program_lowering.proofs.EvenLemmas.{due_on, no_more}
 use Rattle.program_lowering.proofs.ValuedLemmas.{same_place}
 use Rattle.program_lowering.proofs.lowering.lines_of.Goals as goal
 
@@ -37,18 +36,12 @@ returns-in-Ok-true c =
     let known = c.loop-next.invariant in
     let next = rw c.in-Some.is at (c.in-Ok-next.ensures.given known.0 known.1.holds) in
     let of = subst (λ (ss : List Statement). IsGiven ss c.in-Some.given next.0) (sym (c.outside-outside.ensures ∙ c.next.ensures.outside)) next.1 in
-    let ref = c.loop-next.reference in
-    let v = valued known.0 next.0 in
-    let s = cartesian ref v in
-    let given = touches_due c.args.choices c.loop-next.even s ++ s ∷ [] in
-    let below = all_cartesian (reference_after ref s) (all_valued (carried known.0 next.0) (left_of c.next.new.self (carried known.0 next.0))) in
-    let rest = touched_from c.args.choices (s ∷ known.2.0) below in
-    let all = touched_from c.args.choices known.2.0 (all_cartesian ref (all_valued known.0 (left_of c.loop-next.flow known.0))) in
-    let split : all ≡ given ++ rest = ap (λ (ss : List Statement). touched_from c.args.choices known.2.0 (all_cartesian ref (all_valued known.0 ss))) next.2
-    ∙ touched_next c.args.choices known.2.0 below c.loop-next.even s known.2.1 in
+    let s = cartesian c.loop-next.reference (valued known.0 next.0) in
+    let split = split_next c.args.choices known.2.0 known.0 (left_of c.loop-next.flow known.0) (left_of c.next.new.self (carried known.0 next.0))
+    c.loop-next.reference c.loop-next.even next.0 known.2.1 next.2 in
     let on = due_on c.args.choices c.loop-next.even s in
     let due = rw c.in-Ok-true.field-0-test at (c.in-Ok-true.ensures known.0 next.0 of known.1).0.0 in
-    let closed = closes_at c.args.frames.now c.args.choices (text_reading c.args.bytes.now).fault (length (lines c.args.bytes.now)) s.line given all rest
+    let closed = closes_at c.args.frames.now c.args.choices (text_reading c.args.bytes.now).fault (length (lines c.args.bytes.now)) s.line _ _ _
     c.loop-next.lowering c.take_given.new.lowering split on due in
     let w = written_of c.args.frames.now c.args.choices c.args.bytes.now _ (sym known.2.2 ∙ closed) in
     finished c.args.frames.now c.args.choices c.args.bytes.now _ _ c.finish.result w c.finish.ensures.text c.finish.ensures.notes c.finish.ensures.err
@@ -58,20 +51,15 @@ returns-in-Err c =
     let known = c.loop-next.invariant in
     let next = rw c.in-Some.is at (c.in-Ok-next.ensures.given known.0 known.1.holds) in
     let of = subst (λ (ss : List Statement). IsGiven ss c.in-Some.given next.0) (sym (c.outside-outside.ensures ∙ c.next.ensures.outside)) next.1 in
-    let ref = c.loop-next.reference in
-    let v = valued known.0 next.0 in
-    let s = cartesian ref v in
-    let given = touches_due c.args.choices c.loop-next.even s ++ s ∷ [] in
-    let below = all_cartesian (reference_after ref s) (all_valued (carried known.0 next.0) (left_of c.next.new.self (carried known.0 next.0))) in
-    let rest = touched_from c.args.choices (s ∷ known.2.0) below in
-    let all = touched_from c.args.choices known.2.0 (all_cartesian ref (all_valued known.0 (left_of c.loop-next.flow known.0))) in
-    let split : all ≡ given ++ rest = ap (λ (ss : List Statement). touched_from c.args.choices known.2.0 (all_cartesian ref (all_valued known.0 ss))) next.2
-    ∙ touched_next c.args.choices known.2.0 below c.loop-next.even s known.2.1 in
+    let s = cartesian c.loop-next.reference (valued known.0 next.0) in
+    let split = split_next c.args.choices known.2.0 known.0 (left_of c.loop-next.flow known.0) (left_of c.next.new.self (carried known.0 next.0))
+    c.loop-next.reference c.loop-next.even next.0 known.2.1 next.2 in
     let on = due_on c.args.choices c.loop-next.even s in
-    let line = same_place v (made_cartesian ref v) ∙ same_place next.0 (new_params known.0 next.0) in
+    let v = valued known.0 next.0 in
+    let line = same_place v (made_cartesian c.loop-next.reference v) ∙ same_place next.0 (new_params known.0 next.0) in
     rw c.fault_at.ensures (subst (λ (n : ℕ). GivesLines c.args.frames.now c.args.choices c.args.bytes.now (Err (fault_at c.in-Err.fault n)))
     (line ∙ sym (c.line_of.ensures next.0 of)) (at_statement c.args.frames.now c.args.choices c.args.bytes.now c.in-Err.fault
-    (text_reading c.args.bytes.now).fault (length (lines c.args.bytes.now)) s.line given all rest c.loop-next.lowering c.take_given.new.lowering split on
+    (text_reading c.args.bytes.now).fault (length (lines c.args.bytes.now)) s.line _ _ _ c.loop-next.lowering c.take_given.new.lowering split on
     (c.in-Err.ensures known.0 next.0 of known.1).0.0 known.2.2))
 
 pub loop-next-preserved-in-Ok-false : goal.loop-next-preserved-in-Ok-false
@@ -80,21 +68,10 @@ loop-next-preserved-in-Ok-false c =
     let next = rw c.in-Some.is at (c.in-Ok-next.ensures.given known.0 known.1.holds) in
     let of = subst (λ (ss : List Statement). IsGiven ss c.in-Some.given next.0) (sym (c.outside-outside.ensures ∙ c.next.ensures.outside)) next.1 in
     let taken = c.in-Ok-false.ensures known.0 next.0 of known.1 in
-    let due = rw c.in-Ok-false.field-0-test at taken.0.0 in
-    let ref = c.loop-next.reference in
-    let v = valued known.0 next.0 in
-    let s = cartesian ref v in
-    let given = touches_due c.args.choices c.loop-next.even s ++ s ∷ [] in
-    let below = all_cartesian (reference_after ref s) (all_valued (carried known.0 next.0) (left_of c.next.new.self (carried known.0 next.0))) in
-    let rest = touched_from c.args.choices (s ∷ known.2.0) below in
-    let all = touched_from c.args.choices known.2.0 (all_cartesian ref (all_valued known.0 (left_of c.loop-next.flow known.0))) in
-    let split : all ≡ given ++ rest = ap (λ (ss : List Statement). touched_from c.args.choices known.2.0 (all_cartesian ref (all_valued known.0 ss))) next.2
-    ∙ touched_next c.args.choices known.2.0 below c.loop-next.even s known.2.1 in
-    let on = due_on c.args.choices c.loop-next.even s in
-    let past = goes_past c.args.frames.now c.args.choices (text_reading c.args.bytes.now).fault (length (lines c.args.bytes.now)) s.line given all rest
-    c.loop-next.lowering c.take_given.new.lowering split on due in
-    let sees = sees_after c.args.choices known.2.0 c.loop-next.even s known.2.1 in
-    (carried known.0 next.0, taken.1, (s ∷ known.2.0, rw taken.0.1.1 sees, rw taken.0.1.0 (past ∙ known.2.2)))
+    goes_round c.args.frames.now c.args.choices c.args.bytes.now known.2.0 known.0 (left_of c.loop-next.flow known.0) (left_of c.next.new.self)
+    c.loop-next.reference c.take_given.new.reference c.loop-next.even c.take_given.new.even c.loop-next.lowering c.take_given.new.lowering next.0
+    c.take_given.new.values.variables c.take_given.new.values.declared known.2.1 next.2 (rw c.in-Ok-false.field-0-test at taken.0.0) taken.0.1.0
+    taken.0.1.1 taken.1 known.2.2
 
 pub loop-next-preserved : goal.loop-next-preserved
 loop-next-preserved c =
@@ -102,18 +79,7 @@ loop-next-preserved c =
     let next = rw c.in-Some.is at (c.in-Ok-next.ensures.given known.0 known.1.holds) in
     let of = subst (λ (ss : List Statement). IsGiven ss c.in-Some.given next.0) (sym (c.outside-outside.ensures ∙ c.next.ensures.outside)) next.1 in
     let taken = c.in-Ok-false.ensures known.0 next.0 of known.1 in
-    let due = rw c.in-Ok-false.field-0-test at taken.0.0 in
-    let ref = c.loop-next.reference in
-    let v = valued known.0 next.0 in
-    let s = cartesian ref v in
-    let given = touches_due c.args.choices c.loop-next.even s ++ s ∷ [] in
-    let below = all_cartesian (reference_after ref s) (all_valued (carried known.0 next.0) (left_of c.next.new.self (carried known.0 next.0))) in
-    let rest = touched_from c.args.choices (s ∷ known.2.0) below in
-    let all = touched_from c.args.choices known.2.0 (all_cartesian ref (all_valued known.0 (left_of c.loop-next.flow known.0))) in
-    let split : all ≡ given ++ rest = ap (λ (ss : List Statement). touched_from c.args.choices known.2.0 (all_cartesian ref (all_valued known.0 ss))) next.2
-    ∙ touched_next c.args.choices known.2.0 below c.loop-next.even s known.2.1 in
-    let on = due_on c.args.choices c.loop-next.even s in
-    let past = goes_past c.args.frames.now c.args.choices (text_reading c.args.bytes.now).fault (length (lines c.args.bytes.now)) s.line given all rest
-    c.loop-next.lowering c.take_given.new.lowering split on due in
-    let sees = sees_after c.args.choices known.2.0 c.loop-next.even s known.2.1 in
-    (carried known.0 next.0, taken.1, (s ∷ known.2.0, rw taken.0.1.1 sees, rw taken.0.1.0 (past ∙ known.2.2)))
+    goes_round c.args.frames.now c.args.choices c.args.bytes.now known.2.0 known.0 (left_of c.loop-next.flow known.0) (left_of c.next.new.self)
+    c.loop-next.reference c.take_given.new.reference c.loop-next.even c.take_given.new.even c.loop-next.lowering c.take_given.new.lowering next.0
+    c.take_given.new.values.variables c.take_given.new.values.declared known.2.1 next.2 (rw c.in-Ok-false.field-0-test at taken.0.0) taken.0.1.0
+    taken.0.1.1 taken.1 known.2.2
