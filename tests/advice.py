@@ -85,7 +85,7 @@ class Calls:
         """The refused lines of a text with their codes, and its summary: the lines and the sentence of each group."""
         found, _ = self.call("review", lines)
         refusals = [re.match(r"p:(\d+): refused: (P\d+) .*?(?:MEAS at line (\d+)|$)", it) for it in found if ": refused: " in it]
-        summary = [re.fullmatch(r"p: summary: [^:]+: \d+ lines? \(([\d, ]+)\): (.*)", it) for it in found if ": summary: " in it]
+        summary = [re.fullmatch(r"p: summary: [^:]+: \d+ lines? \(([\d, ]+)\): (.*)", it) for it in found if ": summary: " in it and ": dme lower" not in it]
         return {int(it[1]): (it[2], it[3]) for it in refusals}, [({int(n) for n in it[1].split(", ")}, it[2]) for it in summary]
 
     def measured(self, lines):

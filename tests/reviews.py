@@ -196,7 +196,7 @@ def block(label, kind, *touches, count=None, feature=True, moves=True):
 TOUCH = "PTMEAS/CART,1,2,3,0,0,1"
 NOT_CARRIED_OUT = "refused: P5 Unsupported: {} is not carried out."
 SENTENCES = {  # what is found: its lines, with a label of its own, and for each sentence how many lines are above it; {} is the line there
-    "P5": lambda it: (["DECPL/ALL,3"], [(0, NOT_CARRIED_OUT.format("DECPL"))]),
+    "P5": lambda it: (["DECPL/ALL,3"], [(0, NOT_CARRIED_OUT.format("DECPL") + " dme lower leaves it out.")]),
     "P6": lambda it: (["SNSLCT/T"], [(0, "refused: P6 BadArguments: T is not S(name) or SA(name).")]),
     "P7": lambda it: (
         ["GOTO/1,x,3"],
@@ -227,7 +227,10 @@ SENTENCES = {  # what is found: its lines, with a label of its own, and for each
         ["RECALL/D(NOPE)", "RECALL/D(HERE)"],
         [(0, "refused: P11 UnknownFrame: No frame NOPE is stored: --setup is missing, or its file has no line FRAME NOPE.")],
     ),
-    "P12": lambda it: (["UNITS/INCH"], [(0, "refused: P12 NotMillimetres: The unit INCH is not read: lengths are in MM.")]),
+    "P12": lambda it: (
+        ["UNITS/INCH"],
+        [(0, "refused: P12 NotMillimetres: The unit INCH is not read: lengths are in MM. dme lower writes it out.")],
+    ),
     "P13": lambda it: (
         ["MODE/MAN"],
         [
@@ -311,17 +314,20 @@ SENTENCES = {  # what is found: its lines, with a label of its own, and for each
         [(0, "passed over: TEXT/OPER,'TURN' is a text for the operator: a run waits for him only with --pause.")],
     ),
 }
+MEASURED = ("P7", "P8", "P9", "P10", "P13", "P14")  # refusals of words that measure or move, or of MODE
 SETUP = "TOOL P1\nFRAME HERE 0 0 0\nFRAME SPARE 0 0 0\nFRAME FAR 999999 0 0\n"
 OPENED = ["DMISMN", "SNSLCT/S(P1)", "RECALL/D(FAR)", "RECALL/D(HERE)"]
 
 
 def review_of(names):
     """The lines of a program with these findings, one after the other, and the lines of its review but for the summary."""
-    lines, due = list(OPENED), []
+    lines, due, manual = list(OPENED), [], False
     for place, name in enumerate(names):
         chunk, sentences = SENTENCES[name](f"L{place}")
         numbers = [len(lines) + 1 + it for it in range(len(chunk))]
-        due += [f"p:{numbers[above]}: {sentence.format(*numbers)}" for above, sentence in sentences]
+        manual = manual or name == "P13"
+        end = " dme lower --skip-manual leaves it out." if manual and name in MEASURED else ""
+        due += [f"p:{numbers[above]}: {sentence.format(*numbers)}{end}" for above, sentence in sentences]
         lines += chunk
     return [*lines, "ENDFIL"], [*due, "s:3: setup: FRAME SPARE is stored, and no RECALL of the program selects it."]
 

@@ -1,8 +1,14 @@
--- The last apostrophe, and the last parameter.
-use Rattle.program_review.proofs.Outside.{[], ◌++◌, ◌-◌, ◌<◌, ◌==◌, ◌∙◌, ◌∷◌, ◌≡◌, ◌≢◌, ◌≤◌, ap, arith, last_or, length, length-take-le, List, ne_eqb}
-use Rattle.program_review.proofs.Outside.{not, Option, refl, slice_index, Some, suffix_len, sym, take, ℕ}
+-- The last apostrophe, and a parameter with a name.
+use Rattle.program_review.proofs.Outside.{◌-◌, ◌<◌, ◌==◌, ◌∙◌, ◌≡◌, ◌≢◌, ◌≤◌, ap, arith, length, length-take-le, List, ne_eqb}
+use Rattle.program_review.proofs.Outside.{not, slice_index, suffix_len, sym, take, ℕ}
 use Rattle.std.proofs.lemmas.List.Sums.{suffix_len_is}
-use Rattle.program_review.specs.Arguments.{last_apostrophe}
+use Rattle.program_review.proofs.Outside.{Option, Result, Some}
+use Rattle.program_review.specs.Arguments.{form_cause, last_apostrophe}
+use Rattle.program_review.specs.BadNames.{name_fault}
+use Rattle.program_review.specs.Causes.{within_ends}
+use Rattle.program_review.specs.Spots.{Site, param_spot}
+use Rattle.program_review.specs.Words.{Gives, Named}
+use Rattle.program_review.specs.declared.words.Fault.{Fault}
 
 -- it is the one before a place from which on there are no apostrophes
 pub last_apostrophe-is : (text : List ℕ) (end : ℕ) → end ≤ length text → ((k : ℕ) → end ≤ k → k < length text → slice_index text k ≢ 39)
@@ -14,6 +20,8 @@ last_apostrophe-is text end h none there =
     let n : length text - suffix_len (λ (b : ℕ). not (b == 39)) text - 1 ≡ end - 1 = omega arith in
     sym (ap (λ (k : ℕ). length (take k text)) n ∙ length-take-le (end - 1) text (omega arith))
 
-pub last_or_at : (o : Option (List ℕ)) (front : List (List ℕ)) (last : List ℕ) → last_or o (front ++ last ∷ []) ≡ Some last
-last_or_at o [] last = refl
-last_or_at o (param ∷ front) last = last_or_at (Some param) front last
+-- a parameter of this form is at fault as its name is
+pub form_is : {E : Type 0} → (r : Result (Option Fault) E) (p : Site) (n : ℕ) (front param name : List ℕ) (word : Named)
+    → Some name ≡ within_ends front param → word ≡ param_spot p.rest p.statement n name → Gives r (name_fault name word)
+    → Gives r (form_cause p n front param)
+form_is r p n front param name word h e g = rw (← h, ← e) g

@@ -14,7 +14,9 @@ use Rattle.dmis_program.specs.Judging.{judged}
 use Rattle.dmis_program.specs.Meaning.{meaning_of}
 use Rattle.dmis_program.proofs.Sound.{SaidBy}
 use Rattle.dmis_program.proofs.SayingLemmas.{said_of_if}
+use Rattle.program_review.specs.Taken.{around_after, nothing_around}
 use Rattle.program_review.specs.declared.standing.Standing.{Standing}
+use Rattle.program_review.specs.declared.taking.Around.{Around}
 use Rattle.dmis_program.proofs.CarryingLemmas.{settling_is}
 
 -- what an open block that has this many touches lacks
@@ -177,26 +179,26 @@ goes_on : (b : Bool) (steps : List Step) (behind : Result (List Step) (Refusal �
 goes_on true steps behind more h = refl
 goes_on false steps behind more h = h ∙ sym (front_keeps steps behind)
 
-by_judgement : (names : List (List ℕ)) (s : Statement) (st : Standing) (r : Result StatementMeaning Refusal) (steps : StatementMeaning → List Step)
+by_judgement : (names : List (List ℕ)) (around : Around) (s : Statement) (st : Standing) (r : Result StatementMeaning Refusal) (steps : StatementMeaning → List Step)
     (behind : Result (List Step) (Refusal × ℕ)) (rest : Standing → List Remark)
     → ((m : StatementMeaning) → r ≡ Ok m → is_end (keyword_of s.word) ≡ closes m)
     → ((m : StatementMeaning) → r ≡ Ok m → first_of (rest (after_said st (keyword_of s.word) m)) ≡ fault_of behind)
-    → first_of (listed names s r ++ cond (is_end (keyword_of s.word)) [] (rest (after st (keyword_of s.word) r)))
+    → first_of (listed names around s r ++ cond (is_end (keyword_of s.word)) [] (rest (after st (keyword_of s.word) r)))
     ≡ fault_of (continued s.line r steps behind)
-by_judgement names s st (Err e) steps behind rest ends more = refl
-by_judgement names s st (Ok m) steps behind rest ends more = rw (ends m refl) (goes_on (closes m) (steps m) behind _ (more m refl))
+by_judgement names around s st (Err e) steps behind rest ends more = refl
+by_judgement names around s st (Ok m) steps behind rest ends more = rw (ends m refl) (goes_on (closes m) (steps m) behind _ (more m refl))
 
-agrees : (frames : List (List ℕ × Point)) (fault : Option TextFault) (n : ℕ) (names : List (List ℕ)) (statements above : List Statement)
-    (st : Standing) → Matches above st
-    → first_of (refusals_from frames fault n names st statements) ≡ fault_of (steps_from frames fault n above statements)
-agrees frames fault n names [] above st h = rw h.number refl
-agrees frames fault n names (s ∷ statements) above st h =
+agrees : (frames : List (List ℕ × Point)) (fault : Option TextFault) (n : ℕ) (names : List (List ℕ)) (around : Around)
+    (statements above : List Statement) (st : Standing) → Matches above st
+    → first_of (refusals_from frames fault n names around st statements) ≡ fault_of (steps_from frames fault n above statements)
+agrees frames fault n names around [] above st h = rw h.number refl
+agrees frames fault n names around (s ∷ statements) above st h =
     let keyword = keyword_of s.word in
     rw (due_is frames above st s h)
-    (by_judgement names s st (judged frames (context_at frames above) s) (steps_of frames (context_at frames above))
-    (steps_from frames fault n (s ∷ above) statements) (λ (next : Standing). refusals_from frames fault n (names ++ names_by s) next statements)
+    (by_judgement names around s st (judged frames (context_at frames above) s) (steps_of frames (context_at frames above))
+    (steps_from frames fault n (s ∷ above) statements) (λ (next : Standing). refusals_from frames fault n (names ++ names_by s) (around_after around s) next statements)
     (λ m e. end_is s m (accepted_is frames (context_at frames above) s m e).said)
-    (λ m e. agrees frames fault n (names ++ names_by s) statements (s ∷ above) (after_said st keyword m)
+    (λ m e. agrees frames fault n (names ++ names_by s) (around_after around s) statements (s ∷ above) (after_said st keyword m)
     (matches_after frames above st s m h (accepted_is frames (context_at frames above) s m e))))
 
 meant_keeps : (r : Result (List Step) (Refusal × ℕ)) → fault_of (meant r) ≡ fault_of r
@@ -206,7 +208,7 @@ meant_keeps (Err e) = refl
 first_is : (frames : List (List ℕ × Point)) (text : List ℕ) → first_of (refusals_of frames text) ≡ fault_of (program_of frames text)
 unfolding meaning_of
 first_is frames text =
-    agrees frames (text_reading text).fault (length (lines text)) [] (text_reading text).statements [] at_start (record {
+    agrees frames (text_reading text).fault (length (lines text)) [] nothing_around (text_reading text).statements [] at_start (record {
       number = refl;
       few = omega arith;
       start = refl;

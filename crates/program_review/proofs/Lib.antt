@@ -10,7 +10,6 @@ pub mod Feeds
 pub mod LineSteps
 pub mod PlaceLemmas
 pub mod Searches
-pub mod BlockLemmas
 pub mod ReasonLemmas
 pub mod ArgumentLemmas
 pub mod NumeralLemmas

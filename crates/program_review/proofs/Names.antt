@@ -30,7 +30,7 @@ pub use Rattle.order_parts.specs.Pauses.{Held, place_seen}
 pub use Rattle.program_review.specs.Texts.{place_on, places_below, places_of, text_seen, texts_from, texts_of}
 pub use Rattle.program_review.specs.UnderSetup.{is_end, lacks_from, recalls_other}
 pub use Rattle.program_review.specs.UnusedFrames.{names_recalled, unused_from}
-pub use Rattle.program_review.specs.Variables.{is_fault, is_named, is_no_length, names_by, names_in}
+pub use Rattle.program_review.specs.Variables.{is_named, names_by, names_in}
 pub use Rattle.program_review.specs.declared.remarks.Remark.{Remark}
 pub use Rattle.program_review.specs.declared.tasks.Task.{Task}
 pub use Rattle.program_review.specs.declared.tasks.TaskLine.{TaskLine}

@@ -1,24 +1,25 @@
--- The cause of a place, from that of its statement or of its line.
-use Rattle.program_review.proofs.Outside.{◌≡◌, ap, Caused, caused_by, IfSome, IsOfEither, IsOfLine, IsOfPlace, IsOfStatement}
-use Rattle.program_review.proofs.Outside.{IsProgramReason, None, Option, option_map, slice_get, Some, Spot, Statement, subst}
-use Rattle.program_review.proofs.Outside.{text_reading}
+-- The cause that is shown, from that of the place.
+use Rattle.program_review.proofs.Outside.{◌≡◌, Caused, IsOfPlace, IsProgramReason, None, Some, Spot}
+use Rattle.program_review.proofs.Outside.{◌-◌, ◌==◌, caused_by, find, length, List, open_block, OpenBlock, Option, refl, Result, slice_get, Statement, subst, ℕ}
+use Rattle.std.specs.Prelude.{IfOk}
 use Rattle.dmis_program.specs.declared.faults.Refusal.{Refusal}
+use Rattle.program_review.specs.Lines.{bytes_from}
+use Rattle.program_review.specs.Reasons.{spot_in}
 use Rattle.program_review.specs.declared.words.Reason.{Reason}
 
-shown_given : (r : Option Reason) (g : Reason) → IfSome r (λ w. g ≡ w) → IfSome (option_map caused_by r) (λ s. caused_by g ≡ s)
-shown_given None g h = tt
-shown_given (Some w) g h = ap caused_by h
+pub reasoned : (refusal : Refusal) (p : Spot) (c shown : Caused) → IsOfPlace refusal p (Some c) → shown ≡ c → IsProgramReason refusal p shown
+reasoned refusal p c shown h e = record { given = Some c; on_place = h; is_shown = e }
 
-pub reasoned : (refusal : Refusal) (p : Spot) (r : Option Reason) (g : Reason) → IsOfPlace refusal p (option_map caused_by r)
-    → IfSome r (λ w. g ≡ w) → IsProgramReason refusal p (caused_by g)
-reasoned refusal p r g h e = record { given = option_map caused_by r; on_place = h; is_shown = shown_given r g e }
+pub unreasoned : (refusal : Refusal) (p : Spot) (shown : Caused) → IsOfPlace refusal p None → IsProgramReason refusal p shown
+unreasoned refusal p shown h = record { given = None; on_place = h; is_shown = tt }
 
--- a statement begins on the line
-pub on_statement : (refusal : Refusal) (p : Spot) (s : Statement) (o : Option Caused) → Some s ≡ slice_get (text_reading p.rest).statements 0
-    → IsOfStatement refusal p s o → IsOfPlace refusal p o
-on_statement refusal p s o e h = subst (λ (x : Option Statement). IsOfEither refusal p x o) e h
+-- what is known of a line is known as the code keeps it
+pub spot_is : (text rest : List ℕ) (n : ℕ) (kept read : List Statement) (statement last : Option Statement) (block : Option OpenBlock)
+    → rest ≡ bytes_from n text → kept ≡ read → statement ≡ find (λ s. s.line == n) kept → last ≡ slice_get kept (length kept - 1)
+    → block ≡ open_block kept n
+    → record { text = text; rest = rest; statement = statement; last = last; block = block } ≡ spot_in text n read
+spot_is text rest n kept read statement last block a b d e f = rw (a, d, e, f, b) refl
 
--- none does
-pub on_line : (refusal : Refusal) (p : Spot) (o : Option Caused) → None ≡ slice_get (text_reading p.rest).statements 0
-    → IsOfLine refusal p o → IsOfPlace refusal p o
-on_line refusal p o e h = subst (λ (x : Option Statement). IsOfEither refusal p x o) e h
+pub on_spot : {E : Type 0} → (r : Result Reason E) (refusal : Refusal) (p q : Spot) → p ≡ q
+    → IfOk r (λ reason. IsProgramReason refusal p (caused_by reason)) → IfOk r (λ reason. IsProgramReason refusal q (caused_by reason))
+on_spot r refusal p q e h = subst (λ (x : Spot). IfOk r (λ reason. IsProgramReason refusal x (caused_by reason))) e h

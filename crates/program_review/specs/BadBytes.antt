@@ -1,5 +1,5 @@
 -- Which byte of a line is not allowed in its place (this profile).
-use Rattle.std.specs.Prelude.{◌≡◌, ℕ, ◌+◌, ◌-◌, ◌<◌, Bool, true, false, List, [], ◌∷◌, length, take, Option, Some, None, slice_index}
+use Rattle.std.specs.Prelude.{◌≡◌, ℕ, ◌+◌, ◌-◌, ◌<◌, Bool, true, false, List, [], ◌∷◌, length, take, Option, Some, None, slice_get, slice_index}
 use Rattle.std.specs.Str.Lines.{lines}
 use Rattle.dmis_text.specs.Reading.{text_reading}
 use Rattle.dmis_text.specs.declared.elements.Statement.{Statement}
@@ -20,18 +20,17 @@ is_bad_byte (Some Memory) = false
 abbrev pub has_bad_byte : List ℕ → Bool
 has_bad_byte text = is_bad_byte (text_reading text).fault
 
--- the line of the last of some statements; this one if there is none
-abbrev pub line_of_last : ℕ → List Statement → ℕ
-line_of_last line [] = line
-line_of_last line (s ∷ statements) = line_of_last s.line statements
-
 -- the line of the last statement of a text; 1 if it has none
-abbrev pub last_line : List ℕ → ℕ
-last_line text = line_of_last 1 (text_reading text).statements
+abbrev pub line_of_last : Option Statement → ℕ
+line_of_last None = 1
+line_of_last (Some s) = s.line
+
+abbrev pub last_line : List Statement → ℕ
+last_line statements = line_of_last (slice_get statements (length statements - 1))
 
 -- the text from its last statement on
 abbrev pub near : List ℕ → List ℕ
-near text = bytes_from (last_line text) text
+near text = bytes_from (last_line (text_reading text).statements) text
 
 -- after this many of the n bytes from a place of a text on, a text that had no such byte has one
 pub record Turns (text : List ℕ) (start n before : ℕ) : Type 0 where

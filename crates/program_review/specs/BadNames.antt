@@ -19,5 +19,5 @@ name_cause text = if length text == 0 then cause.NoName else if nat_lt 64 (lengt
     leftmost_cause (leftmost_byte text)
 
 -- of a text that is this word; none if it is a name
-abbrev pub name_reason : List ℕ → Named → Option Caused
-name_reason text word = if is_name_text text then None else Some (caused (name_cause word.bytes) word)
+abbrev pub name_fault : List ℕ → Named → Option Caused
+name_fault text word = if is_name_text text then None else Some (caused (name_cause word.bytes) word)

@@ -1,8 +1,7 @@
 -- Which measurement block is open before a line (ISO 22093, `MEAS`, `PTMEAS` and `ENDMES`).
-use Rattle.std.specs.Prelude.{ℕ, ◌+◌, ◌-◌, ◌^◌, List, fold, take_while, min, nat_lt, codes, Option, None, slice_get, if◌then◌else◌}
+use Rattle.std.specs.Prelude.{ℕ, ◌+◌, ◌-◌, ◌^◌, List, [], ◌∷◌, min, nat_le, codes, Option, None, slice_get, if◌then◌else◌}
 use Rattle.std.specs.Option.{option_map}
 use Rattle.std.specs.Str.{bytes_eq}
-use Rattle.dmis_text.specs.Reading.{text_reading}
 use Rattle.dmis_text.specs.declared.elements.Statement.{Statement}
 use Rattle.program_review.specs.declared.blocks.Block.{Block}
 
@@ -14,7 +13,7 @@ pub record OpenBlock : Type 0 where
 
 -- how the code keeps it
 abbrev pub opened_by : Block → OpenBlock
-opened_by block = record { line = block.line; wanted = block.wanted.items; touches = block.touches }
+opened_by block = record { line = block.line; wanted = block.wanted.now; touches = block.touches }
 
 -- the nearest number that 64 bits can hold
 abbrev pub in_64_bits : ℕ → ℕ
@@ -33,10 +32,11 @@ abbrev pub block_after : Option OpenBlock → Statement → Option OpenBlock
 block_after block s = if bytes_eq s.word (codes "MEAS") then begun s else if bytes_eq s.word (codes "ENDMES") then None else
     if bytes_eq s.word (codes "PTMEAS") then option_map one_touch_more block else block
 
--- the statements that begin above line n
-abbrev pub above_line : ℕ → List Statement → List Statement
-above_line n statements = take_while (λ s. nat_lt s.line n) statements
+-- the block that is open after this one and those of the statements that begin above line n
+abbrev pub open_from : Option OpenBlock → ℕ → List Statement → Option OpenBlock
+open_from block n [] = block
+open_from block n (s ∷ statements) = if nat_le n s.line then block else open_from (block_after block s) n statements
 
--- the block that is open before line n of a text
-unfoldable pub open_block : List ℕ → ℕ → Option OpenBlock
-open_block text n = fold block_after None (above_line n (text_reading text).statements)
+-- the block that these statements open and leave open before line n
+abbrev pub open_block : List Statement → ℕ → Option OpenBlock
+open_block statements n = open_from None n statements

@@ -10,6 +10,7 @@ pub mod Strays
 pub mod Travels
 pub mod UnusedFrames
 pub mod Variables
+pub mod Taken
 pub mod Remarks
 pub mod Findings
 pub mod Summary

@@ -4,7 +4,6 @@ use Rattle.std.specs.Prelude.{◌==◌, if◌then◌else◌, slice_get, take_whi
 use Rattle.std.specs.Option.{is_some, option_map, option_or}
 use Rattle.std.specs.Char.{is_ascii_digit}
 use Rattle.std.specs.Str.{bytes_eq}
-use Rattle.dmis_text.specs.declared.elements.Statement.{Statement}
 use Rattle.fixed_um.specs.Limits.{component_limit}
 use Rattle.fixed_um.specs.Computed.{value_of}
 use Rattle.fixed_um.specs.declared.numerals.NumeralFault.{NumeralFault}
@@ -14,7 +13,7 @@ use Rattle.program_review.specs.declared.numerals.Measure.TheVariants.{Length, C
 use Rattle.program_review.specs.declared.causes.Cause.{Cause}
 use Rattle.program_review.specs.declared.causes.Cause.TheVariants as cause
 use Rattle.program_review.specs.Words.{Named, Caused, caused}
-use Rattle.program_review.specs.Spots.{param_spot}
+use Rattle.program_review.specs.Spots.{Site, param_spot}
 use Rattle.program_review.specs.Blocks.{in_64_bits}
 use Rattle.program_review.specs.Lengths.{fault_in, length_fault}
 
@@ -51,8 +50,9 @@ fault_cause n measure text fault = if length text == 0 then cause.NoNumeral (in_
 abbrev pub fault_at : ℕ → Measure → Named → NumeralFault → Caused
 fault_at n measure word fault = caused (fault_cause n measure word.bytes fault) word
 
-abbrev pub parameter_cause : List ℕ → Statement → ℕ → Measure → List ℕ → Option Caused
-parameter_cause rest s n measure numeral = option_map (fault_at n measure (param_spot rest s n numeral)) (measure_fault measure numeral)
+abbrev pub parameter_cause : Site → ℕ → Measure → List ℕ → Option Caused
+parameter_cause p n measure numeral =
+    option_map (fault_at n measure (param_spot p.rest p.statement n numeral)) (measure_fault measure numeral)
 
 -- the first parameter is `CART`
 abbrev pub has_cart : List (List ℕ) → Bool
@@ -71,12 +71,12 @@ leftmost_component numerals = option_map (λ n. (n + 3, Component)) (position (i
 abbrev pub leftmost : List (List ℕ) → Option (ℕ × Measure)
 leftmost numerals = option_or (option_map (λ n. (n, Length)) (position (is_no Length) (take 3 numerals))) (leftmost_component numerals)
 
-abbrev pub numeral_at : List ℕ → Statement → ℕ → List (List ℕ) → ℕ × Measure → Option Caused
-numeral_at rest s before numerals p = option_and_then (parameter_cause rest s (before + p.0) p.1) (slice_get numerals p.0)
+abbrev pub numeral_at : Site → ℕ → List (List ℕ) → ℕ × Measure → Option Caused
+numeral_at p before numerals at = option_and_then (parameter_cause p (before + at.0) at.1) (slice_get numerals at.0)
 
 -- why it does not read
-abbrev pub bad_numeral_of : List ℕ → Statement → ℕ → List (List ℕ) → Option Caused
-bad_numeral_of rest s before numerals = option_and_then (numeral_at rest s before numerals) (leftmost numerals)
+abbrev pub bad_numeral_of : Site → ℕ → List (List ℕ) → Option Caused
+bad_numeral_of p before numerals = option_and_then (numeral_at p before numerals) (leftmost numerals)
 
-abbrev pub bad_numeral : List ℕ → Statement → Option Caused
-bad_numeral rest s = bad_numeral_of rest s (count_before s.params) (drop (count_before s.params) s.params)
+abbrev pub bad_numeral : Site → Option Caused
+bad_numeral p = bad_numeral_of p (count_before p.statement.params) (drop (count_before p.statement.params) p.statement.params)

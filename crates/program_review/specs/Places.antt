@@ -51,7 +51,7 @@ place_text name number line said = name ++ (codes ":" ++ (decimal number ++ (cod
 
 -- the cause of a refusal of line n, and the word at fault
 abbrev pub IsReason : FilesFault → List ℕ → ℕ → Caused → Type 0
-IsReason (Program (program.Refused refusal line)) bytes n why = IsProgramReason refusal (spot_of bytes n 0) why
+IsReason (Program (program.Refused refusal line)) bytes n why = IsProgramReason refusal (spot_of bytes n) why
 IsReason _ bytes n why = ⊤
 
 -- what is shown of a line, so that the word at fault is seen

@@ -24,22 +24,24 @@ file_of names what.Unused = names.setup
 file_of names _ = names.program
 
 abbrev pub line_of : What → ℕ → Option ℕ
+line_of (what.Lowered taken count) line = None
 line_of (what.Sum group) line = None
 line_of _ line = Some line
 
 -- the kind in words; with a refusal, its code and its name
 abbrev pub kind_text : What → List ℕ
-kind_text (what.Refused refusal group) = codes "refused"
+kind_text (what.Refused refusal group taken) = codes "refused"
 kind_text (what.Passed passed) = codes "passed over"
 kind_text (what.Clearing count) = codes "passed over"
 kind_text (what.Lack lack) = codes "setup"
 kind_text what.Unused = codes "setup"
 kind_text (what.Straight line) = codes "odd"
 kind_text (what.Odd odd) = codes "odd"
+kind_text (what.Lowered taken count) = codes "summary"
 kind_text (what.Sum group) = codes "summary"
 
 abbrev pub title_of : What → Option (List ℕ)
-title_of (what.Refused refusal group) = Some (refusal_text refusal)
+title_of (what.Refused refusal group taken) = Some (refusal_text refusal)
 title_of _ = None
 
 -- ---- a line each

@@ -1,79 +1,87 @@
--- Which cause belongs to which refusal of a program, and which word is at fault (this profile): a table. `text` is the text, `rest` its bytes
--- from the refused line on, `number` the number of that line, and `above` how many lines are above the text.
-use Rattle.std.specs.Prelude.{◌≡◌, ℕ, List, [], ◌∷◌, length, Option, Some, None, IfSome, slice_get}
+-- Which cause belongs to which refusal of a program, and which word is at fault (this profile): a table.
+use Rattle.std.specs.Prelude.{◌≡◌, ℕ, ◌-◌, ◌==◌, List, length, find, Option, Some, None, IfSome, slice_get, option_and_then}
+use Rattle.std.specs.Option.{option_map}
 use Rattle.std.specs.Str.Lines.{lines}
 use Rattle.dmis_text.specs.Reading.{text_reading}
 use Rattle.dmis_text.specs.declared.elements.Statement.{Statement}
 use Rattle.dmis_program.specs.declared.faults.Refusal.{Refusal}
 use Rattle.dmis_program.specs.declared.faults.Refusal.TheVariants as refusal
 use Rattle.program_review.specs.Lines.{first_of, bytes_from}
-use Rattle.program_review.specs.declared.causes.Cause.{Cause}
 use Rattle.program_review.specs.declared.causes.Cause.TheVariants as cause
-use Rattle.program_review.specs.declared.lines.Place.{Place}
-use Rattle.program_review.specs.Words.{Caused, caused, of_line}
-use Rattle.program_review.specs.Spots.{word_spot}
+use Rattle.program_review.specs.declared.programs.Passage.{Passage}
+use Rattle.program_review.specs.Words.{Caused, of_line}
+use Rattle.program_review.specs.Spots.{Site, at_word}
 use Rattle.program_review.specs.BadBytes.{IsByteReason}
+use Rattle.program_review.specs.Blocks.{OpenBlock, opened_by, open_block}
 use Rattle.program_review.specs.Causes as why
 use Rattle.program_review.specs.Numerals.{bad_numeral}
 use Rattle.program_review.specs.Arguments.{argument_cause}
 
--- what the causes on a program are made of
+-- what the causes on a line of a program are made of: its text, the bytes from the line on, the statement that begins on it, the last one of
+-- the text, and the block that is open above
 pub record Spot : Type 0 where
   pub text : List ℕ
   pub rest : List ℕ
-  pub number : ℕ
-  pub above : ℕ
+  pub statement : Option Statement
+  pub last : Option Statement
+  pub block : Option OpenBlock
 
 -- how the code keeps it
-abbrev pub spot_at : Place → Spot
-spot_at place = record { text = place.text.now; rest = place.rest.now; number = place.number; above = place.above }
+abbrev pub spot_at : Passage → Spot
+spot_at p = record {
+  text = p.text.now;
+  rest = p.rest.now;
+  statement = option_map (λ s. s.now) p.statement;
+  last = option_map (λ s. s.now) p.last;
+  block = option_map opened_by p.block;
+}
 
--- line n of a text with that many lines above
-abbrev pub spot_of : List ℕ → ℕ → ℕ → Spot
-spot_of text number above = record { text = text; rest = bytes_from number text; number = number; above = above }
+-- line n of a text with these statements
+abbrev pub spot_in : List ℕ → ℕ → List Statement → Spot
+spot_in text n statements = record {
+  text = text;
+  rest = bytes_from n text;
+  statement = find (λ s. s.line == n) statements;
+  last = slice_get statements (length statements - 1);
+  block = open_block statements n;
+}
 
--- the line by itself is at fault
-abbrev pub long_line : Spot → Caused
-long_line p = why.long_line (length (first_of (lines p.rest)))
+abbrev pub spot_of : List ℕ → ℕ → Spot
+spot_of text n = spot_in text n (text_reading text).statements
 
--- the major word of a statement is
-abbrev pub word_at_fault : Cause → Spot → Statement → Option Caused
-word_at_fault c p s = Some (caused c (word_spot p.rest s))
+-- of the statement that begins on the line, where this block is open; none if no statement there is refused for this
+abbrev pub statement_cause : Refusal → Option OpenBlock → Site → Option Caused
+statement_cause refusal.NotDmis b p = at_word p cause.NotFirst
+statement_cause refusal.Unsupported b p = why.unsupported p
+statement_cause refusal.BadArguments b p = argument_cause p
+statement_cause (refusal.BadNumeral fault) b p = bad_numeral p
+statement_cause refusal.OutsideBlock b p = at_word p cause.OutsideBlock
+statement_cause refusal.InsideBlock b p = option_and_then (why.inside p) b
+statement_cause refusal.TooFewPoints b p = option_and_then (why.few_touches p) b
+statement_cause refusal.UnknownFrame b p = why.unknown_frame p
+statement_cause refusal.NotMillimetres b p = why.first_at_fault p cause.OtherUnit
+statement_cause refusal.NoProgMode b p = why.first_at_fault p cause.OtherMode
+statement_cause refusal.ZeroVector b p = why.zero_direction p
+statement_cause refusal.NoTool b p = at_word p cause.NoTool
+statement_cause refusal.TooLarge b p = at_word p cause.TooLarge
+statement_cause _ b p = None
 
--- of the statement that begins on the line; none if no statement there is refused for this
-abbrev pub IsOfStatement : Refusal → Spot → Statement → Option Caused → Type 0
-IsOfStatement refusal.NotDmis p s o = o ≡ word_at_fault cause.NotFirst p s
-IsOfStatement refusal.Truncated p s o = o ≡ why.truncated p.text
-IsOfStatement refusal.LineTooLong p s o = o ≡ Some (long_line p)
-IsOfStatement refusal.BadByte p s o = IsByteReason p.text p.rest o
-IsOfStatement refusal.Unsupported p s o = o ≡ why.unsupported_cause p.rest s
-IsOfStatement refusal.BadArguments p s o = o ≡ argument_cause p.rest s
-IsOfStatement (refusal.BadNumeral fault) p s o = o ≡ bad_numeral p.rest s
-IsOfStatement refusal.OutsideBlock p s o = o ≡ word_at_fault cause.OutsideBlock p s
-IsOfStatement refusal.InsideBlock p s o = o ≡ why.inside_block p.text p.rest p.number p.above s
-IsOfStatement refusal.TooFewPoints p s o = o ≡ why.too_few_points p.text p.rest p.number p.above s
-IsOfStatement refusal.UnknownFrame p s o = o ≡ why.unknown_frame p.rest s
-IsOfStatement refusal.NotMillimetres p s o = o ≡ why.first_at_fault p.rest s cause.OtherUnit
-IsOfStatement refusal.NoProgMode p s o = o ≡ why.first_at_fault p.rest s cause.OtherMode
-IsOfStatement refusal.ZeroVector p s o = o ≡ why.zero_direction p.rest s
-IsOfStatement refusal.NoTool p s o = o ≡ word_at_fault cause.NoTool p s
-IsOfStatement refusal.TooLarge p s o = o ≡ word_at_fault cause.TooLarge p s
+-- a text without a statement does not begin with a `DMISMN`
+abbrev pub lonely : Refusal → Option Caused
+lonely refusal.NotDmis = Some (of_line cause.NoStatement)
+lonely _ = None
 
--- of the line, if no statement that can be read begins there
-abbrev pub IsOfLine : Refusal → Spot → Option Caused → Type 0
-IsOfLine refusal.NotDmis p o = o ≡ Some (of_line cause.NoStatement)
-IsOfLine refusal.Truncated p o = o ≡ why.truncated p.text
-IsOfLine refusal.LineTooLong p o = o ≡ Some (long_line p)
-IsOfLine refusal.BadByte p o = IsByteReason p.text p.rest o
-IsOfLine _ p o = o ≡ None
+-- of the statement, if one begins there
+abbrev pub cause_with : Option Statement → Refusal → Spot → Option Caused
+cause_with None refusal p = lonely refusal
+cause_with (Some s) refusal p = statement_cause refusal p.block (record { rest = p.rest; statement = s })
 
-abbrev pub IsOfEither : Refusal → Spot → Option Statement → Option Caused → Type 0
-IsOfEither refusal p None o = IsOfLine refusal p o
-IsOfEither refusal p (Some s) o = IsOfStatement refusal p s o
-
--- of the place: of the statement that begins there, if there is one
+-- of the line: of itself, or of its statement
 abbrev pub IsOfPlace : Refusal → Spot → Option Caused → Type 0
-IsOfPlace refusal p o = IsOfEither refusal p (slice_get (text_reading p.rest).statements 0) o
+IsOfPlace refusal.Truncated p o = o ≡ option_map why.ended p.last
+IsOfPlace refusal.LineTooLong p o = o ≡ Some (why.long_line (length (first_of (lines p.rest))))
+IsOfPlace refusal.BadByte p o = IsByteReason p.text p.rest o
+IsOfPlace refusal p o = o ≡ cause_with p.statement refusal p
 
 -- the cause that is shown: that of the place, if it has one
 pub record IsProgramReason (refusal : Refusal) (p : Spot) (shown : Caused) : Type 0 where

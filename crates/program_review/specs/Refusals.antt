@@ -21,13 +21,16 @@ use Rattle.dmis_program.specs.declared.keywords.Keyword.TheVariants as word
 use Rattle.dmis_program.specs.declared.sayings.StatementMeaning.{StatementMeaning}
 use Rattle.dmis_program.specs.declared.sayings.StatementMeaning.TheVariants as said
 use Rattle.program_review.specs.UnderSetup.{is_end}
-use Rattle.program_review.specs.Variables.{names_by, group_below}
-use Rattle.program_review.specs.declared.groups.Group.{Group}
+use Rattle.program_review.specs.Groups.{group_of}
+use Rattle.program_review.specs.Taken.{around_after, nothing_around, taken_by}
+use Rattle.program_review.specs.Variables.{names_by, is_computed_move}
 use Rattle.program_review.specs.declared.groups.Group.TheVariants as group
 use Rattle.program_review.specs.declared.standing.Standing.{Standing}
 use Rattle.program_review.specs.declared.remarks.Remark.{Remark}
 use Rattle.program_review.specs.declared.remarks.What.{What}
 use Rattle.program_review.specs.declared.remarks.What.TheVariants as what
+use Rattle.program_review.specs.declared.taking.Around.{Around}
+use Rattle.program_review.specs.declared.taking.Taken.TheVariants as taken
 
 -- before any statement
 abbrev pub at_start : Standing
@@ -122,34 +125,41 @@ after_refused standing keyword refusal = record {
   lacking = lacking_passed keyword standing.lacking;
 }
 
--- a refusal on its line, of a statement of this group
-abbrev pub found_at : Group → Refusal × ℕ → Remark
-found_at group p = record { what = what.Refused p.0 group; line = p.1 }
+-- the end of a text is refused by a mistake
+abbrev pub ended_at : Refusal × ℕ → Remark
+ended_at p = record { what = what.Refused p.0 group.Mistake taken.No; line = p.1 }
+
+-- what is remarked on a refused statement: a computed move is control flow
+abbrev pub found : Around → (computed : Bool) → Refusal → Statement → Remark
+found around computed refusal s = record {
+  what = what.Refused refusal (if computed then group.Flow else group_of refusal s.word) (taken_by around computed refusal s);
+  line = s.line;
+}
 
 -- the refusal of a statement below those that declare or assign these names
-abbrev pub listed : List (List ℕ) → Statement → Result StatementMeaning Refusal → List Remark
-listed names s (Ok meaning) = []
-listed names s (Err refusal) = found_at (group_below names refusal s) (refusal, s.line) ∷ []
+abbrev pub listed : List (List ℕ) → Around → Statement → Result StatementMeaning Refusal → List Remark
+listed names around s (Ok meaning) = []
+listed names around s (Err refusal) = found around (is_computed_move names refusal s) refusal s ∷ []
 
 abbrev pub after : Standing → Keyword → Result StatementMeaning Refusal → Standing
 after standing keyword (Ok meaning) = after_said standing keyword meaning
 after standing keyword (Err refusal) = after_refused standing keyword refusal
 
 -- the refusals of the statements from here on, below those that declare or assign these names, and that of the text's end if no `ENDFIL`
--- comes before it; that is a mistake
-abbrev pub refusals_from : List (List ℕ × Point) → Option TextFault → ℕ → List (List ℕ) → Standing → List Statement → List Remark
-refusals_from frames fault lines names standing [] = found_at group.Mistake (ended fault standing.number lines) ∷ []
-refusals_from frames fault lines names standing (s ∷ statements) = listed names s (due frames standing s)
-    ++ (if is_end (keyword_of s.word) then [] else refusals_from frames fault lines (names ++ names_by s)
+-- comes before it
+abbrev pub refusals_from : List (List ℕ × Point) → Option TextFault → ℕ → List (List ℕ) → Around → Standing → List Statement → List Remark
+refusals_from frames fault lines names around standing [] = ended_at (ended fault standing.number lines) ∷ []
+refusals_from frames fault lines names around standing (s ∷ statements) = listed names around s (due frames standing s)
+    ++ (if is_end (keyword_of s.word) then [] else refusals_from frames fault lines (names ++ names_by s) (around_after around s)
     (after standing (keyword_of s.word) (due frames standing s)) statements)
 
 -- all refusals of a text, in the order of its statements
 abbrev pub refusals_of : List (List ℕ × Point) → List ℕ → List Remark
-refusals_of frames text = refusals_from frames (text_reading text).fault (length (lines text)) [] at_start (text_reading text).statements
+refusals_of frames text = refusals_from frames (text_reading text).fault (length (lines text)) [] nothing_around at_start (text_reading text).statements
 
 -- the first of them, as a program is refused
 abbrev pub refused_on : What → ℕ → Option (Refusal × ℕ)
-refused_on (what.Refused refusal group) line = Some (refusal, line)
+refused_on (what.Refused refusal group taken) line = Some (refusal, line)
 refused_on _ line = None
 
 abbrev pub first_of : List Remark → Option (Refusal × ℕ)

@@ -13,7 +13,7 @@ use Rattle.program_review.specs.UnusedFrames.{names_recalled, unused_from}
 use Rattle.program_review.specs.Findings.{remarks_in}
 use Rattle.program_review.specs.Remarks.{AreByLine, with_counts}
 use Rattle.program_review.specs.Printed.{Names, printed}
-use Rattle.program_review.specs.Summary.{order, sums_in}
+use Rattle.program_review.specs.Summary.{summary_of}
 use Rattle.program_review.specs.declared.remarks.Finding.{Finding}
 use Rattle.program_review.specs.declared.remarks.Remark.{Remark}
 use Rattle.program_review.specs.declared.printing.FindingForm.{FindingForm}
@@ -51,11 +51,11 @@ pub record AreRemarks (setup : Option SetupValue) (program : List ℕ) (remarks 
   pub by_line : AreByLine (all_listed setup program (text_reading program).statements odd) remarks
 
 -- what is found: in the order of the program's lines all its refusals, all that is passed over, all that the setup lacks, all straight
--- travels and what is odd; then each line of the setup with a frame that is not recalled; then each group of refused statements that has some
+-- travels and what is odd; then each line of the setup with a frame that is not recalled; then the summary of the refusals
 pub record AreFindings (texts : ReviewTexts) (findings : List Finding) : Type 0 where
   pub remarks : List Remark
   pub are_remarks : AreRemarks texts.setup texts.program remarks
-  pub all : remarks_in findings ≡ (with_counts remarks ++ unused texts) ++ sums_in (refusals_of (frames_under texts.setup) texts.program) order
+  pub all : remarks_in findings ≡ (with_counts remarks ++ unused texts) ++ summary_of (refusals_of (frames_under texts.setup) texts.program)
 
 -- the findings are printed in this form, under these names
 pub record IsReport (form : FindingForm) (names : Names) (texts : ReviewTexts) (text : List ℕ) : Type 0 where

@@ -2,7 +2,9 @@
 use Rattle.std.specs.Prelude.{ℕ, ◌+◌, List, length, take, fold, Option, Some, None}
 use Rattle.std.specs.Option.{option_map}
 use Rattle.dmis_text.specs.declared.elements.Statement.{Statement}
-use Rattle.program_review.specs.Words.{Named, first_place, word_in}
+use Rattle.program_review.specs.declared.causes.Cause.{Cause}
+use Rattle.program_review.specs.declared.statements.Found.{Found}
+use Rattle.program_review.specs.Words.{Named, Caused, caused, first_place, word_in}
 
 -- the place after the first of these bytes from this place on
 abbrev pub after_word : List ℕ → Option ℕ → List ℕ → Option ℕ
@@ -38,3 +40,19 @@ word_spot rest s = part_spot rest s s.word
 -- a part of parameter n, counted from 0
 abbrev pub param_spot : List ℕ → Statement → ℕ → List ℕ → Named
 param_spot rest s n part = word_from rest (after_params rest s n) part
+
+-- a statement, and the bytes from its line on
+pub record Site : Type 0 where
+  pub rest : List ℕ
+  pub statement : Statement
+
+-- how the code keeps it
+abbrev pub site_of : Found → Site
+site_of found = record { rest = found.rest.now; statement = found.statement.now }
+
+-- its major word is at fault, or a part of its parameter n
+abbrev pub at_word : Site → Cause → Option Caused
+at_word p why = Some (caused why (word_spot p.rest p.statement))
+
+abbrev pub at_param : Site → ℕ → List ℕ → Cause → Option Caused
+at_param p n part why = Some (caused why (param_spot p.rest p.statement n part))

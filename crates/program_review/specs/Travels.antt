@@ -1,6 +1,6 @@
 -- The straight travels of a program: from the last touch of a feature to the first touch of the next one, with no `GOTO` between (ISO 22093; that
 -- a client makes no other move there is this profile). A block with an accepted touch is a feature.
-use Rattle.std.specs.Prelude.{◌≤◌, ◌<◌, ◌+◌, ◌*◌, ◌==◌, ℤ, ◌-ℤ◌, unsigned_abs, ℕ, Bool, true, false, List, [], ◌∷◌, ◌++◌, codes, Option, Some, None, pos, if◌then◌else◌}
+use Rattle.std.specs.Prelude.{◌≤◌, ◌<◌, ◌+◌, ◌*◌, ◌==◌, ℤ, ◌-ℤ◌, unsigned_abs, ℕ, Bool, true, false, ◌&&◌, ◌||◌, is_some, is_none, option_and_then, List, [], ◌∷◌, ◌++◌, codes, Option, Some, None, pos, if◌then◌else◌}
 use Rattle.dmis_text.specs.declared.elements.Statement.{Statement}
 use Rattle.fixed_um.specs.Points.{zero_point, point_sum}
 use Rattle.fixed_um.specs.declared.lengths.Point.{Point}
@@ -13,7 +13,7 @@ use Rattle.dmis_program.specs.declared.sayings.StatementMeaning.TheVariants as s
 use Rattle.program_review.specs.Groups.{coordinates}
 use Rattle.program_review.specs.PlanLines.{unlabelled}
 use Rattle.program_review.specs.Remarks.{remark_on}
-use Rattle.program_review.specs.UnderSetup.{meaning_with, is_end}
+use Rattle.program_review.specs.UnderSetup.{meaning_of, is_end}
 use Rattle.program_review.specs.declared.remarks.Remark.{Remark}
 use Rattle.program_review.specs.declared.remarks.What.{What}
 use Rattle.program_review.specs.declared.remarks.What.TheVariants as what
@@ -23,70 +23,61 @@ use Rattle.program_review.specs.declared.travels.Way.{Way}
 
 -- before any statement the machine's own coordinates are selected, no block is open, and where the probe is, is not known
 abbrev pub at_home : Way
-at_home = record { zero = Some zero_point; set_on = 0; is_open = false; has_begun = false; last = None }
+at_home = record { zero = Some zero_point; set_on = 0; is_stored = false; is_by_hand = false; is_open = false; has_begun = false; last = None }
 
--- after the statement of a line selects coordinates with this zero point, if it is known
+-- after the statement of a line selects coordinates with this zero point, if it is known, which a stored frame has
 abbrev pub way_selected : Way → Option Point → ℕ → Way
-way_selected way zero line = record { zero = zero; set_on = line; is_open = way.is_open; has_begun = way.has_begun; last = way.last }
+way_selected way zero line = record way { zero = zero; set_on = line; is_stored = way.is_stored || is_some zero }
 
--- after a `RECALL` on a line: of a stored frame, refused, or of no frame
-abbrev pub way_recalled : List (List ℕ × Point) → Way → ℕ → Option StatementMeaning → Way
-way_recalled frames way line None = way_selected way None line
-way_recalled frames way line (Some (said.Recalls name)) = way_selected way (offset_of frames name) line
-way_recalled frames way line (Some meaning) = way
+-- after a `RECALL` that says this: of a stored frame, refused, or of no frame
+abbrev pub way_recalling : List (List ℕ × Point) → Way → ℕ → Option StatementMeaning → Way
+way_recalling frames way line None = way_selected way None line
+way_recalling frames way line (Some (said.Recalls name)) = way_selected way (offset_of frames name) line
+way_recalling frames way line (Some meaning) = way
 
--- after a `MEAS`, and after an `ENDMES`
-abbrev pub way_begun : Way → Way
-way_begun way = record { zero = way.zero; set_on = way.set_on; is_open = true; has_begun = true; last = way.last }
+abbrev pub way_recalled : List (List ℕ × Point) → Way → Statement → Way
+way_recalled frames way s = way_recalling frames way s.line (meaning_of s)
 
-abbrev pub way_ended : Way → Way
-way_ended way = record { zero = way.zero; set_on = way.set_on; is_open = false; has_begun = way.has_begun; last = way.last }
+-- the touch that a statement makes in a block; where the probe is after one that is refused for itself, or outside a block, is not known
+abbrev pub stop_with : Way → ℕ → Option StatementMeaning → Option Stop
+stop_with way line (Some (said.Touches target direction)) = if way.is_open then
+    Some (record { line = line; target = target; zero = way.zero; set_on = way.set_on }) else None
+stop_with way line _ = None
 
--- the touch at this target on a line
-abbrev pub stop_at : Way → ℕ → Point → Stop
-stop_at way line target = record { line = line; target = target; zero = way.zero; set_on = way.set_on }
+abbrev pub stop_at : Way → Statement → Option Stop
+stop_at way s = stop_with way s.line (meaning_of s)
 
 -- after a move, or a touch whose place is not known; and after a touch whose place is known, since which no block has begun
-abbrev pub way_touched : Way → ℕ → Option Point → Way
-way_touched way line None = record { zero = way.zero; set_on = way.set_on; is_open = way.is_open; has_begun = way.has_begun; last = None }
-way_touched way line (Some target) =
-    record { zero = way.zero; set_on = way.set_on; is_open = way.is_open; has_begun = false; last = Some (stop_at way line target) }
-
--- the target of a touch in a block; where the probe is after one that is refused for itself, or outside a block, is not known
-abbrev pub touched_at : Way → Option StatementMeaning → Option Point
-touched_at way (Some (said.Touches target direction)) = if way.is_open then Some target else None
-touched_at way _ = None
+abbrev pub way_stopped : Way → Option Stop → Way
+way_stopped way last = record way { has_begun = way.has_begun && is_none last; last = last }
 
 -- after a statement: blocks begin and end by their words, refused or not; a `GOTO` is a move, refused or not; a word that sets up or keeps
--- coordinates selects unknown ones
-abbrev pub way_after : List (List ℕ × Point) → Way → Keyword → Statement → Option StatementMeaning → Way
-way_after frames way word.Recall s meaning = way_recalled frames way s.line meaning
-way_after frames way word.Unknown s meaning = if is_among s.word coordinates then way_selected way None s.line else way
-way_after frames way word.Meas s meaning = way_begun way
-way_after frames way word.Endmes s meaning = way_ended way
-way_after frames way word.Goto s meaning = way_touched way s.line None
-way_after frames way word.Ptmeas s meaning = way_touched way s.line (touched_at way meaning)
-way_after frames way _ s meaning = way
+-- coordinates selects unknown ones; a refused `MODE` leaves the touches that follow to the operator
+abbrev pub way_with : Keyword → List (List ℕ × Point) → Way → Statement → Way
+way_with word.Recall frames way s = way_recalled frames way s
+way_with word.Unknown frames way s = if is_among s.word coordinates then way_selected way None s.line else way
+way_with word.Mode frames way s = record way { is_by_hand = is_none (meaning_of s) }
+way_with word.Meas frames way s = record way { is_open = true; has_begun = true }
+way_with word.Endmes frames way s = record way { is_open = false }
+way_with word.Goto frames way s = way_stopped way None
+way_with word.Ptmeas frames way s = way_stopped way (stop_at way s)
+way_with _ frames way s = way
+
+abbrev pub way_after : List (List ℕ × Point) → Way → Statement → Way
+way_after frames way s = way_with (keyword_of s.word) frames way s
 
 -- the travel to a touch from the one before is straight if no move came since, and it is to another feature if a block has begun since
-abbrev pub travel_from : Option Stop → Stop → Option What
-travel_from None first = None
-travel_from (Some last) first = Some (what.Straight (record { last = last; first = first }))
+abbrev pub travel_from : Bool → Stop → Stop → Option What
+travel_from begun first last = if begun then Some (what.Straight (record { last = last; first = first })) else None
 
-abbrev pub travel_to : Way → ℕ → Option Point → Option What
-travel_to way line None = None
-travel_to way line (Some target) = if way.has_begun then travel_from way.last (stop_at way line target) else None
-
-abbrev pub travel_at : Way → Keyword → ℕ → Option StatementMeaning → Option What
-travel_at way word.Ptmeas line meaning = travel_to way line (touched_at way meaning)
-travel_at way _ line meaning = None
+abbrev pub travel_to : Way → Statement → Option What
+travel_to way s = option_and_then (λ first. option_and_then (travel_from way.has_begun first) way.last) (stop_at way s)
 
 -- each touch to which a travel is straight, of the statements from here on; nothing counts after `ENDFIL`
 abbrev pub travels_from : List (List ℕ × Point) → Way → List Statement → List Remark
 travels_from frames way [] = []
 travels_from frames way (s ∷ statements) = if is_end (keyword_of s.word) then [] else
-    remark_on s.line (travel_at way (keyword_of s.word) s.line (meaning_with (keyword_of s.word) s)) ++ travels_from frames
-    (way_after frames way (keyword_of s.word) s (meaning_with (keyword_of s.word) s)) statements
+    remark_on s.line (travel_to way s) ++ travels_from frames (way_after frames way s) statements
 
 abbrev pub travels_of : List (List ℕ × Point) → List Statement → List Remark
 travels_of frames statements = travels_from frames at_home statements

@@ -37,6 +37,9 @@ abbrev pub meaning_with : Keyword → Statement → Option StatementMeaning
 meaning_with word.Unknown s = None
 meaning_with keyword s = if recalls_other keyword s.params then None else accepted (said_of keyword s)
 
+abbrev pub meaning_of : Statement → Option StatementMeaning
+meaning_of s = meaning_with (keyword_of s.word) s
+
 -- the frame of a name that is recalled; unknown if it is not stored
 abbrev pub recalled : Option Point → Selected
 recalled None = selected.Unknown
@@ -78,8 +81,8 @@ is_end _ = false
 abbrev pub lacks_from : List (List ℕ) → List (List ℕ × Point) → Selected → List Statement → List Remark
 lacks_from tools frames before [] = []
 lacks_from tools frames before (s ∷ statements) = if is_end (keyword_of s.word) then [] else
-    remark_on s.line (lack_of tools before (meaning_with (keyword_of s.word) s)) ++ lacks_from tools frames
-    (selected_after frames before (meaning_with (keyword_of s.word) s) (keyword_of s.word)) statements
+    remark_on s.line (lack_of tools before (meaning_of s)) ++ lacks_from tools frames
+    (selected_after frames before (meaning_of s) (keyword_of s.word)) statements
 
 -- what a setup with these tools and frames lacks for the statements of a program, at whose start machine coordinates are selected
 abbrev pub lacks_of : List (List ℕ) → List (List ℕ × Point) → List Statement → List Remark

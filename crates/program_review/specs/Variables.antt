@@ -1,11 +1,8 @@
 -- The names that statements declare or assign, and the moves that are refused for one (ISO 22093; this profile computes nothing).
-use Rattle.std.specs.Prelude.{ℕ, Bool, true, false, ◌&&◌, List, [], ◌∷◌, codes, find, slice_get, Option, Some, None, Result, Ok, Err, ℤ}
+use Rattle.std.specs.Prelude.{ℕ, Bool, true, false, ◌&&◌, List, [], ◌∷◌, codes, find, slice_get, Option, Some, None}
 use Rattle.std.specs.Prelude.{if◌then◌else◌}
 use Rattle.std.specs.List.{flat_map}
 use Rattle.dmis_text.specs.declared.elements.Statement.{Statement}
-use Rattle.fixed_um.specs.Computed.{value_of}
-use Rattle.fixed_um.specs.Limits.{volume_limit}
-use Rattle.fixed_um.specs.declared.numerals.NumeralFault.{NumeralFault}
 use Rattle.tool_rack.specs.Setups.{has_name}
 use Rattle.dmis_program.specs.Keywords.{keyword_of, is_among}
 use Rattle.dmis_program.specs.Parameters.{name_of, without_cart}
@@ -13,9 +10,7 @@ use Rattle.dmis_program.specs.declared.faults.Refusal.{Refusal}
 use Rattle.dmis_program.specs.declared.faults.Refusal.TheVariants as refusal
 use Rattle.dmis_program.specs.declared.keywords.Keyword.{Keyword}
 use Rattle.dmis_program.specs.declared.keywords.Keyword.TheVariants as word
-use Rattle.program_review.specs.Groups.{group_of}
-use Rattle.program_review.specs.declared.groups.Group.{Group}
-use Rattle.program_review.specs.declared.groups.Group.TheVariants as group
+use Rattle.program_review.specs.Lengths.{is_no_length}
 
 -- words with names among their parameters: of variables, of a loop's variable, of a macro's parameters, of what is read
 abbrev pub declaring : List (List ℕ)
@@ -38,14 +33,6 @@ names_in texts = flat_map (λ text. as_list (name_of text)) texts
 abbrev pub names_by : Statement → List (List ℕ)
 names_by s = if is_among s.word declaring then names_in s.params else if is_among s.word assigning then names_in (as_list s.label) else []
 
--- a text is not read as a length
-abbrev pub is_fault : Result ℤ NumeralFault → Bool
-is_fault (Ok value) = false
-is_fault (Err fault) = true
-
-unfoldable pub is_no_length : List ℕ → Bool
-is_no_length text = is_fault (value_of 3 volume_limit text)
-
 -- the argument for which a `GOTO` is refused: the first, which names no coordinates, or the leftmost that is no length
 abbrev pub refused_argument : Refusal → List (List ℕ) → Option (List ℕ)
 refused_argument refusal.Unsupported params = slice_get params 0
@@ -63,7 +50,3 @@ is_move _ = false
 -- a move whose refused argument is one of these names
 abbrev pub is_computed_move : List (List ℕ) → Refusal → Statement → Bool
 is_computed_move names refusal s = is_move (keyword_of s.word) && is_named names (refused_argument refusal s.params)
-
--- the group of a refused statement below those that declare or assign these names: a computed move is control flow
-abbrev pub group_below : List (List ℕ) → Refusal → Statement → Group
-group_below names refusal s = if is_computed_move names refusal s then group.Flow else group_of refusal s.word

@@ -5,6 +5,7 @@ use Rattle.std.specs.Option.{option_map}
 use Rattle.std.specs.Char.{to_ascii_lowercase}
 use Rattle.std.specs.Str.{bytes_eq}
 use Rattle.program_review.specs.declared.causes.Cause.{Cause}
+use Rattle.program_review.specs.declared.words.Fault.{Fault}
 use Rattle.program_review.specs.declared.words.Word.{Word}
 use Rattle.program_review.specs.declared.words.Reason.{Reason}
 
@@ -25,10 +26,6 @@ named_by word = record { bytes = word.bytes.now; at = word.at }
 
 abbrev pub caused_by : Reason → Caused
 caused_by reason = record { cause = reason.cause; at = reason.at; len = reason.len }
-
--- the reason that is given, or that there is none, has this cause; nothing if out of memory
-abbrev pub Gives : {E : Type 0} → Result (Option Reason) E → Option Caused → Type 0
-Gives result wanted = IfOk result (λ reason. option_map caused_by reason ≡ wanted)
 
 -- the bytes are at this place of a text, letters in any case
 abbrev pub is_at : List ℕ → List ℕ → ℕ → Bool
@@ -63,3 +60,14 @@ caused cause word = caused_at cause word.bytes word.at
 -- the line is at fault
 abbrev pub of_line : Cause → Caused
 of_line cause = record { cause = cause; at = 0; len = 0 }
+
+-- how the code keeps a fault
+abbrev pub seen : Fault → Caused
+seen fault = caused fault.cause (named_by fault.word)
+
+abbrev pub given : Option Fault → Option Caused
+given fault = option_map seen fault
+
+-- the fault that is given, or that there is none, is this one; nothing if out of memory
+abbrev pub Gives : {E : Type 0} → Result (Option Fault) E → Option Caused → Type 0
+Gives result wanted = IfOk result (λ fault. given fault ≡ wanted)

@@ -1,21 +1,21 @@
 // Which parameter of a statement does not fit, or how many there are.
 
-ghost use Rattle.std.specs.Prelude.{◌≡◌, ◌≤◌, length, codes, IfOk};
+ghost use Rattle.std.specs.Prelude.{◌≡◌, ◌≤◌, length, codes};
 ghost use Rattle.std.specs.List.{list_all};
 ghost use Rattle.std.specs.Char.{is_ascii_alphabetic};
 ghost use Rattle.std.specs.Option.{option_map};
 ghost use Rattle.std.specs.Str.{bytes_eq};
-ghost use Rattle.dmis_program.specs.Keywords.{keyword_of};
 ghost use Rattle.dmis_program.specs.Parameters.{is_letters};
-ghost use Rattle.program_review.specs.Words.{named_by, caused_by, Gives};
+ghost use Rattle.program_review.specs.Arguments as spec;
 ghost use Rattle.program_review.specs.Causes.{within_ends};
 ghost use Rattle.program_review.specs.Numerals.{count_before};
-ghost use Rattle.program_review.specs.Arguments.{last_apostrophe, last_text, open_text, count_cause, form_cause, meas_cause, ptmeas_cause, tool_front, snslct_cause, recall_cause, open_cause, head_cause, params_cause, argument_cause};
+ghost use Rattle.program_review.specs.Spots.{site_of};
+ghost use Rattle.program_review.specs.Words.{given, Gives};
 
-use crate::bad_names::name_reason;
+use crate::bad_names::name_fault;
 use crate::causes::Cause;
 use crate::statements::Found;
-use crate::words::{Explained, Word};
+use crate::words::{Fault, Given, Word};
 use dmis_program::Keyword;
 use dmis_text::Text;
 use std::alloc::Global;
@@ -46,33 +46,28 @@ pub(crate) fn within<'a>(front: &[u8], text: &'a [u8]) -> Option<&'a [u8]>
     }
 }
 
-/// How many parameters a statement has after a first `CART`; `wanted` says how many it takes.
-fn count_reason(alloc: Global, found: Found, wanted: &str) -> Explained
-    ensures { Gives result (count_cause found.entry.rest.now found.entry.statement.now) }
+/// How many parameters a statement has after a first `CART`.
+fn count_fault<'s>(found: Found<'s, '_>) -> Option<Fault<'s>>
+    ensures { given result ≡ spec.count_cause (site_of found.entry) }
 {
     let params: &[Text] = &found.statement.params;
     let before = count_before(params);
-    let cause = Cause::Count(before, params.len() - before);
-    found.word().because(alloc, cause, wanted)
+    found.at_word(Cause::Count(before, params.len() - before))
 }
 
-/// Why the parameter of this number is not a name in parentheses after this prefix, which `wanted` says; none if it is one.
-fn form_reason(
+/// Why the parameter of this number is not a name in parentheses after this prefix; none if it is one.
+fn form_fault<'s>(
     alloc: Global,
-    found: Found,
+    found: Found<'s, '_>,
     index: usize,
     front: &[u8],
-    wanted: &str,
-    param: &[u8],
-) -> Explained
-    ensures { IfOk result (λ reason. option_map caused_by reason
-        ≡ form_cause found.entry.rest.now found.entry.statement.now index front.now param.now) }
+    param: &'s [u8],
+) -> Given<'s>
+    ensures { Gives result (spec.form_cause (site_of found.entry) index front.now param.now) }
 {
     match within(front, param) {
-        Some(name) => name_reason(alloc, name, found.in_param(index, name)),
-        None => found
-            .in_param(index, param)
-            .because(alloc, Cause::NoParentheses, wanted),
+        Some(name) => name_fault(alloc, name, found.in_param(index, name)),
+        None => Ok(found.at_param(index, param, Cause::NoParentheses)),
     }
 }
 
@@ -88,38 +83,37 @@ fn is_letters(param: &[u8]) -> bool
     !param.is_empty() && all_letters(param)
 }
 
-fn meas_reason(alloc: Global, found: Found) -> Explained
-    ensures { IfOk result (λ reason. option_map caused_by reason
-        ≡ meas_cause found.entry.rest.now found.entry.statement.now) }
+fn meas_fault<'s>(alloc: Global, found: Found<'s, '_>) -> Given<'s>
+    ensures { Gives result (spec.meas_cause (site_of found.entry)) }
 {
     let params: &[Text] = &found.statement.params;
     let [kind, feature, count] = params else {
-        return count_reason(alloc, found, "3, a kind, F(name) and a count of touches");
+        return Ok(count_fault(found));
     };
     if !is_letters(kind) {
-        return found.in_param(0, kind).because(alloc, Cause::NoKind, "");
+        return Ok(found.at_param(0, kind, Cause::NoKind));
     }
-    match form_reason(alloc, found, 1, b"F(", "F(name)", feature)? {
-        Some(reason) => Ok(Some(reason)),
-        None => found.in_param(2, count).because(alloc, Cause::NoCount, ""),
+    match form_fault(alloc, found, 1, b"F(", feature)? {
+        Some(fault) => Ok(Some(fault)),
+        None => Ok(found.at_param(2, count, Cause::NoCount)),
     }
 }
 
-fn ptmeas_reason(alloc: Global, found: Found) -> Explained
-    ensures { Gives result (ptmeas_cause found.entry.rest.now found.entry.statement.now) }
+fn ptmeas_fault<'s>(found: Found<'s, '_>) -> Option<Fault<'s>>
+    ensures { given result ≡ spec.ptmeas_cause (site_of found.entry) }
 {
     match found.statement.params.split_first() {
-        Some((first, _)) if !is_cart(first) => {
-            found.in_param(0, first).because(alloc, Cause::NotCart, "")
-        }
-        Some(_) => count_reason(alloc, found, "3, or 6 with a direction"),
-        None => count_reason(alloc, found, "CART and 3 or 6 numerals"),
+        Some((first, _)) if !is_cart(first) => found.at_param(0, first, Cause::NotCart),
+        _ => count_fault(found),
     }
 }
 
-fn tool_front(first: &[u8]) -> &'static [u8]
-    ensures { result.now ≡ tool_front first.now }
+fn front_of(is_tool: bool, first: &[u8]) -> &'static [u8]
+    ensures { result.now ≡ spec.front_of is_tool first.now }
 {
+    if !is_tool {
+        return b"D(";
+    }
     if first.starts_with(b"SA(") {
         b"SA("
     } else {
@@ -127,31 +121,19 @@ fn tool_front(first: &[u8]) -> &'static [u8]
     }
 }
 
-fn snslct_reason(alloc: Global, found: Found) -> Explained
-    ensures { IfOk result (λ reason. option_map caused_by reason
-        ≡ snslct_cause found.entry.rest.now found.entry.statement.now) }
+/// `SNSLCT` and `RECALL`, which take one name in parentheses.
+fn name_alone<'s>(alloc: Global, found: Found<'s, '_>, is_tool: bool) -> Given<'s>
+    ensures { Gives result (spec.name_alone (site_of found.entry) is_tool) }
 {
     let params: &[Text] = &found.statement.params;
     let [first] = params else {
-        return count_reason(alloc, found, "1, S(name) or SA(name)");
+        return Ok(count_fault(found));
     };
-    let front = tool_front(first);
-    form_reason(alloc, found, 0, front, "S(name) or SA(name)", first)
-}
-
-fn recall_reason(alloc: Global, found: Found) -> Explained
-    ensures { IfOk result (λ reason. option_map caused_by reason
-        ≡ recall_cause found.entry.rest.now found.entry.statement.now) }
-{
-    let params: &[Text] = &found.statement.params;
-    let [first] = params else {
-        return count_reason(alloc, found, "1, D(name), or more after S( and SA(");
-    };
-    form_reason(alloc, found, 0, b"D(", "D(name)", first)
+    form_fault(alloc, found, 0, front_of(is_tool, first), first)
 }
 
 fn last_apostrophe(text: &[u8]) -> usize
-    ensures place { result ≡ last_apostrophe text.now }
+    ensures place { result ≡ spec.last_apostrophe text.now }
     ensures within { result ≤ length text.now }
 {
     let mut end = text.len();
@@ -165,75 +147,65 @@ fn last_apostrophe(text: &[u8]) -> usize
 }
 
 fn last_text(element: &[u8]) -> &[u8]
-    ensures { result.now ≡ last_text element.now }
+    ensures { result.now ≡ spec.last_text element.now }
 {
     let (_, text) = element.split_at(last_apostrophe(element));
     text
 }
 
-#[tactic(auto, using(crate::proofs::ArgumentLemmas::last_or_at))]
-fn open_text<'s>(found: Found<'s, '_>) -> Word<'s>
-    ensures { named_by result ≡ open_text found.entry.rest.now found.entry.statement.now }
-{
-    let params: &[Text] = &found.statement.params;
-    match params.split_last() {
-        Some((last, _)) => {
-            let text = last_text(last);
-            found.in_param(params.len() - 1, text)
-        }
-        None => {
-            let text = last_text(&found.statement.word);
-            found.in_word(text)
-        }
-    }
-}
-
-fn open_reason(alloc: Global, found: Found) -> Explained
-    ensures { Gives result (open_cause found.entry.rest.now found.entry.statement.now) }
+fn open_fault<'s>(found: Found<'s, '_>) -> Option<Fault<'s>>
+    ensures { given result ≡ spec.open_cause (site_of found.entry) }
 {
     if !found.statement.is_open() {
-        return Ok(None);
+        return None;
     }
-    open_text(found).because(alloc, Cause::OpenText, "")
+    let params: &[Text] = &found.statement.params;
+    let cause = Cause::OpenText;
+    let Some(last) = params.last() else {
+        let text = last_text(&found.statement.word);
+        let word = found.in_word(text);
+        return Some(Fault { cause, word });
+    };
+    let text = last_text(last);
+    found.at_param(params.len().saturating_sub(1), text, cause)
 }
 
-fn head_reason(alloc: Global, found: Found) -> Explained
-    ensures { Gives result (head_cause found.entry.rest.now found.entry.statement.now) }
+fn head_fault<'s>(found: Found<'s, '_>) -> Option<Fault<'s>>
+    ensures { given result ≡ spec.head_cause (site_of found.entry) }
 {
     let Some(label) = &found.statement.label else {
-        return open_reason(alloc, found);
+        return open_fault(found);
     };
     match found.keyword() {
-        Keyword::Definition => open_reason(alloc, found),
+        Keyword::Definition => open_fault(found),
         _ => {
-            let word = found.word().shown(alloc)?;
-            Word::found(found.rest, 0, label).because(alloc, Cause::Label, &word)
+            let word = Word::found(found.rest, 0, label);
+            let cause = Cause::Label;
+            Some(Fault { cause, word })
         }
     }
 }
 
-fn params_reason(alloc: Global, found: Found) -> Explained
-    ensures { Gives result (params_cause found.entry.rest.now found.entry.statement.now) }
+fn params_fault<'s>(alloc: Global, found: Found<'s, '_>) -> Given<'s>
+    ensures { Gives result (spec.params_cause (site_of found.entry)) }
 {
     match found.keyword() {
-        Keyword::Goto => count_reason(alloc, found, "3"),
-        Keyword::Endmes | Keyword::Endfil => count_reason(alloc, found, "none"),
-        Keyword::Units => count_reason(alloc, found, "1 or more, MM first"),
-        Keyword::Mode => count_reason(alloc, found, "1 or more, PROG among them"),
-        Keyword::Meas => meas_reason(alloc, found),
-        Keyword::Ptmeas => ptmeas_reason(alloc, found),
-        Keyword::Snslct => snslct_reason(alloc, found),
-        Keyword::Recall => recall_reason(alloc, found),
+        Keyword::Meas => meas_fault(alloc, found),
+        Keyword::Ptmeas => Ok(ptmeas_fault(found)),
+        Keyword::Snslct => name_alone(alloc, found, true),
+        Keyword::Recall => name_alone(alloc, found, false),
+        Keyword::Goto | Keyword::Endmes | Keyword::Endfil => Ok(count_fault(found)),
+        Keyword::Units | Keyword::Mode => Ok(count_fault(found)),
         _ => Ok(None),
     }
 }
 
 /// Why a statement is not one of its word; none if it takes any parameters.
-pub(crate) fn argument_reason(alloc: Global, found: Found) -> Explained
-    ensures { Gives result (argument_cause found.entry.rest.now found.entry.statement.now) }
+pub(crate) fn argument_fault<'s>(alloc: Global, found: Found<'s, '_>) -> Given<'s>
+    ensures { Gives result (spec.argument_cause (site_of found.entry)) }
 {
-    match head_reason(alloc, found)? {
-        Some(reason) => Ok(Some(reason)),
-        None => params_reason(alloc, found),
+    match head_fault(found) {
+        Some(fault) => Ok(Some(fault)),
+        None => params_fault(alloc, found),
     }
 }

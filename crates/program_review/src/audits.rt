@@ -50,17 +50,13 @@ fn served(contacts: &[Contact], touches: &[Touch], points: &[Point]) -> usize {
     let Some(first) = contacts.first() else {
         return 0;
     };
-    let mut count = 0usize;
-    for ((contact, touch), point) in contacts.iter().zip(touches).zip(points) {
-        if contact.connection != first.connection
-            || contact.point != *point
-            || contact.asked != Request::of_touch(touch)
-        {
-            return count;
-        }
-        count = count.saturating_add(1);
-    }
-    count
+    let serves = |((contact, touch), point): &((&Contact, &Touch), &Point)| {
+        contact.connection == first.connection
+            && contact.point == **point
+            && contact.asked == Request::of_touch(touch)
+    };
+    let asked = contacts.iter().zip(touches).zip(points);
+    asked.take_while(serves).count()
 }
 
 /// How far two points lie apart, along the three axes together, in micrometres.

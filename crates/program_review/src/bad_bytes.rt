@@ -1,47 +1,33 @@
 // Which byte of a line is not allowed where it is. The reader of statements reports only the line, so it is given longer and longer
 // prefixes of the text, each of which ends within that line.
 
-ghost use Rattle.std.specs.Prelude.{◌≡◌, ◌≤◌, ◌+◌, [], length, IfOk, OnOk};
-ghost use Rattle.program_review.specs.BadBytes.{has_bad_byte, line_of_last, near, Turns, IsBadByteOf};
+ghost use Rattle.std.specs.Prelude.{◌≡◌, ◌<◌, ◌≤◌, ◌+◌, length, IfOk, IfSome};
+ghost use Rattle.program_review.specs.BadBytes.{has_bad_byte, near, Turns, IsBadByteOf, IsByteReason};
+ghost use Rattle.program_review.specs.Words.{given};
 
-use crate::lines::{Place, first_line, from_line};
-use crate::statements::next_statement;
-use dmis_text::{Statements, TextFault};
+use crate::causes::Cause;
+use crate::lines::{first_line, from_line};
+use crate::readings::read;
+use crate::words::{Fault, Given, Word};
+use dmis_text::TextFault;
 use std::alloc::{AllocError, Global};
-
-/// Passes the statements that can be read, and returns the line of the last one; 1 if there is none.
-fn last_line(statements: &mut Statements) -> Result<u64, AllocError>
-    ensures line { IfOk result (λ line. line
-        ≡ line_of_last 1 statements.old.left) }
-    ensures passed { OnOk result (statements.new.left ≡ []) }
-    ensures fault { statements.new.fault ≡ statements.old.fault }
-{
-    let mut line = 1;
-    while let Some(statement) = next_statement(statements)? {
-        line = statement.line;
-        statements.take_back(statement);
-    }
-    Ok(line)
-}
 
 fn has_bad_byte(alloc: Global, text: &[u8]) -> Result<bool, AllocError>
     ensures { IfOk result (λ bad. bad ≡ has_bad_byte text.now) }
 {
-    let mut statements = Statements::new(alloc, text);
-    last_line(&mut statements)?;
-    match statements.next() {
-        Err(TextFault::BadByte(_)) => Ok(true),
-        Err(TextFault::Memory) => Err(AllocError),
-        Err(TextFault::LineTooLong(_)) | Ok(_) => Ok(false),
-    }
+    let reading = read(alloc, text)?;
+    Ok(matches!(reading.fault, Some(TextFault::BadByte(_))))
 }
 
 /// The text from the last statement that can be read on: what is above it is not part of the line's statement.
 fn near(alloc: Global, text: &[u8]) -> Result<&[u8], AllocError>
     ensures { IfOk result (λ rest. rest.now ≡ near text.now) }
 {
-    let line = last_line(&mut Statements::new(alloc, text))?;
-    Ok(from_line(text, line))
+    let reading = read(alloc, text)?;
+    match reading.statements.as_slice().last() {
+        Some(last) => Ok(from_line(text, last.line)),
+        None => Ok(from_line(text, 1)),
+    }
 }
 
 /// How many of the next `count` bytes, from this place of a text on, precede the leftmost one that is not allowed where it is; all but the
@@ -64,20 +50,35 @@ fn count_good(alloc: Global, text: &[u8], start: usize, count: usize) -> Result<
     Ok(before)
 }
 
-/// The leftmost byte of a line that is not allowed where it is, and how many bytes of the line precede it; none if all are allowed.
-pub(crate) fn bad_byte(alloc: Global, place: Place) -> Result<Option<(usize, u8)>, AllocError>
-    ensures { IfOk result (λ found. IsBadByteOf place.entry.text.now place.entry.rest.now found) }
+fn bad_byte(alloc: Global, text: &[u8], rest: &[u8]) -> Result<Option<(usize, u8)>, AllocError>
+    ensures byte { IfOk result (λ found. IsBadByteOf text.now rest.now found) }
+    ensures within { IfOk result (λ found. IfSome found (λ f. f.0 < length rest.now)) }
 {
-    let text = near(alloc, place.text)?;
-    let (line, _) = place
-        .rest
-        .split_at(first_line(place.rest).len().min(place.rest.len()));
-    if place.rest.len() > text.len() {
+    let text = near(alloc, text)?;
+    let (line, _) = rest.split_at(first_line(rest).len().min(rest.len()));
+    if rest.len() > text.len() {
         return Ok(None);
     }
-    let before = count_good(alloc, text, text.len() - place.rest.len(), line.len())?;
+    let before = count_good(alloc, text, text.len() - rest.len(), line.len())?;
     match line.get(before) {
         Some(byte) => Ok(Some((before, *byte))),
         None => Ok(None),
     }
+}
+
+/// The leftmost byte of a line that is not allowed where it is; none if all are allowed. `rest` are the bytes of the text from the line on.
+pub(crate) fn byte_fault<'a>(alloc: Global, text: &[u8], rest: &'a [u8]) -> Given<'a>
+    ensures { IfOk result (λ fault. IsByteReason text.now rest.now (given fault)) }
+{
+    let Some((at, byte)) = bad_byte(alloc, text, rest)? else {
+        return Ok(None);
+    };
+    let (_, left) = rest.split_at(at);
+    let (bytes, _) = left.split_at(1);
+    let cause = Cause::BadByte(byte);
+    let word = Word {
+        bytes,
+        at: Some(at),
+    };
+    Ok(Some(Fault { cause, word }))
 }

@@ -1,13 +1,12 @@
 // Why a text is not a name.
 
 ghost use Rattle.std.specs.Prelude.{◌≡◌, IfOk};
-ghost use Rattle.std.specs.Option.{option_map};
 ghost use Rattle.fixed_um.specs.Names.{is_name_text};
-ghost use Rattle.program_review.specs.Words.{named_by, caused_by};
-ghost use Rattle.program_review.specs.BadNames.{leftmost_byte, name_cause, name_reason};
+ghost use Rattle.program_review.specs.Words.{named_by, Gives};
+ghost use Rattle.program_review.specs.BadNames.{leftmost_byte, name_cause, name_fault};
 
 use crate::causes::Cause;
-use crate::words::{Explained, Word};
+use crate::words::{Fault, Given, Word};
 use fixed_um::Name;
 use std::alloc::{AllocError, Global};
 
@@ -47,12 +46,12 @@ fn name_cause(alloc: Global, text: &[u8]) -> Result<Cause, AllocError>
 }
 
 /// Why a text, which is this word, is not a name; none if it is one.
-pub(crate) fn name_reason(alloc: Global, text: &[u8], word: Word) -> Explained
-    ensures { IfOk result (λ reason. option_map caused_by reason
-        ≡ name_reason text.now (named_by word.entry)) }
+pub(crate) fn name_fault<'a>(alloc: Global, text: &[u8], word: Word<'a>) -> Given<'a>
+    ensures { Gives result (name_fault text.now (named_by word.entry)) }
 {
     if is_name(alloc, text)? {
         return Ok(None);
     }
-    word.because(alloc, name_cause(alloc, word.bytes)?, "")
+    let cause = name_cause(alloc, word.bytes)?;
+    Ok(Some(Fault { cause, word }))
 }

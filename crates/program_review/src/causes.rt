@@ -1,7 +1,15 @@
 // Why a text is refused, and how it is said. Contracts say which cause it is and which word is at fault. The words of the sentences are only
 // tested.
 
+ghost use Rattle.std.specs.Prelude.{◌≡◌, IfOk};
+ghost use Rattle.program_review.specs.Words.{caused_by, seen};
+
 use crate::numerals::Measure;
+use crate::programs::Passage;
+use crate::statements::Found;
+use crate::words::{Fault, Reason, Word};
+use dmis_program::Keyword;
+use dmis_text::Text;
 use session_telling::visible;
 use std::alloc::{AllocError, Global};
 
@@ -59,8 +67,61 @@ pub(crate) enum Cause {
 
 type Sentence = Result<String, AllocError>;
 
+/// What a statement takes, and the form of the parameter that has none.
+fn form_of(found: Found) -> (&'static str, &'static str) {
+    match found.keyword() {
+        Keyword::Goto => ("3", ""),
+        Keyword::Endmes | Keyword::Endfil => ("none", ""),
+        Keyword::Units => ("1 or more, MM first", ""),
+        Keyword::Mode => ("1 or more, PROG among them", ""),
+        Keyword::Meas => ("3, a kind, F(name) and a count of touches", "F(name)"),
+        Keyword::Ptmeas if found.statement.params.is_empty() => ("CART and 3 or 6 numerals", ""),
+        Keyword::Ptmeas => ("3, or 6 with a direction", ""),
+        Keyword::Snslct => ("1, S(name) or SA(name)", "S(name) or SA(name)"),
+        _ => ("1, D(name), or more after S( and SA(", "D(name)"),
+    }
+}
+
+/// The text besides the word at fault that the sentence on a refused line names.
+pub(crate) fn other_text(alloc: Global, fault: Fault, p: Passage) -> Sentence {
+    if let Cause::BadByte(_) = fault.cause {
+        let column = fault.word.at.unwrap_or(0).saturating_add(1);
+        return format!(in alloc; "{column}");
+    }
+    let Some(statement) = p.statement else {
+        return Ok(String::new(alloc));
+    };
+    let found = Found {
+        rest: p.rest,
+        statement,
+    };
+    let params: &[Text] = &statement.params;
+    match (fault.cause, p.block, params) {
+        (Cause::OtherCoordinates | Cause::OtherRecall | Cause::Label | Cause::NoNumeral(_), _, _) =>
+            { found.word().shown(alloc) }
+        (Cause::FewTouches(_, _), Some(block), _) => Word::of_bytes(block.wanted).shown(alloc),
+        (Cause::Count(_, _), _, _) => String::from_str(alloc, form_of(found).0),
+        (Cause::NoParentheses, _, _) => String::from_str(alloc, form_of(found).1),
+        (Cause::ZeroDirection, _, [.., j, k]) => {
+            let j = found.in_param(5, j).shown(alloc)?;
+            let k = found.in_param(6, k).shown(alloc)?;
+            format!(in alloc; "{j},{k}")
+        }
+        _ => Ok(String::new(alloc)),
+    }
+}
+
+/// A fault with its sentence, which names this other text too.
+pub(crate) fn worded(alloc: Global, fault: Fault, other: &str) -> Result<Reason, AllocError>
+    ensures { IfOk result (λ reason. caused_by reason ≡ seen fault.entry) }
+{
+    let word = fault.word.shown(alloc)?;
+    let said = sentence_of(alloc, fault.cause, &word, other)?;
+    Ok(Reason::of_word(fault.cause, said, fault.word))
+}
+
 /// The sentence on a cause, with the word that is at fault and another text that some of them name.
-pub(crate) fn sentence_of(alloc: Global, cause: Cause, word: &str, other: &str) -> Sentence {
+fn sentence_of(alloc: Global, cause: Cause, word: &str, other: &str) -> Sentence {
     match cause {
         Cause::NotFirst => format!(in alloc;
             "The first statement is {word}, and a program begins with DMISMN."

@@ -1,9 +1,9 @@
 // Lines of fields, as setups, limits and schedules have them: which field is not what it must be, in a sentence.
 
-use crate::bad_names::name_reason;
-use crate::causes::Cause;
+use crate::bad_names::name_fault;
+use crate::causes::{Cause, worded};
 use crate::lines::{Place, first_line};
-use crate::numerals::length_reason;
+use crate::numerals::length_fault_of;
 use crate::words::{Explained, Reason, Word};
 use deviations::is_in_micrometres;
 use dmis_text::cut_line;
@@ -27,9 +27,8 @@ fn fields_of(alloc: Global, line: &[u8]) -> Result<Vec<Word<'_>>, AllocError> {
 /// Which of these fields is not read as a length, and why; none if all are.
 fn lengths_reason(alloc: Global, fields: &[Word]) -> Explained {
     for field in fields {
-        let reason = length_reason(alloc, *field)?;
-        if reason.is_some() {
-            return Ok(reason);
+        if let Some(fault) = length_fault_of(*field) {
+            return Ok(Some(worded(alloc, fault, "")?));
         }
     }
     Ok(None)
@@ -91,9 +90,8 @@ impl Form {
     fn values_reason(self, alloc: Global, values: &[Word], named: bool) -> Explained {
         let (names, lengths) = values.split_at(values.len().min(usize::from(named)));
         for name in names {
-            let reason = name_reason(alloc, name.bytes, *name)?;
-            if reason.is_some() {
-                return Ok(reason);
+            if let Some(fault) = name_fault(alloc, name.bytes, *name)? {
+                return Ok(Some(worded(alloc, fault, "")?));
             }
         }
         let reason = lengths_reason(alloc, lengths)?;
@@ -169,12 +167,13 @@ pub(crate) fn twice_reason(alloc: Global, place: Place) -> Explained {
 
 /// That the lower limit of a line is the greater one.
 pub(crate) fn range_reason(alloc: Global, place: Place) -> Explained {
-    let fields = fields_of(alloc, first_line(place.rest))?;
-    let [_, _, lower, upper, ..] = fields.as_slice() else {
-        return Ok(None);
-    };
-    let upper = Word::of_bytes(upper.bytes).between(alloc, " is greater than ", ".")?;
-    lower.reason(alloc, "The lower limit ", &upper)
+    match fields_of(alloc, first_line(place.rest))?.as_slice() {
+        [_, _, lower, upper, ..] => {
+            let upper = Word::of_bytes(upper.bytes).between(alloc, " is greater than ", ".")?;
+            lower.reason(alloc, "The lower limit ", &upper)
+        }
+        _ => Ok(None),
+    }
 }
 
 /// Whether a word, followed by this field if it has a byte, is an instruction.

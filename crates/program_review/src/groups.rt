@@ -116,24 +116,20 @@ fn word_group(word: &[u8]) -> Group
     ensures { result ≡ word_group word.now }
 {
     if is_bookkeeping(word) {
-        return Group::Bookkeeping;
+        Group::Bookkeeping
+    } else if is_of_coordinates(word) {
+        Group::Coordinates
+    } else if is_measuring(word) {
+        Group::Measuring
+    } else if is_deciding(word) || is_jump_label(word) {
+        Group::Flow
+    } else if is_moving(word) {
+        Group::Motion
+    } else if is_compensating(word) {
+        Group::Lengths
+    } else {
+        Group::Other
     }
-    if is_of_coordinates(word) {
-        return Group::Coordinates;
-    }
-    if is_measuring(word) {
-        return Group::Measuring;
-    }
-    if is_deciding(word) || is_jump_label(word) {
-        return Group::Flow;
-    }
-    if is_moving(word) {
-        return Group::Motion;
-    }
-    if is_compensating(word) {
-        return Group::Lengths;
-    }
-    Group::Other
 }
 
 fn unsupported_group(keyword: Keyword, word: &[u8]) -> Group

@@ -4,7 +4,6 @@ ghost use Rattle.std.specs.Prelude.{◌≡◌, ◌==◌, ◌<◌, ◌≤◌, ◌
 ghost use Rattle.std.specs.List.{flat_map, position};
 ghost use Rattle.std.specs.Str.Lines.{lines};
 ghost use Rattle.program_review.specs.Windows.{shown_start};
-ghost use Rattle.program_review.specs.Reasons.{spot_at, spot_of};
 ghost use Rattle.program_review.specs.Lines.{lines_from, bytes_from, after_feeds, first_of, visible_in_line, shown_front, shown_from};
 
 use dmis_text::cut_line;
@@ -14,27 +13,21 @@ use std::alloc::{AllocError, Global};
 /// The most bytes of a line that are shown (this profile).
 const MOST_SHOWN: usize = 200;
 
-/// A text with the line of its refusal: the text, the bytes from that line on, and the line's number in the text. If the text is a part of
-/// a longer one, `above` says how many lines of that come before it.
+/// A text with the line of its refusal: the text, the bytes from that line on, and the line's number.
 #[derive(Clone, Copy)]
 pub(crate) struct Place<'a> {
     pub(crate) text: &'a [u8],
     pub(crate) rest: &'a [u8],
     pub(crate) number: u64,
-    pub(crate) above: u64,
 }
 
 impl<'a> Place<'a> {
     /// The line of this number of a text; the last one if it has fewer.
-    pub(crate) fn on_line(text: &'a [u8], number: u64, above: u64) -> Place<'a>
-        ensures spot { spot_at result ≡ spot_of text.now number above }
-        ensures lines { lines result.rest.now ≡ lines_from number text.now }
-    {
+    pub(crate) fn on_line(text: &'a [u8], number: u64) -> Place<'a> {
         Place {
             text,
             rest: from_line(text, number),
             number,
-            above,
         }
     }
 
@@ -97,22 +90,16 @@ pub(crate) fn first_line(text: &[u8]) -> &[u8]
     }
 }
 
-fn push_line_byte(text: &mut String, byte: u8) -> Result<(), AllocError>
-    ensures { OnOk result (string_bytes text.new
-        ≡ string_bytes text.old ++ visible_in_line byte) }
-{
-    if byte == b'\t' {
-        return text.push('\t');
-    }
-    push_visible(text, byte)
-}
-
 fn push_line(text: &mut String, bytes: &[u8]) -> Result<(), AllocError>
     ensures { OnOk result (string_bytes text.new
         ≡ string_bytes text.old ++ flat_map visible_in_line bytes.now) }
 {
     for byte in bytes {
-        push_line_byte(text, *byte)?;
+        if *byte == b'\t' {
+            text.push('\t')?;
+        } else {
+            push_visible(text, *byte)?;
+        }
     }
     Ok(())
 }

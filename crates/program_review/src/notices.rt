@@ -4,7 +4,7 @@ ghost use Rattle.std.specs.Prelude.{◌≡◌, ◌++◌, OnOk};
 ghost use Rattle.program_review.specs.Notices.{is_off, sensor_setting, text_meaning, passed_word, passed_over, notices_of};
 
 use crate::remarks::{Remark, What, push_remark};
-use dmis_program::{Keyword, keyword_of_word};
+use crate::said::Said;
 use dmis_text::{Statement, Text};
 use program_flow::is_text;
 use program_lowering::begins_with;
@@ -52,61 +52,55 @@ fn sensor_setting(params: &[Text]) -> Passed
     ensures { result ≡ sensor_setting params.now }
 {
     if begins_with("CLRSRF", params) {
-        return if is_off(params) {
+        if is_off(params) {
             Passed::ClearingOff
         } else {
             Passed::Clearing
-        };
-    }
-    if begins_with("DEPTH", params) {
-        return Passed::Depth;
-    }
-    if begins_with("APPRCH", params)
+        }
+    } else if begins_with("DEPTH", params) {
+        Passed::Depth
+    } else if begins_with("APPRCH", params)
         || begins_with("RETRCT", params)
         || begins_with("SEARCH", params)
     {
-        return Passed::Probing;
+        Passed::Probing
+    } else {
+        Passed::Sensor
     }
-    Passed::Sensor
 }
 
 fn text_meaning(params: &[Text]) -> Option<Passed>
     ensures { result ≡ text_meaning params.now }
 {
     if begins_with("OPER", params) || begins_with("MAN", params) {
-        return Some(Passed::Operator);
+        Some(Passed::Operator)
+    } else if begins_with("QUERY", params) {
+        Some(Passed::Question)
+    } else {
+        None
     }
-    if begins_with("QUERY", params) {
-        return Some(Passed::Question);
-    }
-    None
 }
 
 fn passed_word(word: &[u8], params: &[Text]) -> Option<Passed>
     ensures { result ≡ passed_word word.now params.now }
 {
     if is_text(word, "PRCOMP") {
-        return Some(Passed::Compensation);
+        Some(Passed::Compensation)
+    } else if is_text(word, "FINPOS") {
+        Some(Passed::Positioning)
+    } else if is_text(word, "SNSET") {
+        Some(sensor_setting(params))
+    } else if is_text(word, "WKPLAN") {
+        Some(Passed::Plane)
+    } else if is_text(word, "FEDRAT") {
+        Some(Passed::Speed)
+    } else if is_text(word, "ACLRAT") {
+        Some(Passed::Acceleration)
+    } else if is_text(word, "TEXT") {
+        text_meaning(params)
+    } else {
+        None
     }
-    if is_text(word, "FINPOS") {
-        return Some(Passed::Positioning);
-    }
-    if is_text(word, "SNSET") {
-        return Some(sensor_setting(params));
-    }
-    if is_text(word, "WKPLAN") {
-        return Some(Passed::Plane);
-    }
-    if is_text(word, "FEDRAT") {
-        return Some(Passed::Speed);
-    }
-    if is_text(word, "ACLRAT") {
-        return Some(Passed::Acceleration);
-    }
-    if is_text(word, "TEXT") {
-        return text_meaning(params);
-    }
-    None
 }
 
 fn passed_over(statement: &Statement) -> Option<What>
@@ -121,18 +115,15 @@ fn passed_over(statement: &Statement) -> Option<What>
 
 /// Adds each statement of these that is passed over though it changes how the machine moves, what nominal values mean or what an operator
 /// must do, up to `ENDFIL`. Fails only if out of memory.
-pub(crate) fn push_passed(
-    remarks: &mut Vec<Remark>,
-    statements: &[Statement],
-) -> Result<(), AllocError>
+pub(crate) fn push_passed(remarks: &mut Vec<Remark>, statements: &[Said]) -> Result<(), AllocError>
     ensures { OnOk result (remarks.new.items ≡ remarks.old.items ++ notices_of statements.now) }
 {
     let mut left = statements;
-    while let [statement, rest @ ..] = left {
-        if keyword_of_word(&statement.word) == Keyword::Endfil {
-            return Ok(());
+    while let [said, rest @ ..] = left {
+        if said.is_end() {
+            break;
         }
-        push_remark(remarks, passed_over(statement), statement.line)?;
+        push_remark(remarks, passed_over(said.statement), said.line())?;
         left = rest;
     }
     Ok(())

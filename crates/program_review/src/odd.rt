@@ -1,8 +1,8 @@
 // Statements that are probably not meant as they are written. No clause says which they are.
 
 use crate::remarks::{Remark, What, push_remark};
-use crate::under_setup::meaning_of;
-use dmis_program::{Keyword, StatementMeaning, keyword_of_word};
+use crate::said::Said;
+use dmis_program::{Keyword, StatementMeaning};
 use dmis_text::{Statement, Text};
 use fixed_um::Dir;
 use std::alloc::{AllocError, Global};
@@ -38,29 +38,20 @@ const WORDS: [&str; 23] = [
     "TEXT", "DISPLY", "OUTPUT",
 ];
 
-/// Whether two texts are the same once the first two bytes of one are exchanged.
-fn is_exchanged(word: &[u8], other: &[u8]) -> bool {
-    match (word, other) {
-        ([a, b, rest @ ..], [c, d, others @ ..]) => *a == *d && *b == *c && rest == others,
-        _ => false,
-    }
-}
-
 /// Whether two different words differ in one letter, which is another, lacking or added, or in two next to each other that are exchanged.
 fn is_near(word: &[u8], other: &[u8]) -> bool {
-    let mut word = word;
-    let mut other = other;
-    for _ in 0..word.len() {
-        let ([first, rest @ ..], [one, others @ ..]) = (word, other) else {
-            break;
-        };
-        if *first != *one {
-            return rest == others || rest == other || word == others || is_exchanged(word, other);
-        }
-        word = rest;
-        other = others;
+    let same = word
+        .iter()
+        .zip(other)
+        .take_while(|(a, b)| **a == **b)
+        .count();
+    let (_, word) = word.split_at(same.min(word.len()));
+    let (_, other) = other.split_at(same.min(other.len()));
+    match (word, other) {
+        ([a, b, rest @ ..], [c, d, others @ ..]) if *a == *d && *b == *c && rest == others => true,
+        ([_, rest @ ..], [_, others @ ..]) => rest == others || rest == other || word == others,
+        _ => word.len().saturating_add(other.len()) == 1,
     }
-    word.len().saturating_add(other.len()) == 1
 }
 
 /// The first word of those that a program may have that is one letter away from this one; none if there is none, and for a word of less than
@@ -191,24 +182,20 @@ impl Course {
         odd
     }
 
-    /// After a statement of this word that says this, or is refused for itself; why it is odd, if it is.
-    fn pass(
-        &mut self,
-        keyword: Keyword,
-        statement: &Statement,
-        meaning: &Option<StatementMeaning>,
-    ) -> Result<Option<Odd>, AllocError> {
+    /// After a statement; why it is odd, if it is.
+    fn pass(&mut self, said: &Said) -> Result<Option<Odd>, AllocError> {
+        let keyword = said.keyword();
         if keyword == Keyword::Unknown {
-            return Ok(near_word(&statement.word).map(|_| Odd::NearWord));
+            return Ok(near_word(&said.statement.word).map(|_| Odd::NearWord));
         }
-        let Some(meaning) = meaning else {
+        let Some(meaning) = said.meaning() else {
             self.pass_refused(keyword);
             return Ok(None);
         };
         let odd = self.pass_said(meaning);
         match keyword {
-            Keyword::Definition => self.define(statement),
-            Keyword::Meas => self.measure(&statement.params),
+            Keyword::Definition => self.define(said.statement),
+            Keyword::Meas => self.measure(&said.statement.params),
             _ => Ok(odd),
         }
     }
@@ -219,21 +206,19 @@ impl Course {
 pub(crate) fn odd_statements(
     alloc: Global,
     text: &[u8],
-    statements: &[Statement],
+    statements: &[Said],
 ) -> Result<Vec<Remark>, AllocError> {
     let mut course = Course::start(alloc);
     let mut remarks = Vec::new(alloc);
     if text.starts_with(b"\xEF\xBB\xBF") {
         push_remark(&mut remarks, Some(What::Odd(Odd::Mark)), 1)?;
     }
-    for statement in statements {
-        let keyword = keyword_of_word(&statement.word);
-        if keyword == Keyword::Endfil {
+    for said in statements {
+        if said.is_end() {
             break;
         }
-        let meaning = meaning_of(alloc, keyword, statement)?;
-        let odd = course.pass(keyword, statement, &meaning)?;
-        push_remark(&mut remarks, odd.map(|odd| What::Odd(odd)), statement.line)?;
+        let odd = course.pass(said)?;
+        push_remark(&mut remarks, odd.map(|odd| What::Odd(odd)), said.line())?;
     }
     Ok(remarks)
 }

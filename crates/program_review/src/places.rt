@@ -12,7 +12,7 @@ use crate::records::record_reason;
 use crate::words::Reason;
 use contact_ledger::TextFault;
 use deviations::LimitsFault;
-use dmis_program::{ProgramFault, Refusal};
+use dmis_program::ProgramFault;
 use link_world::ScheduleFault;
 use order_parts::FilesFault;
 use record_text::RecordFault;
@@ -65,7 +65,10 @@ fn line_reason(alloc: Global, fault: &FilesFault, place: Place) -> Result<Reason
         FilesFault::Limits(LimitsFault::EmptyRange(_)) => (range_reason(alloc, place)?, "M3"),
         _ => (Form::Limits.line_reason(alloc, place)?, "M1"),
     };
-    Reason::or_meaning(alloc, reason, code)
+    match reason {
+        Some(reason) => Ok(reason),
+        None => Reason::meaning(alloc, code),
+    }
 }
 
 fn reason(alloc: Global, fault: &FilesFault, text: &[u8], number: u64) -> Result<Reason, AllocError>
@@ -73,9 +76,9 @@ fn reason(alloc: Global, fault: &FilesFault, text: &[u8], number: u64) -> Result
 {
     match fault {
         FilesFault::Program(ProgramFault::Refused(refusal, _)) => {
-            program_reason(alloc, *refusal, text, number, 0)
+            program_reason(alloc, *refusal, text, number)
         }
-        _ => line_reason(alloc, fault, Place::on_line(text, number, 0)),
+        _ => line_reason(alloc, fault, Place::on_line(text, number)),
     }
 }
 
@@ -134,31 +137,4 @@ pub fn write_place(
 {
     let shown = place(*out.allocator(), fault, name, text)?;
     out.extend_from_slice(shown.as_bytes())
-}
-
-/// A part of a program's text that has all that a sentence on one of its lines needs: the block that is open there from its `MEAS` on, and
-/// the statement of the line.
-#[derive(Clone, Copy, Debug)]
-pub struct Passage<'a> {
-    /// The bytes of some lines of the program, one after the other.
-    pub text: &'a [u8],
-    /// The number of the first of them in the program, from 1.
-    pub first: u64,
-    /// The number of the line that is refused.
-    pub line: u64,
-}
-
-/// Appends the sentence on a refusal of a program that `write_place` has below the line. Fails only if out of memory, and then nothing is
-/// appended.
-pub fn write_sentence(
-    out: &mut Vec<u8>,
-    refusal: Refusal,
-    passage: Passage,
-) -> Result<(), AllocError>
-    ensures { OnErr result (out.new.items ≡ out.old.items) }
-{
-    let above = passage.first.saturating_sub(1);
-    let number = passage.line.saturating_sub(above);
-    let reason = program_reason(*out.allocator(), refusal, passage.text, number, above)?;
-    out.extend_from_slice(reason.said.as_bytes())
 }

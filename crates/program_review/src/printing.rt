@@ -4,8 +4,7 @@ ghost use Rattle.std.specs.Prelude.{◌≡◌, ◌++◌, ◌∷◌, [], codes, s
 ghost use Rattle.std.specs.List.{take_while};
 ghost use Rattle.json.specs.Token.{key, string};
 ghost use Rattle.deviations.specs.Json.{Puts};
-ghost use Rattle.program_review.specs.Printed.{file_of, line_of, kind_text, title_of, title_text, number_text, finding_line, finding_lines, finding_tokens, array_tokens, line_member, code_member, printed, names_of};
-ghost use Rattle.json.specs.Print.{print};
+ghost use Rattle.program_review.specs.Printed.{file_of, line_of, kind_text, title_of, title_text, number_text, finding_line, finding_tokens, line_member, code_member, printed, names_of};
 
 use crate::remarks::{Finding, What};
 use json::Writer;
@@ -44,11 +43,11 @@ fn kind_text(what: What) -> &'static str
     ensures { result.now ≡ kind_text what }
 {
     match what {
-        What::Refused(_, _) => "refused",
+        What::Refused(_, _, _) => "refused",
         What::Passed(_) | What::Clearing(_) => "passed over",
         What::Lack(_) | What::Unused => "setup",
         What::Straight(_) | What::Odd(_) => "odd",
-        What::Sum(_) => "summary",
+        What::Lowered(_, _) | What::Sum(_) => "summary",
     }
 }
 
@@ -56,7 +55,7 @@ fn number_text(alloc: Global, what: What, line: u64) -> Result<String, AllocErro
     ensures { IfOk result (λ text. string_bytes text ≡ number_text (line_of what line)) }
 {
     match what {
-        What::Sum(_) => Ok(String::new(alloc)),
+        What::Lowered(_, _) | What::Sum(_) => Ok(String::new(alloc)),
         _ => format!(in alloc; ":{line}"),
     }
 }
@@ -65,7 +64,7 @@ fn title_text(alloc: Global, what: What) -> Result<String, AllocError>
     ensures { IfOk result (λ text. string_bytes text ≡ title_text (title_of what)) }
 {
     match what {
-        What::Refused(refusal, _) => format!(in alloc; "{refusal}: "),
+        What::Refused(refusal, _, _) => format!(in alloc; "{refusal}: "),
         _ => Ok(String::new(alloc)),
     }
 }
@@ -88,24 +87,6 @@ fn finding_line(
     format!(in alloc; "{file}{number}: {kind}: {title}{said}\n")
 }
 
-fn lines_text(
-    alloc: Global,
-    style: FindingStyle<'_>,
-    findings: &[Finding],
-) -> Result<Vec<u8>, AllocError>
-    ensures { IfOk result (λ text. text.items ≡ finding_lines
-        (names_of style.entry.program.now style.entry.setup.now) findings.now) }
-{
-    let mut text = Vec::new(alloc);
-    let mut left = findings;
-    while let [finding, others @ ..] = left {
-        let line = finding_line(alloc, style, finding)?;
-        text.extend_from_slice(line.as_bytes())?;
-        left = others;
-    }
-    Ok(text)
-}
-
 fn put_text(json: &mut Writer, name: &str, text: &str) -> Result<(), AllocError>
     ensures { Puts result json.old json.new (key name.now ∷ string text.now ∷ []) }
 {
@@ -118,7 +99,7 @@ fn put_line(json: &mut Writer, what: What, line: u64) -> Result<(), AllocError>
 {
     json.key("line")?;
     match what {
-        What::Sum(_) => json.null(),
+        What::Lowered(_, _) | What::Sum(_) => json.null(),
         _ => json.u64(line),
     }
 }
@@ -137,7 +118,7 @@ fn put_code(alloc: Global, json: &mut Writer, what: What) -> Result<(), AllocErr
 {
     json.key("code")?;
     match what {
-        What::Refused(refusal, _) => {
+        What::Refused(refusal, _, _) => {
             let title = format!(in alloc; "{refusal}")?;
             json.string(first_word(title.as_str()))
         }
@@ -165,27 +146,6 @@ fn put_finding(
     json.end_object()
 }
 
-fn array_text(
-    alloc: Global,
-    style: FindingStyle<'_>,
-    findings: &[Finding],
-) -> Result<Vec<u8>, AllocError>
-    ensures { IfOk result (λ text. text.items ≡ print (array_tokens
-        (names_of style.entry.program.now style.entry.setup.now) findings.now) ++ codes "\n") }
-{
-    let mut json = Writer::new(Vec::new(alloc));
-    json.begin_array()?;
-    let mut left = findings;
-    while let [finding, others @ ..] = left {
-        put_finding(alloc, &mut json, style, finding)?;
-        left = others;
-    }
-    json.end_array()?;
-    let mut text = json.into_inner();
-    text.extend_from_slice(b"\n")?;
-    Ok(text)
-}
-
 pub(crate) fn printed(
     alloc: Global,
     style: FindingStyle<'_>,
@@ -195,7 +155,24 @@ pub(crate) fn printed(
         (names_of style.entry.program.now style.entry.setup.now) findings.now) }
 {
     match style.form {
-        FindingForm::Lines => lines_text(alloc, style, findings),
-        FindingForm::Json => array_text(alloc, style, findings),
+        FindingForm::Lines => {
+            let mut text = Vec::new(alloc);
+            for finding in findings {
+                let line = finding_line(alloc, style, finding)?;
+                text.extend_from_slice(line.as_bytes())?;
+            }
+            Ok(text)
+        }
+        FindingForm::Json => {
+            let mut json = Writer::new(Vec::new(alloc));
+            json.begin_array()?;
+            for one in findings {
+                put_finding(alloc, &mut json, style, one)?;
+            }
+            json.end_array()?;
+            let mut text = json.into_inner();
+            text.extend_from_slice(b"\n")?;
+            Ok(text)
+        }
     }
 }

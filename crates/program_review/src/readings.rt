@@ -11,9 +11,9 @@ use std::alloc::{AllocError, Global};
 pub struct Reading<'a> {
     pub statements: Vec<Statement<'a>>,
     /// Why the line after them cannot be read, if there is one; never because memory ran out.
-    pub(crate) fault: Option<TextFault>,
+    pub fault: Option<TextFault>,
     /// How many lines the whole text has.
-    pub(crate) lines: u64,
+    pub lines: u64,
 }
 
 /// Reads a program's text. Fails only if out of memory.

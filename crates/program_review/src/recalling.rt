@@ -3,42 +3,29 @@
 ghost use Rattle.std.specs.Prelude.{◌≡◌, ◌++◌, IfOk, OnOk};
 ghost use Rattle.std.specs.Str.Lines.{lines};
 ghost use Rattle.program_review.specs.Findings.{remarks_in};
-ghost use Rattle.program_review.specs.UnusedFrames.{name_recalled, names_recalled, stored_on, unused_on, unused_from};
+ghost use Rattle.program_review.specs.UnusedFrames.{names_recalled, stored_on, unused_on, unused_from};
 
 use crate::remarks::{Finding, Remark, What};
-use crate::under_setup::meaning_of;
+use crate::said::Said;
 use crate::variables::has_name;
-use dmis_program::{Keyword, StatementMeaning, keyword_of_word};
-use dmis_text::{Statement, cut_line};
+use dmis_program::StatementMeaning;
+use dmis_text::cut_line;
 use fixed_um::Name;
 use std::alloc::{AllocError, Global};
 use tool_rack::fields::{cut_field, is_dropped, is_word};
 
-fn push_recalled(
-    names: &mut Vec<Name>,
-    meaning: &Option<StatementMeaning>,
-) -> Result<(), AllocError>
-    ensures { OnOk result (names.new.items ≡ names.old.items ++ name_recalled meaning.now) }
-{
-    if let Some(StatementMeaning::Recalls(name)) = meaning {
-        let name = name.copy(*names.allocator())?;
-        names.push(name)?;
-    }
-    Ok(())
-}
-
-fn recalled_names(alloc: Global, statements: &[Statement]) -> Result<Vec<Name>, AllocError>
+fn recalled_names(alloc: Global, statements: &[Said]) -> Result<Vec<Name>, AllocError>
     ensures { IfOk result (λ names. names.items ≡ names_recalled statements.now) }
 {
     let mut names = Vec::new(alloc);
     let mut left = statements;
-    while let [statement, rest @ ..] = left {
-        let keyword = keyword_of_word(&statement.word);
-        if keyword == Keyword::Endfil {
-            return Ok(names);
+    while let [said, rest @ ..] = left {
+        if said.is_end() {
+            break;
         }
-        let meaning = meaning_of(alloc, keyword, statement)?;
-        push_recalled(&mut names, &meaning)?;
+        if let Some(StatementMeaning::Recalls(name)) = said.meaning() {
+            names.push(name.copy(alloc)?)?;
+        }
         left = rest;
     }
     Ok(names)
@@ -84,7 +71,7 @@ fn push_unused(
 pub(crate) fn add_unused_frames(
     findings: &mut Vec<Finding>,
     setup: &[u8],
-    statements: &[Statement],
+    statements: &[Said],
 ) -> Result<(), AllocError>
     ensures { OnOk result (remarks_in findings.new.items ≡ remarks_in findings.old.items
         ++ unused_from (names_recalled statements.now) 0 (lines setup.now)) }

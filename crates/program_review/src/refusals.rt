@@ -4,12 +4,14 @@ ghost use Rattle.std.specs.Prelude.{◌≡◌, ◌++◌, [], IfOk, OnOk};
 ghost use Rattle.dmis_program.specs.Keywords.{keyword_of};
 ghost use Rattle.dmis_program.specs.Meaning.{ended};
 ghost use Rattle.program_review.specs.Refusals.{refusals_from, at_start, listed, due, after};
+ghost use Rattle.program_review.specs.Taken.{nothing_around};
 
-use crate::groups::Group;
-use crate::readings::Reading;
+use crate::Reading;
+use crate::groups::{Group, group_of};
 use crate::remarks::{Remark, What, push_remark};
 use crate::standing::Standing;
-use crate::variables::{group_below, push_declared};
+use crate::taking::{Around, Taken, taken_by};
+use crate::variables::{is_computed_move, push_declared};
 use dmis_program::{Frames, Keyword, Refusal, StatementFault, keyword_of_word};
 use dmis_text::{Statement, TextFault};
 use fixed_um::Name;
@@ -18,6 +20,7 @@ use std::alloc::{AllocError, Global};
 fn pass(
     remarks: &mut Vec<Remark>,
     names: &[Name],
+    around: Around,
     standing: Standing,
     frames: &Frames,
     keyword: Keyword,
@@ -25,15 +28,24 @@ fn pass(
 ) -> Result<Standing, AllocError>
     requires { keyword ≡ keyword_of statement.now.word }
     ensures listed { OnOk result (remarks.new.items
-        ≡ remarks.old.items ++ listed names.now statement.now (due frames.now standing statement.now)) }
+        ≡ remarks.old.items ++ listed names.now around statement.now
+        (due frames.now standing statement.now)) }
     ensures standing { IfOk result (λ next.
         next ≡ after standing keyword (due frames.now standing statement.now)) }
 {
     match standing.judge(*remarks.allocator(), frames, keyword, statement) {
         Ok(meaning) => Ok(standing.after_said(keyword, &meaning)),
         Err(StatementFault::Refused(refusal)) => {
-            let group = group_below(names, refusal, keyword, statement);
-            push_remark(remarks, Some(What::Refused(refusal, group)), statement.line)?;
+            let alloc = *remarks.allocator();
+            let computed = is_computed_move(names, refusal, keyword, statement);
+            let taken = taken_by(alloc, around, computed, refusal, keyword, statement)?;
+            let group = if computed {
+                Group::Flow
+            } else {
+                group_of(refusal, &statement.word)
+            };
+            let what = What::Refused(refusal, group, taken);
+            push_remark(remarks, Some(what), statement.line)?;
             Ok(standing.after_refused(keyword, refusal))
         }
         Err(StatementFault::Memory) => Err(AllocError),
@@ -59,9 +71,10 @@ pub(crate) fn refusals(
     frames: &Frames,
 ) -> Result<Vec<Remark>, AllocError>
     ensures { IfOk result (λ found. found.items ≡ refusals_from frames.now reading.now.fault
-        reading.now.lines [] at_start reading.now.statements.items) }
+        reading.now.lines [] nothing_around at_start reading.now.statements.items) }
 {
     let mut standing = Standing::start();
+    let mut around = Around::start();
     let mut names: Vec<Name> = Vec::new(alloc);
     let mut remarks = Vec::new(alloc);
     let mut left = reading.statements.as_slice();
@@ -70,6 +83,7 @@ pub(crate) fn refusals(
         standing = pass(
             &mut remarks,
             names.as_slice(),
+            around,
             standing,
             frames,
             keyword,
@@ -79,10 +93,11 @@ pub(crate) fn refusals(
             return Ok(remarks);
         }
         push_declared(&mut names, statement)?;
+        around = around.after(keyword, statement);
         left = rest;
     }
     let (refusal, line) = ended(reading.fault, standing.number, reading.lines);
-    let what = What::Refused(refusal, Group::Mistake);
+    let what = What::Refused(refusal, Group::Mistake, Taken::No);
     push_remark(&mut remarks, Some(what), line)?;
     Ok(remarks)
 }

@@ -1,11 +1,12 @@
 // What a review remarks on, in the order of the program's lines.
 
 ghost use Rattle.std.specs.Prelude.{◌≡◌, ◌++◌, OnOk};
-ghost use Rattle.program_review.specs.Remarks.{remark_on, AreByLine, is_clearing, one_straight, straights, counted};
+ghost use Rattle.program_review.specs.Remarks.{remark_on, AreByLine, is_clearing, straights, counted};
 
 use crate::groups::Group;
 use crate::notices::Passed;
 use crate::odd::Odd;
+use crate::taking::Taken;
 use crate::travels::Travel;
 use crate::under_setup::Lack;
 use dmis_program::Refusal;
@@ -14,8 +15,8 @@ use std::alloc::AllocError;
 /// What is remarked.
 #[derive(Clone, Copy, Debug)]
 pub enum What {
-    /// A statement is refused, or a line cannot be read. What deleting it would change.
-    Refused(Refusal, Group),
+    /// A statement is refused, or a line cannot be read. What deleting it would change, and how `dme lower` takes it.
+    Refused(Refusal, Group, Taken),
     /// A statement is passed over though it changes something.
     Passed(Passed),
     /// Likewise a statement on clearing. How many straight travels it would have replaced.
@@ -28,6 +29,8 @@ pub enum What {
     Straight(Travel),
     /// A statement is probably not meant as it is written.
     Odd(Odd),
+    /// How many of the refused statements `dme lower` takes, and how many there are.
+    Lowered(usize, usize),
     /// What some of the refused statements are for.
     Sum(Group),
 }

@@ -7,22 +7,22 @@ ghost use Rattle.program_review.specs.Refusals.{first_of};
 ghost use Rattle.program_review.specs.Remarks.{AreByLine};
 ghost use Rattle.program_review.specs.Printed.{names_of};
 ghost use Rattle.program_review.specs.Reviews.{IsReport, frames_under, lacks_under, texts_of};
+ghost use Rattle.program_review.specs.Strays.{strays_of};
 ghost use Rattle.program_review.specs.Travels.{travels_of};
 
 use crate::notices::push_passed;
 use crate::odd::odd_statements;
 use crate::printing::{FindingStyle, printed};
-use crate::readings::read;
+use crate::read;
 use crate::recalling::add_unused_frames;
 use crate::refusals::refusals;
 use crate::remarks::{Remark, What, sort_by_line};
-use crate::strays::stray_touches;
+use crate::said::{Said, said_in};
 use crate::summary::add_summary;
-use crate::travels::push_travels;
+use crate::travels::{Stray, push_travels};
 use crate::under_setup::push_lacks;
 use crate::walking::findings_in;
 use dmis_program::Frames;
-use dmis_text::Statement;
 use std::alloc::{AllocError, Global};
 use tool_rack::Setup;
 
@@ -59,7 +59,7 @@ fn frames_under<'a>(setup: &'a Option<Setup>, none: &'a Frames) -> &'a Frames
 fn push_lacks_under(
     remarks: &mut Vec<Remark>,
     setup: &Option<Setup>,
-    statements: &[Statement],
+    statements: &[Said],
 ) -> Result<(), AllocError>
     ensures { OnOk result (remarks.new.items
         ≡ remarks.old.items ++ lacks_under setup.now statements.now) }
@@ -70,23 +70,25 @@ fn push_lacks_under(
     }
 }
 
-/// These remarks on the statements of a program and the others that are due, in the order of their lines.
+/// These remarks on the statements of a program and the others that are due, in the order of their lines; and the touches that go astray.
 fn all_remarks(
-    alloc: Global,
+    strays: &mut Vec<Stray>,
     setup: &Option<Setup>,
     frames: &Frames,
-    statements: &[Statement],
+    statements: &[Said],
     refused: &[Remark],
     odd: &[Remark],
 ) -> Result<Vec<Remark>, AllocError>
-    ensures { IfOk result (λ remarks. AreByLine ((((refused.now ++ notices_of statements.now)
+    ensures strays { OnOk result (strays.new.items
+        ≡ strays.old.items ++ strays_of frames.now statements.now) }
+    ensures remarks { IfOk result (λ remarks. AreByLine ((((refused.now ++ notices_of statements.now)
         ++ lacks_under setup.now statements.now) ++ travels_of frames.now statements.now) ++ odd.now)
         remarks.items) }
 {
-    let mut remarks = Vec::from_slice(alloc, refused)?;
+    let mut remarks = Vec::from_slice(*strays.allocator(), refused)?;
     push_passed(&mut remarks, statements)?;
     push_lacks_under(&mut remarks, setup, statements)?;
-    push_travels(&mut remarks, statements, frames)?;
+    push_travels(&mut remarks, strays, statements, frames)?;
     remarks.extend_from_slice(odd)?;
     sort_by_line(&mut remarks)?;
     Ok(remarks)
@@ -96,15 +98,15 @@ fn is_refused(remarks: &[Remark]) -> bool
     ensures { result ≡ is_some (first_of remarks.now) }
 {
     match remarks {
-        [first, ..] => matches!(first.what, What::Refused(_, _)),
+        [first, ..] => matches!(first.what, What::Refused(_, _, _)),
         [] => false,
     }
 }
 
 /// Everything that stands between a program and its run, with sentences: in the order of the program's lines each refusal, each statement
 /// that is passed over though it changes something, each for which the setup lacks something, each to which the probe travels straight from
-/// another feature, and each that is odd; then each frame of the setup that the program does not recall; then what the refused statements are
-/// for, and what deleting them would change.
+/// another feature, and each that is odd; then each frame of the setup that the program does not recall; then how many of the refused
+/// statements `dme lower` takes, what they are for, and what deleting them would change.
 ///
 /// Fails only if out of memory.
 #[tactic(auto, using(crate::proofs::FirstLemmas::refused_is))]
@@ -121,17 +123,19 @@ pub fn review_report(
         ≡ is_err (program_of (frames_under texts.entry.setup.now) texts.entry.program.now)) }
 {
     let reading = read(alloc, texts.program)?;
-    let statements = reading.statements.as_slice();
+    let said = said_in(alloc, reading.statements.as_slice())?;
+    let said = said.as_slice();
     let none = Frames::new(alloc);
     let frames = frames_under(texts.setup, &none);
     let refused = refusals(alloc, &reading, frames)?;
     let refused = refused.as_slice();
-    let odd = odd_statements(alloc, texts.program, statements)?;
+    let odd = odd_statements(alloc, texts.program, said)?;
     let odd = odd.as_slice();
-    let remarks = all_remarks(alloc, texts.setup, frames, statements, refused, odd)?;
+    let mut strays = Vec::new(alloc);
+    let remarks = all_remarks(&mut strays, texts.setup, frames, said, refused, odd)?;
+    let statements = reading.statements.as_slice();
     let mut findings = findings_in(alloc, texts.program, statements, remarks.as_slice())?;
-    add_unused_frames(&mut findings, texts.stored, statements)?;
-    let strays = stray_touches(alloc, statements, frames)?;
+    add_unused_frames(&mut findings, texts.stored, said)?;
     add_summary(&mut findings, refused, strays.as_slice())?;
     let text = printed(alloc, style, findings.as_slice())?;
     let is_refused = is_refused(refused);

@@ -3,6 +3,7 @@
 use crate::notices::Passed;
 use crate::odd::{Odd, near_word};
 use crate::remarks::{Remark, What};
+use crate::taking::{Choice, Taken};
 use crate::travels::Travel;
 use crate::under_setup::Lack;
 use dmis_text::Statement;
@@ -61,6 +62,22 @@ fn end_of(what: What) -> &'static str {
         What::Odd(Odd::MeasuredTwice) => "measures a feature whose label another MEAS above has.",
         What::Odd(Odd::DefinedTwice) => "defines a feature whose label another FEAT above has.",
         _ => "",
+    }
+}
+
+/// The end of the sentence on a refused statement: how `dme lower` takes it.
+pub(crate) fn taken_end(taken: Taken) -> &'static str {
+    match taken {
+        Taken::No => "",
+        Taken::Written => " dme lower writes it out.",
+        Taken::LeftOut => " dme lower leaves it out.",
+        Taken::With(Choice::NoClearing) => " dme lower --no-clearing leaves it out.",
+        Taken::With(Choice::Compensated) => " dme lower --compensated leaves it out.",
+        Taken::With(Choice::SkipManual) => " dme lower --skip-manual leaves it out.",
+        Taken::With(Choice::StoredFrames) => {
+            " dme lower --stored-frames takes a frame of the setup in its place."
+        }
+        Taken::With(Choice::EvenTouches) => " dme lower --even-touches gives its block touches.",
     }
 }
 

@@ -1,49 +1,20 @@
 // The statement that is refused, and where its words are.
 
-ghost use Rattle.std.specs.Prelude.{◌≡◌, ◌∷◌, [], IfOk, IfSome, IfNone, Some, slice_get};
-ghost use Rattle.dmis_text.specs.Reading.{text_reading};
+ghost use Rattle.std.specs.Prelude.{◌≡◌};
 ghost use Rattle.dmis_program.specs.Keywords.{keyword_of};
-ghost use Rattle.program_review.specs.Words.{named_by, caused, Gives};
-ghost use Rattle.program_review.specs.Spots.{after_word, after_label, after_params, word_from, part_spot, word_spot, param_spot};
+ghost use Rattle.program_review.specs.Words.{named_by, given};
+ghost use Rattle.program_review.specs.Spots.{after_word, after_label, after_params, word_from, part_spot, word_spot, param_spot, at_word, at_param, site_of};
 
 use crate::causes::Cause;
-use crate::words::{Explained, Word, place_from};
+use crate::words::{Fault, Word, place_from};
 use dmis_program::{Keyword, keyword_of_word};
-use dmis_text::{Statement, Statements, Text, TextFault};
-use std::alloc::{AllocError, Global};
+use dmis_text::{Statement, Text};
 
 /// A statement, and the text from the line on which it begins.
 #[derive(Clone, Copy)]
 pub(crate) struct Found<'s, 'a> {
     pub(crate) rest: &'a [u8],
     pub(crate) statement: &'s Statement<'a>,
-}
-
-/// The next statement; none at the end of the text, and before a line that cannot be read.
-pub(crate) fn next_statement<'a>(
-    statements: &mut Statements<'a>,
-) -> Result<Option<Statement<'a>>, AllocError>
-    ensures next { IfOk result (λ given. IfSome given
-        (λ s. statements.old.left ≡ s ∷ statements.new.left)) }
-    ensures end { IfOk result (λ given. IfNone given (statements.old.left ≡ [])) }
-    ensures passed { IfOk result (λ given. IfNone given (statements.new.left ≡ [])) }
-    ensures fault { statements.new.fault ≡ statements.old.fault }
-{
-    match statements.next() {
-        Ok(statement) => Ok(statement),
-        Err(TextFault::LineTooLong(_)) => Ok(None),
-        Err(TextFault::BadByte(_)) => Ok(None),
-        Err(TextFault::Memory) => Err(AllocError),
-    }
-}
-
-pub(crate) fn first_statement(
-    alloc: Global,
-    text: &[u8],
-) -> Result<Option<Statement<'_>>, AllocError>
-    ensures { IfOk result (λ given. given ≡ slice_get (text_reading text.now).statements 0) }
-{
-    next_statement(&mut Statements::new(alloc, text))
 }
 
 fn behind(text: &[u8], from: Option<usize>, wanted: &[u8]) -> Option<usize>
@@ -110,10 +81,19 @@ impl<'s, 'a> Found<'s, 'a> {
         self.word_from(self.behind_params(index), part)
     }
 
-    pub(crate) fn because(&self, alloc: Global, cause: Cause) -> Explained
-        ensures { Gives result
-            (Some (caused cause (word_spot self.now.rest.now self.now.statement.now))) }
+    /// That the word is at fault.
+    pub(crate) fn at_word(&self, cause: Cause) -> Option<Fault<'s>>
+        ensures { given result ≡ at_word (site_of self.now) cause }
     {
-        self.word().because(alloc, cause, "")
+        let word = self.word();
+        Some(Fault { cause, word })
+    }
+
+    /// That a part of the parameter of this number is at fault.
+    pub(crate) fn at_param(&self, index: usize, part: &'s [u8], cause: Cause) -> Option<Fault<'s>>
+        ensures { given result ≡ at_param (site_of self.now) index part.now cause }
+    {
+        let word = self.in_param(index, part);
+        Some(Fault { cause, word })
     }
 }

@@ -2,11 +2,12 @@
 
 ghost use Rattle.std.specs.Prelude.{◌≡◌, ◌++◌, ◌∷◌, [], OnOk};
 ghost use Rattle.program_review.specs.Findings.{remarks_in, summed};
-ghost use Rattle.program_review.specs.Summary.{number_of, is_of, has_lines, sums_in, order};
+ghost use Rattle.program_review.specs.Summary.{number_of, is_of, is_taken, count_taken, has_lines, lowered_in, summary_of};
 
 use crate::groups::Group;
 use crate::remarks::{Finding, Remark, What};
-use crate::strays::Stray;
+use crate::taking::{Choice, Taken};
+use crate::travels::Stray;
 use dmis_program::Refusal;
 use std::alloc::{AllocError, Global};
 
@@ -48,20 +49,17 @@ fn strays_text(alloc: Global, strays: &[Stray]) -> Result<String, AllocError> {
 
 /// What deleting the lines that leave touches to the operator would change.
 fn hand_text(alloc: Global, strays: &[Stray]) -> Result<String, AllocError> {
-    let mut count: usize = 0;
-    let (mut first, mut last): (u64, u64) = (0, 0);
+    let mut lines = Vec::new(alloc);
     for stray in strays {
         if let Stray::ByHand(line) = stray {
-            first = if count == 0 { *line } else { first };
-            last = *line;
-            count = count.saturating_add(1);
+            lines.push(*line)?;
         }
     }
-    let touches = touches_text(alloc, count)?;
-    let lines = match count {
-        0 => touches,
-        1 => format!(in alloc; "{touches}, at line {first}")?,
-        _ => format!(in alloc; "{touches}, from line {first} to line {last}")?,
+    let touches = touches_text(alloc, lines.len())?;
+    let lines = match lines.as_slice() {
+        [] => touches,
+        [line] => format!(in alloc; "{touches}, at line {line}")?,
+        [first, .., last] => format!(in alloc; "{touches}, from line {first} to line {last}")?,
     };
     format!(in alloc;
         "if deleted, or with PROG, the machine drives by itself to {lines}: MAN leaves this to the operator, since the place of the part is not known."
@@ -84,7 +82,7 @@ fn group_name(group: Group) -> &'static str {
 
 /// Whether only the `ENDMES` of a block whose touches are too few is refused.
 fn lacks_points(found: &[Remark]) -> bool {
-    found.iter().any(|one| matches!(one.what, What::Refused(Refusal::TooFewPoints, _)))
+    found.iter().any(|one| matches!(one.what, What::Refused(Refusal::TooFewPoints, _, _)))
 }
 
 /// What deleting the lines of a group would change.
@@ -136,7 +134,7 @@ fn number_of(group: Group) -> u8
 fn is_of(group: Group, what: What) -> bool
     ensures { result ≡ is_of group what }
 {
-    matches!(what, What::Refused(_, own) if number_of(own) == number_of(group))
+    matches!(what, What::Refused(_, own, _) if number_of(own) == number_of(group))
 }
 
 fn has_lines(found: &[Remark], group: Group) -> bool
@@ -155,8 +153,7 @@ fn lines_text(alloc: Global, found: &[Remark], group: Group) -> Result<String, A
             let line = one.line;
             let mark = if count == 1 { "" } else { ", " };
             if count <= MOST_LINES {
-                let number = format!(in alloc; "{mark}{line}")?;
-                numbers.push_str(number.as_str())?;
+                write!(numbers, "{mark}{line}")?;
             }
         }
     }
@@ -185,15 +182,73 @@ fn add_group(
     Ok(())
 }
 
-/// Adds the summary of a program's refusals: a finding for each group that has some.
+fn is_taken(what: What) -> bool
+    ensures { result ≡ is_taken what }
+{
+    match what {
+        What::Refused(_, _, Taken::No) => false,
+        What::Refused(_, _, _) => true,
+        _ => false,
+    }
+}
+
+fn asks_for(what: What, choice: Choice) -> bool {
+    matches!(what, What::Refused(_, _, Taken::With(own)) if own == choice)
+}
+
+fn count_taken(found: &[Remark]) -> usize
+    ensures { result ≡ count_taken found.now }
+{
+    found.iter().filter(|one| is_taken(one.what)).count()
+}
+
+/// The call of `dme lower` with each option that some line asks for.
+fn call_text(alloc: Global, found: &[Remark]) -> Result<String, AllocError> {
+    let options = [
+        (Choice::NoClearing, " --no-clearing"),
+        (Choice::Compensated, " --compensated"),
+        (Choice::SkipManual, " --skip-manual"),
+        (Choice::StoredFrames, " --stored-frames"),
+        (Choice::EvenTouches, " --even-touches"),
+    ];
+    let mut call = String::from_str(alloc, "dme lower")?;
+    for option in options.as_slice() {
+        if found.iter().any(|one| asks_for(one.what, option.0)) {
+            call.push_str(option.1)?;
+        }
+    }
+    Ok(call)
+}
+
+/// Adds how many of the refused lines `dme lower` takes, if it takes some.
+fn add_lowered(findings: &mut Vec<Finding>, found: &[Remark]) -> Result<(), AllocError>
+    ensures { OnOk result (remarks_in findings.new.items
+        ≡ remarks_in findings.old.items ++ lowered_in found.now) }
+{
+    let (taken, count) = (count_taken(found), found.len());
+    if taken == 0 {
+        return Ok(());
+    }
+    let alloc = *findings.allocator();
+    let call = call_text(alloc, found)?;
+    let lines = if count == 1 { "line" } else { "lines" };
+    let said = format!(in alloc; "{call} takes {taken} of {count} refused {lines}.")?;
+    let what = What::Lowered(taken, count);
+    let remark = Remark { what, line: 0 };
+    findings.push(Finding { remark, said })?;
+    Ok(())
+}
+
+/// Adds the summary of a program's refusals: how many `dme lower` takes, and a finding for each group that has some.
 pub(crate) fn add_summary(
     findings: &mut Vec<Finding>,
     found: &[Remark],
     strays: &[Stray],
 ) -> Result<(), AllocError>
     ensures { OnOk result (remarks_in findings.new.items
-        ≡ remarks_in findings.old.items ++ sums_in found.now order) }
+        ≡ remarks_in findings.old.items ++ summary_of found.now) }
 {
+    add_lowered(findings, found)?;
     let groups = [
         Group::Coordinates,
         Group::ByHand,

@@ -1,11 +1,11 @@
 // The statements that a client carries out by commands, and their lines.
 
 ghost use Rattle.std.specs.Prelude.{◌≡◌, ◌++◌, None, IfOk, OnOk};
-ghost use Rattle.program_review.specs.TaskLines.{task_said, task_on, task_lines_of, command_lines_of, lines_of};
-ghost use Rattle.program_review.specs.TaskLines.{tool_line, frame_line, up_to_touch, after_touch, tool_again, frame_again};
+ghost use Rattle.program_review.specs.TaskLines.{task_said, task_lines_of, command_lines_of, lines_of};
+ghost use Rattle.program_review.specs.TaskLines.{last_line, tool_line, frame_line, up_to_touch, after_touch, tool_again, frame_again};
 
-use crate::under_setup::meaning_of;
-use dmis_program::{Keyword, StatementMeaning, keyword_of_word};
+use crate::said::said_in;
+use dmis_program::StatementMeaning;
 use dmis_text::Statement;
 use std::alloc::{AllocError, Global};
 
@@ -41,47 +41,43 @@ fn task_of(meaning: &Option<StatementMeaning>) -> Option<Task>
     }
 }
 
-fn push_task(tasks: &mut Vec<TaskLine>, task: Option<Task>, line: u64) -> Result<(), AllocError>
-    ensures { OnOk result (tasks.new.items ≡ tasks.old.items ++ task_on line task) }
-{
-    if let Some(task) = task {
-        tasks.push(TaskLine { task, line })?;
-    }
-    Ok(())
-}
-
 /// The tasks of a program's statements, in order: of an accepted program each is one step, and no step but the begin and the end of a block is
 /// left out. A statement that is refused for itself asks for nothing, nor does one after `ENDFIL`. Fails only if out of memory.
 pub fn task_lines(alloc: Global, statements: &[Statement]) -> Result<Vec<TaskLine>, AllocError>
     ensures { IfOk result (λ tasks. tasks.items ≡ task_lines_of statements.now) }
 {
+    let said = said_in(alloc, statements)?;
     let mut tasks = Vec::new(alloc);
-    let mut left = statements;
-    while let [statement, rest @ ..] = left {
-        let keyword = keyword_of_word(&statement.word);
-        if keyword == Keyword::Endfil {
-            return Ok(tasks);
+    let mut left = said.as_slice();
+    while let [said, rest @ ..] = left {
+        if said.is_end() {
+            break;
         }
-        let meaning = meaning_of(alloc, keyword, statement)?;
-        push_task(&mut tasks, task_of(&meaning), statement.line)?;
+        if let Some(task) = task_of(said.meaning()) {
+            let line = said.line();
+            tasks.push(TaskLine { task, line })?;
+        }
         left = rest;
     }
     Ok(tasks)
 }
 
-/// Tasks that are left, and the lines of the tool and of the frame that are selected before them.
+/// Tasks that are left, and the lines of the last of those before them, and of the tool and of the frame that these select.
 #[derive(Drop)]
 pub(crate) struct Left<'a> {
+    pub(crate) last: Option<u64>,
     tool: Option<u64>,
     frame: Option<u64>,
     pub(crate) tasks: &'a [TaskLine],
 }
 
 pub(crate) fn left_after(tasks: &[TaskLine], touches: usize) -> Left<'_>
+    ensures last { result.last ≡ last_line None (up_to_touch touches tasks.now) }
     ensures tool { result.tool ≡ tool_line None (up_to_touch touches tasks.now) }
     ensures frame { result.frame ≡ frame_line None (up_to_touch touches tasks.now) }
     ensures tasks { result.tasks.now ≡ after_touch touches tasks.now }
 {
+    let mut last = None;
     let mut tool = None;
     let mut frame = None;
     let mut rest = tasks;
@@ -90,15 +86,17 @@ pub(crate) fn left_after(tasks: &[TaskLine], touches: usize) -> Left<'_>
         let Some((first, after)) = rest.split_first() else {
             break;
         };
+        last = Some(first.line);
         match first.task {
             Task::Touch => left -= 1,
-            Task::Tool => tool = Some(first.line),
-            Task::Frame => frame = Some(first.line),
+            Task::Tool => tool = last,
+            Task::Frame => frame = last,
             Task::Move => {}
         }
         rest = after;
     }
     Left {
+        last,
         tool,
         frame,
         tasks: rest,

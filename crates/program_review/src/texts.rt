@@ -1,14 +1,13 @@
 // Texts for the operator, and what a run holds back at them.
 
-ghost use Rattle.std.specs.Prelude.{◌≡◌, ◌++◌, None, map, IfOk, OnOk};
+ghost use Rattle.std.specs.Prelude.{◌≡◌, ◌++◌, map, IfOk, OnOk};
 ghost use Rattle.order_parts.specs.Pauses.{place_seen};
-ghost use Rattle.program_review.specs.TaskLines.{last_line, up_to_touch};
 ghost use Rattle.program_review.specs.Texts as spec;
 
+use crate::said::said_in;
 use crate::sentences::statement_text;
 use crate::tasks::{Left, Task, TaskLine, command_lines, left_after};
-use crate::under_setup::meaning_of;
-use dmis_program::{Keyword, StatementMeaning, keyword_of_word};
+use dmis_program::StatementMeaning;
 use dmis_text::Statement;
 use order_parts::TextPlace;
 use program_lowering::is_operator_text;
@@ -34,26 +33,6 @@ fn is_open_after(is_open: bool, meaning: &Option<StatementMeaning>) -> bool
     }
 }
 
-fn push_text(
-    texts: &mut Vec<OperatorText>,
-    is_inside: bool,
-    statement: &Statement,
-) -> Result<(), AllocError>
-    ensures { OnOk result (map spec.text_seen texts.new.items
-        ≡ map spec.text_seen texts.old.items ++ spec.text_on is_inside statement.now) }
-{
-    if is_operator_text(statement) {
-        let alloc = *texts.allocator();
-        let text = statement_text(alloc, statement)?;
-        texts.push(OperatorText {
-            line: statement.line,
-            is_inside,
-            shown: visible(alloc, text.as_slice())?,
-        })?;
-    }
-    Ok(())
-}
-
 /// The texts for the operator among a program's statements, in order, up to `ENDFIL`. Fails only if out of memory.
 pub fn operator_texts(
     alloc: Global,
@@ -62,39 +41,26 @@ pub fn operator_texts(
     ensures { IfOk result (λ texts. map spec.text_seen texts.items
         ≡ spec.texts_of statements.now) }
 {
+    let said = said_in(alloc, statements)?;
     let mut texts = Vec::new(alloc);
     let mut is_open = false;
-    let mut left = statements;
-    while let [statement, rest @ ..] = left {
-        let keyword = keyword_of_word(&statement.word);
-        if keyword == Keyword::Endfil {
-            return Ok(texts);
+    let mut left = said.as_slice();
+    while let [said, rest @ ..] = left {
+        if said.is_end() {
+            break;
         }
-        push_text(&mut texts, is_open, statement)?;
-        let meaning = meaning_of(alloc, keyword, statement)?;
-        is_open = is_open_after(is_open, &meaning);
+        if is_operator_text(said.statement) {
+            let text = statement_text(alloc, said.statement)?;
+            texts.push(OperatorText {
+                line: said.line(),
+                is_inside: is_open,
+                shown: visible(alloc, text.as_slice())?,
+            })?;
+        }
+        is_open = is_open_after(is_open, said.meaning());
         left = rest;
     }
     Ok(texts)
-}
-
-fn last_done(tasks: &[TaskLine], touches: usize) -> Option<u64>
-    ensures { result ≡ last_line None (up_to_touch touches tasks.now) }
-{
-    let mut last = None;
-    let mut rest = tasks;
-    let mut left = touches;
-    while left > 0 {
-        let Some((first, after)) = rest.split_first() else {
-            break;
-        };
-        if let Task::Touch = first.task {
-            left -= 1;
-        }
-        last = Some(first.line);
-        rest = after;
-    }
-    last
 }
 
 fn is_below(line: u64, other: Option<u64>) -> bool
@@ -128,30 +94,7 @@ pub struct Waits {
     pub at_begin: bool,
 }
 
-/// What is held back at a text, of these commands and tasks that are left. Fails only if out of memory.
-fn place_of(
-    alloc: Global,
-    waits: Waits,
-    lines: &[Option<u64>],
-    left: &[TaskLine],
-    text: &OperatorText,
-) -> Result<TextPlace, AllocError>
-    ensures { IfOk result (λ place. place_seen place
-        ≡ spec.place_of waits.at_texts waits.at_begin lines.now left.now (spec.text_seen text.now)) }
-{
-    let held = held_at(lines, left, text.line);
-    Ok(TextPlace {
-        held,
-        is_waited: waits.at_texts
-            && !text.is_inside
-            && held > 1
-            && !(waits.at_begin && held == usize::MAX),
-        is_first: is_above_touches(left, text.line),
-        line: text.line,
-        shown: String::from_str(alloc, text.shown.as_str())?,
-    })
-}
-
+/// Adds what is held back at a text, of these commands and tasks that are left, if it is below the last line that is done.
 fn push_place(
     places: &mut Vec<TextPlace>,
     waits: Waits,
@@ -165,10 +108,19 @@ fn push_place(
         ++ spec.place_on waits.at_texts waits.at_begin last lines.now left.now
         (spec.text_seen text.now)) }
 {
-    if last.is_none_or(|last| last < text.line) {
-        let alloc = *places.allocator();
-        places.push(place_of(alloc, waits, lines, left, text)?)?;
+    if !last.is_none_or(|last| last < text.line) {
+        return Ok(());
     }
+    let held = held_at(lines, left, text.line);
+    let is_held = held > 1 && !(waits.at_begin && held == usize::MAX);
+    let shown = String::from_str(*places.allocator(), text.shown.as_str())?;
+    places.push(TextPlace {
+        held,
+        is_waited: waits.at_texts && !text.is_inside && is_held,
+        is_first: is_above_touches(left, text.line),
+        line: text.line,
+        shown,
+    })?;
     Ok(())
 }
 
@@ -187,8 +139,11 @@ pub fn text_places(
 {
     let lines = command_lines(alloc, tasks, touches)?;
     let lines = lines.as_slice();
-    let Left { tasks: left, .. } = left_after(tasks, touches);
-    let last = last_done(tasks, touches);
+    let Left {
+        last,
+        tasks: left,
+        ..
+    } = left_after(tasks, touches);
     let mut places = Vec::new(alloc);
     for text in texts {
         push_place(&mut places, waits, last, lines, left, text)?;

@@ -1,16 +1,16 @@
-// The straight travels of a program from feature to feature.
+// The way of the probe: the straight travels of a program from feature to feature, and the touches that go astray if refused statements are
+// deleted.
 
 ghost use Rattle.std.specs.Prelude.{◌≡◌, ◌≤◌, ◌*◌, ◌^◌, ◌++◌, ◌+ℤ◌, ◌-ℤ◌, unsigned_abs, OnOk};
 ghost use Rattle.fixed_um.specs.Points.{point_sum};
-ghost use Rattle.dmis_program.specs.Offsets.{offset_of};
+ghost use Rattle.program_review.specs.Strays.{astray, by_hand, strays_in, strays_of};
 ghost use Rattle.program_review.specs.Travels as spec;
 ghost use Rattle.program_review.specs.Travels.{zeros, squared, squared_distance, squared_length, IsLength};
 
 use crate::groups::is_of_coordinates;
 use crate::remarks::{Remark, What, push_remark};
-use crate::under_setup::meaning_of;
-use dmis_program::{Frames, Keyword, StatementMeaning, keyword_of_word};
-use dmis_text::Statement;
+use crate::said::Said;
+use dmis_program::{Frames, Keyword, StatementMeaning};
 use fixed_um::{Point, Um};
 use std::alloc::AllocError;
 
@@ -36,6 +36,17 @@ pub struct Travel {
     pub first: Stop,
 }
 
+/// How a touch would be measured once the refused statements above it are deleted.
+#[derive(Clone, Copy, Debug, PartialEq, Eq)]
+pub(crate) enum Stray {
+    /// In machine coordinates instead of others.
+    Machine,
+    /// Likewise in those of a stored frame that is recalled above them.
+    Stored,
+    /// By the machine itself instead of the operator. The number of its line, from 1.
+    ByHand(u64),
+}
+
 /// What has been passed on the way.
 #[derive(Clone, Copy)]
 pub(crate) struct Way {
@@ -43,6 +54,10 @@ pub(crate) struct Way {
     pub(crate) zero: Option<Point>,
     /// The line of the statement that has selected them.
     pub(crate) set_on: u64,
+    /// A stored frame has been selected.
+    pub(crate) is_stored: bool,
+    /// The last `MODE` is refused: an operator is to take the touches.
+    pub(crate) is_by_hand: bool,
     /// A block is open.
     pub(crate) is_open: bool,
     /// A block has begun since the last touch whose place is known.
@@ -58,6 +73,8 @@ impl Way {
         Way {
             zero: Some(Point::zero()),
             set_on: 0,
+            is_stored: false,
+            is_by_hand: false,
             is_open: false,
             has_begun: false,
             last: None,
@@ -70,70 +87,58 @@ impl Way {
         Way {
             zero,
             set_on: line,
+            is_stored: self.is_stored || zero.is_some(),
             ..*self
         }
     }
 
-    fn recalled(&self, frames: &Frames, line: u64, meaning: &Option<StatementMeaning>) -> Way
-        ensures { result ≡ spec.way_recalled frames.now self.now line meaning.now }
+    fn recalled(&self, frames: &Frames, said: &Said) -> Way
+        ensures { result ≡ spec.way_recalled frames.now self.now said.now }
     {
-        match meaning {
-            Some(StatementMeaning::Recalls(name)) => self.selected(frames.get(name), line),
+        match said.meaning() {
+            Some(StatementMeaning::Recalls(name)) => self.selected(frames.get(name), said.line()),
             Some(_) => *self,
-            None => self.selected(None, line),
+            None => self.selected(None, said.line()),
         }
     }
 
-    fn stop_at(&self, line: u64, target: Point) -> Stop
-        ensures { result ≡ spec.stop_at self.now line target }
+    /// The touch that a statement makes, if its place is known.
+    fn stop_at(&self, said: &Said) -> Option<Stop>
+        ensures { result ≡ spec.stop_at self.now said.now }
     {
-        Stop {
-            line,
-            target,
-            zero: self.zero,
-            set_on: self.set_on,
-        }
-    }
-
-    fn touched(&self, line: u64, target: Option<Point>) -> Way
-        ensures { result ≡ spec.way_touched self.now line target }
-    {
-        match target {
-            None => Way {
-                last: None,
-                ..*self
-            },
-            Some(target) => Way {
-                has_begun: false,
-                last: Some(self.stop_at(line, target)),
-                ..*self
-            },
-        }
-    }
-
-    fn touched_at(&self, meaning: &Option<StatementMeaning>) -> Option<Point>
-        ensures { result ≡ spec.touched_at self.now meaning.now }
-    {
-        match meaning {
-            Some(StatementMeaning::Touches(target, _)) if self.is_open => Some(*target),
+        match said.meaning() {
+            Some(StatementMeaning::Touches(target, _)) if self.is_open => Some(Stop {
+                line: said.line(),
+                target: *target,
+                zero: self.zero,
+                set_on: self.set_on,
+            }),
             _ => None,
         }
     }
 
-    fn after(
-        &self,
-        frames: &Frames,
-        keyword: Keyword,
-        statement: &Statement,
-        meaning: &Option<StatementMeaning>,
-    ) -> Way
-        ensures { result ≡ spec.way_after frames.now self.now keyword statement.now meaning.now }
+    fn stopped(&self, last: Option<Stop>) -> Way
+        ensures { result ≡ spec.way_stopped self.now last }
     {
-        match keyword {
-            Keyword::Recall => self.recalled(frames, statement.line, meaning),
-            Keyword::Unknown if is_of_coordinates(&statement.word) => {
-                self.selected(None, statement.line)
+        Way {
+            has_begun: self.has_begun && last.is_none(),
+            last,
+            ..*self
+        }
+    }
+
+    fn after(&self, frames: &Frames, said: &Said) -> Way
+        ensures { result ≡ spec.way_after frames.now self.now said.now }
+    {
+        match said.keyword() {
+            Keyword::Recall => self.recalled(frames, said),
+            Keyword::Unknown if is_of_coordinates(&said.statement.word) => {
+                self.selected(None, said.line())
             }
+            Keyword::Mode => Way {
+                is_by_hand: said.meaning().is_none(),
+                ..*self
+            },
             Keyword::Meas => Way {
                 is_open: true,
                 has_begun: true,
@@ -143,55 +148,77 @@ impl Way {
                 is_open: false,
                 ..*self
             },
-            Keyword::Goto => self.touched(statement.line, None),
-            Keyword::Ptmeas => self.touched(statement.line, self.touched_at(meaning)),
+            Keyword::Goto => self.stopped(None),
+            Keyword::Ptmeas => self.stopped(self.stop_at(said)),
             _ => *self,
         }
     }
 
-    fn travel_at(
-        &self,
-        keyword: Keyword,
-        line: u64,
-        meaning: &Option<StatementMeaning>,
-    ) -> Option<What>
-        ensures { result ≡ spec.travel_at self.now keyword line meaning.now }
+    fn travel_to(&self, said: &Said) -> Option<What>
+        ensures { result ≡ spec.travel_to self.now said.now }
     {
-        if keyword != Keyword::Ptmeas {
-            return None;
-        }
-        let target = self.touched_at(meaning)?;
-        if !self.has_begun {
-            return None;
-        }
+        let first = self.stop_at(said)?;
         let last = self.last?;
-        let first = self.stop_at(line, target);
-        Some(What::Straight(Travel { last, first }))
+        if self.has_begun {
+            Some(What::Straight(Travel { last, first }))
+        } else {
+            None
+        }
+    }
+
+    /// Adds how a touch on this line would be measured, if otherwise than it is meant.
+    fn push_touch(&self, strays: &mut Vec<Stray>, line: u64) -> Result<(), AllocError>
+        ensures { OnOk result (strays.new.items
+            ≡ strays.old.items ++ (astray self.now ++ by_hand self.now line)) }
+    {
+        if self.zero.is_none() {
+            strays.push(if self.is_stored {
+                Stray::Stored
+            } else {
+                Stray::Machine
+            })?;
+        }
+        if self.is_by_hand {
+            strays.push(Stray::ByHand(line))?;
+        }
+        Ok(())
+    }
+
+    fn push_strays(&self, strays: &mut Vec<Stray>, said: &Said) -> Result<(), AllocError>
+        ensures { OnOk result (strays.new.items ≡ strays.old.items ++ strays_in self.now said.now) }
+    {
+        match said.keyword() {
+            Keyword::Ptmeas => self.push_touch(strays, said.line()),
+            _ => Ok(()),
+        }
     }
 }
 
 /// Adds each straight travel from the last touch of a feature to the first touch of the next, with no `GOTO` between, among these statements, in
 /// order, up to `ENDFIL`; `frames` are those that they may recall. A touch that is refused for itself or outside a block ends a way and begins
-/// none, since its place is not known. Fails only if out of memory.
+/// none, since its place is not known. Adds also the touches that would be measured otherwise if the refused statements above them were
+/// deleted: those after one that sets up, keeps or recalls a coordinate system, up to the next `RECALL` of a stored frame, and those after a
+/// refused `MODE`, up to the next that is accepted. Fails only if out of memory.
 pub(crate) fn push_travels(
     remarks: &mut Vec<Remark>,
-    statements: &[Statement],
+    strays: &mut Vec<Stray>,
+    statements: &[Said],
     frames: &Frames,
 ) -> Result<(), AllocError>
-    ensures { OnOk result (remarks.new.items
+    ensures travels { OnOk result (remarks.new.items
         ≡ remarks.old.items ++ spec.travels_of frames.now statements.now) }
+    ensures strays { OnOk result (strays.new.items
+        ≡ strays.old.items ++ strays_of frames.now statements.now) }
 {
     let mut way = Way::start();
     let mut left = statements;
-    while let [statement, rest @ ..] = left {
-        let keyword = keyword_of_word(&statement.word);
-        if keyword == Keyword::Endfil {
-            return Ok(());
+    while let [said, rest @ ..] = left {
+        if said.is_end() {
+            break;
         }
-        let meaning = meaning_of(*remarks.allocator(), keyword, statement)?;
-        let what = way.travel_at(keyword, statement.line, &meaning);
-        push_remark(remarks, what, statement.line)?;
-        way = way.after(frames, keyword, statement, &meaning);
+        push_remark(remarks, way.travel_to(said), said.line())?;
+        way.push_strays(strays, said)?;
+        way = way.after(frames, said);
         left = rest;
     }
     Ok(())

@@ -1,13 +1,13 @@
 // What a setup lacks for a program.
 
 ghost use Rattle.std.specs.Prelude.{◌≡◌, ◌++◌, IfOk, OnOk};
-ghost use Rattle.program_review.specs.UnderSetup.{recalls_other, meaning_with, selected_after, is_outside, when, lack_of, lacks_of};
+ghost use Rattle.dmis_program.specs.Keywords.{keyword_of};
+ghost use Rattle.program_review.specs.UnderSetup.{meaning_of, selected_after, is_outside, when, lack_of, lacks_of};
 
 use crate::remarks::{Remark, What, push_remark};
-use dmis_program::{
-    Frames, Keyword, StatementFault, StatementMeaning, keyword_of_word, said_of, word_refusal,
-};
-use dmis_text::{Statement, Text};
+use crate::said::{Said, said_in};
+use dmis_program::{Frames, Keyword, StatementMeaning};
+use dmis_text::Statement;
 use fixed_um::Point;
 use std::alloc::{AllocError, Global};
 use tool_rack::Rack;
@@ -32,45 +32,17 @@ pub(crate) enum Selected {
     Unknown,
 }
 
-fn is_other_recall(keyword: Keyword, params: &[Text]) -> bool
-    ensures { result ≡ recalls_other keyword params.now }
-{
-    keyword == Keyword::Recall && word_refusal(1, None, keyword, params).is_some()
-}
-
-/// What a statement says by itself; none if it is refused for itself, its word is unknown, or it recalls what is not read, as a `DA(..)`.
-pub(crate) fn meaning_of(
-    alloc: Global,
-    keyword: Keyword,
-    statement: &Statement,
-) -> Result<Option<StatementMeaning>, AllocError>
-    ensures { IfOk result (λ meaning. meaning ≡ meaning_with keyword statement.now) }
-{
-    if keyword == Keyword::Unknown || is_other_recall(keyword, &statement.params) {
-        return Ok(None);
-    }
-    match said_of(alloc, keyword, statement) {
-        Ok(meaning) => Ok(Some(meaning)),
-        Err(StatementFault::Refused(_)) => Ok(None),
-        Err(StatementFault::Memory) => Err(AllocError),
-    }
-}
-
 impl Selected {
-    fn after(
-        &self,
-        frames: &Frames,
-        keyword: Keyword,
-        meaning: &Option<StatementMeaning>,
-    ) -> Selected
-        ensures { result ≡ selected_after frames.now self.now meaning.now keyword }
+    fn after(&self, frames: &Frames, said: &Said) -> Selected
+        ensures { result ≡ selected_after frames.now self.now (meaning_of said.now)
+            (keyword_of said.now.word) }
     {
-        match meaning {
+        match said.meaning() {
             Some(StatementMeaning::Recalls(name)) => match frames.get(name) {
                 Some(offset) => Selected::Stored(offset),
                 None => Selected::Unknown,
             },
-            None if keyword == Keyword::Recall => Selected::Unknown,
+            None if said.keyword() == Keyword::Recall => Selected::Unknown,
             _ => *self,
         }
     }
@@ -108,7 +80,7 @@ fn lack_of(rack: &Rack, selected: &Selected, meaning: &Option<StatementMeaning>)
 /// positions are not judged. Fails only if out of memory.
 pub(crate) fn push_lacks(
     remarks: &mut Vec<Remark>,
-    statements: &[Statement],
+    statements: &[Said],
     rack: &Rack,
     frames: &Frames,
 ) -> Result<(), AllocError>
@@ -117,15 +89,16 @@ pub(crate) fn push_lacks(
 {
     let mut selected = Selected::Machine;
     let mut left = statements;
-    while let [statement, rest @ ..] = left {
-        let keyword = keyword_of_word(&statement.word);
-        if keyword == Keyword::Endfil {
-            return Ok(());
+    while let [said, rest @ ..] = left {
+        if said.is_end() {
+            break;
         }
-        let meaning = meaning_of(*remarks.allocator(), keyword, statement)?;
-        let what = lack_of(rack, &selected, &meaning);
-        push_remark(remarks, what, statement.line)?;
-        selected = selected.after(frames, keyword, &meaning);
+        push_remark(
+            remarks,
+            lack_of(rack, &selected, said.meaning()),
+            said.line(),
+        )?;
+        selected = selected.after(frames, said);
         left = rest;
     }
     Ok(())
@@ -141,7 +114,8 @@ pub fn lacking_for(
 ) -> Result<Vec<Remark>, AllocError>
     ensures { IfOk result (λ remarks. remarks.items ≡ lacks_of rack.now frames.now statements.now) }
 {
+    let said = said_in(alloc, statements)?;
     let mut remarks = Vec::new(alloc);
-    push_lacks(&mut remarks, statements, rack, frames)?;
+    push_lacks(&mut remarks, said.as_slice(), rack, frames)?;
     Ok(remarks)
 }

@@ -4,13 +4,14 @@ ghost use Rattle.std.specs.Prelude.{◌≡◌, ◌++◌, OnOk, find};
 ghost use Rattle.dmis_program.specs.Keywords.{keyword_of, is_among};
 ghost use Rattle.dmis_program.specs.Parameters.{name_of, without_cart};
 ghost use Rattle.tool_rack.specs.Setups.{has_name};
-ghost use Rattle.program_review.specs.Variables.{declaring, assigning, as_list, names_in, names_by, is_no_length, refused_argument};
-ghost use Rattle.program_review.specs.Variables.{is_named, is_computed_move, group_below};
+ghost use Rattle.program_review.specs.Variables.{declaring, assigning, as_list, names_in, names_by, refused_argument};
+ghost use Rattle.program_review.specs.Lengths.{is_no_length};
+ghost use Rattle.program_review.specs.Variables.{is_named, is_computed_move};
 
-use crate::groups::{Group, group_of};
+use crate::numerals::is_no_length;
 use dmis_program::{Keyword, Refusal};
 use dmis_text::{Statement, Text};
-use fixed_um::{Name, Um, read_um};
+use fixed_um::Name;
 use program_lowering::{is_among, without_cart};
 use std::alloc::AllocError;
 
@@ -60,15 +61,6 @@ pub(crate) fn push_declared(names: &mut Vec<Name>, statement: &Statement) -> Res
     Ok(())
 }
 
-fn is_no_length(text: &[u8]) -> bool
-    ensures { result ≡ is_no_length text.now }
-{
-    match read_um(text, Um::volume_limit()) {
-        Ok(_) => false,
-        Err(_) => true,
-    }
-}
-
 pub(crate) fn has_name(names: &[Name], text: &[u8]) -> bool
     ensures { result ≡ has_name names.now text.now }
 {
@@ -98,18 +90,15 @@ fn is_refused_for(names: &[Name], refusal: Refusal, params: &[Text]) -> bool
     }
 }
 
-/// What a refused statement of this keyword is for, below those that declare or assign these names. Does not allocate.
-pub(crate) fn group_below(
+/// Whether a refused statement of this keyword is a move to variables, below those that declare or assign these names. Does not allocate.
+pub(crate) fn is_computed_move(
     names: &[Name],
     refusal: Refusal,
     keyword: Keyword,
     statement: &Statement,
-) -> Group
+) -> bool
     requires { keyword ≡ keyword_of statement.now.word }
-    ensures { result ≡ group_below names.now refusal statement.now }
+    ensures { result ≡ is_computed_move names.now refusal statement.now }
 {
-    if keyword == Keyword::Goto && is_refused_for(names, refusal, &statement.params) {
-        return Group::Flow;
-    }
-    group_of(refusal, &statement.word)
+    keyword == Keyword::Goto && is_refused_for(names, refusal, &statement.params)
 }

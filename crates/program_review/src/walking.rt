@@ -4,103 +4,73 @@ ghost use Rattle.std.specs.Prelude.{◌≡◌, IfOk};
 ghost use Rattle.program_review.specs.Findings.{remarks_in};
 ghost use Rattle.program_review.specs.Remarks.{with_counts};
 
+use crate::blocks::{Block, block_after};
 use crate::odd::Odd;
-use crate::places::{Passage, write_sentence};
+use crate::programs::{Passage, write_sentence};
 use crate::remarks::{Finding, Remark, What, counted};
-use crate::sentences::{statement_sentence, travel_sentence};
-use dmis_program::{Keyword, Refusal, keyword_of_word};
+use crate::sentences::{statement_sentence, taken_end, travel_sentence};
+use dmis_program::Refusal;
 use dmis_text::{Statement, cut_line};
 use std::alloc::{AllocError, Global};
 
-/// The most bytes of a program, from a refused line on, that its sentence is looked for in.
+/// The most bytes of a program, from a refused line on, that the words of its statement are looked for in.
 const MOST_OF_STATEMENT: usize = 65_536;
 
-/// A line of a text: its number, and the text from it on.
-#[derive(Clone, Copy)]
-struct LineStart<'a> {
-    number: u64,
-    rest: &'a [u8],
-}
-
-impl<'a> LineStart<'a> {
-    fn first(text: &'a [u8]) -> LineStart<'a> {
-        let number = 1;
-        LineStart { number, rest: text }
-    }
-
-    /// The line of this number, from this one on; the last one if the text has fewer.
-    fn forward(self, number: u64) -> LineStart<'a> {
-        let mut reached = self;
-        for passed in self.number..number {
-            let Some((_, rest)) = cut_line(reached.rest) else {
-                break;
-            };
-            reached = LineStart {
-                number: passed + 1,
-                rest,
-            };
-        }
-        reached
-    }
-}
-
-/// What sentences are about, up to the remark whose sentence is written: the text, its statements from that line on, and where the line and the
-/// last block above it begin.
+/// What sentences are about, up to the remark whose sentence is written: the line that was reached and the text from it on, the statements that
+/// are left, and the block that is open above them.
 #[derive(Drop)]
-struct Passages<'s, 'a> {
+struct Walk<'s, 'a> {
     text: &'a [u8],
-    statements: &'s [Statement<'a>],
-    block: LineStart<'a>,
-    line: LineStart<'a>,
+    rest: &'a [u8],
+    number: u64,
+    left: &'s [Statement<'a>],
+    last: Option<&'s Statement<'a>>,
+    block: Option<Block<'s>>,
 }
 
-impl<'s, 'a> Passages<'s, 'a> {
-    fn pass_above(&mut self, line: u64) {
-        let mut left = self.statements;
+impl<'s, 'a> Walk<'s, 'a> {
+    fn reach(&mut self, line: u64) {
+        let mut left = self.left;
         while let [statement, later @ ..] = left {
             if statement.line >= line {
                 break;
             }
-            if keyword_of_word(&statement.word) == Keyword::Meas {
-                self.block = self.block.forward(statement.line);
-            }
+            self.block = block_after(self.block, statement);
             left = later;
         }
-        self.statements = left;
-        self.line = self.line.forward(line);
+        self.left = left;
+        for number in self.number..line {
+            let Some((_, rest)) = cut_line(self.rest) else {
+                break;
+            };
+            self.rest = rest;
+            self.number = number + 1;
+        }
     }
 
-    /// The part of the text that the sentence on a refusal of the line that was reached needs: all of it, or from the block above or from the
-    /// line on, as far as the statement may go.
-    fn passage(&self, refusal: Refusal, line: u64) -> Passage<'a> {
-        let start = match refusal {
-            Refusal::Truncated | Refusal::LineTooLong | Refusal::BadByte => {
-                return Passage {
-                    text: self.text,
-                    first: 1,
-                    line,
-                };
-            }
-            Refusal::InsideBlock | Refusal::TooFewPoints => self.block,
-            _ => self.line,
+    fn passage(&self, refusal: Refusal, line: u64) -> Passage<'s, 'a> {
+        let most = match refusal {
+            Refusal::LineTooLong | Refusal::BadByte => self.rest.len(),
+            _ => self.rest.len().min(MOST_OF_STATEMENT),
         };
-        let above = start.rest.len().saturating_sub(self.line.rest.len());
-        let most = above.saturating_add(MOST_OF_STATEMENT);
-        let (text, _) = start.rest.split_at(start.rest.len().min(most));
+        let (rest, _) = self.rest.split_at(most);
         Passage {
-            text,
-            first: start.number,
-            line,
+            text: self.text,
+            rest,
+            statement: self.left.first().filter(|first| first.line == line),
+            last: self.last,
+            block: self.block,
         }
     }
 
     /// The sentence of a remark. Remarks come in the order of their lines.
     fn sentence(&mut self, alloc: Global, remark: Remark) -> Result<String, AllocError> {
-        self.pass_above(remark.line);
-        match (remark.what, self.statements) {
-            (What::Refused(refusal, _), _) => {
+        self.reach(remark.line);
+        match (remark.what, self.left) {
+            (What::Refused(refusal, _, taken), _) => {
                 let mut said = Vec::new(alloc);
                 write_sentence(&mut said, refusal, self.passage(refusal, remark.line))?;
+                said.extend_from_slice(taken_end(taken).as_bytes())?;
                 String::from_utf8_lossy(alloc, said.as_slice())
             }
             (What::Straight(travel), _) => travel_sentence(alloc, travel),
@@ -123,11 +93,13 @@ pub(crate) fn findings_in<'a>(
 ) -> Result<Vec<Finding>, AllocError>
     ensures { IfOk result (λ findings. remarks_in findings.items ≡ with_counts remarks.now) }
 {
-    let mut passages = Passages {
+    let mut walk = Walk {
         text,
-        statements,
-        block: LineStart::first(text),
-        line: LineStart::first(text),
+        rest: text,
+        number: 1,
+        left: statements,
+        last: statements.last(),
+        block: None,
     };
     let mut findings = Vec::new(alloc);
     let mut left = remarks;
@@ -136,7 +108,7 @@ pub(crate) fn findings_in<'a>(
         let line = remark.line;
         let counted = Remark { what, line };
         let remark = &counted;
-        let said = passages.sentence(alloc, *remark)?;
+        let said = walk.sentence(alloc, *remark)?;
         let remark = *remark;
         findings.push(Finding { remark, said })?;
         left = later;

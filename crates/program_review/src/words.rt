@@ -1,9 +1,9 @@
 // The word of a line that a sentence names.
 
-ghost use Rattle.std.specs.Prelude.{◌≡◌, ◌≤◌, ◌+◌, length, None, Some, IfOk, IfSome};
-ghost use Rattle.program_review.specs.Words.{first_place, word_in, named_by, caused, caused_by, Gives};
+ghost use Rattle.std.specs.Prelude.{◌≡◌, ◌≤◌, ◌+◌, length, None, IfOk, IfSome};
+ghost use Rattle.program_review.specs.Words.{first_place, word_in, named_by, caused, caused_by};
 
-use crate::causes::{Cause, sentence_of};
+use crate::causes::Cause;
 use crate::topics::meaning_of;
 use session_telling::visible;
 use std::alloc::{AllocError, Global};
@@ -57,15 +57,6 @@ impl<'a> Word<'a> {
         format!(in alloc; "{front} ..")
     }
 
-    /// That the word is at fault for this cause; `other` is the other text that the sentence names.
-    pub(crate) fn because(&self, alloc: Global, cause: Cause, other: &str) -> Explained
-        ensures { Gives result (Some (caused cause (named_by self.now))) }
-    {
-        let shown = self.shown(alloc)?;
-        let said = sentence_of(alloc, cause, &shown, other)?;
-        Ok(Some(Reason::of_word(cause, said, *self)))
-    }
-
     /// The word between these texts.
     pub(crate) fn between(
         &self,
@@ -83,6 +74,16 @@ impl<'a> Word<'a> {
         Ok(Some(Reason::of_word(Cause::Other, said, *self)))
     }
 }
+
+/// Why a text is refused, and the word at fault.
+#[derive(Clone, Copy)]
+pub(crate) struct Fault<'a> {
+    pub(crate) cause: Cause,
+    pub(crate) word: Word<'a>,
+}
+
+/// Why a text is refused, and the word at fault; none if it is not refused for this. Fails only if out of memory.
+pub(crate) type Given<'a> = Result<Option<Fault<'a>>, AllocError>;
 
 /// The first place from this one on at which these bytes are found, letters in any case.
 pub(crate) fn place_from(text: &[u8], from: usize, wanted: &[u8]) -> Option<usize>
@@ -146,20 +147,9 @@ impl Reason {
         Ok(Some(Reason::of_line(String::from_str(alloc, text)?)))
     }
 
-    /// This reason, or what the refusal of a code means if there is none.
-    pub(crate) fn or_meaning(
-        alloc: Global,
-        reason: Option<Reason>,
-        code: &str,
-    ) -> Result<Reason, AllocError>
-        ensures { IfOk result (λ given. IfSome reason (λ wanted. given ≡ wanted)) }
-    {
-        match reason {
-            Some(reason) => Ok(reason),
-            None => {
-                let meaning = meaning_of(code.as_bytes());
-                Ok(Reason::of_line(String::from_str(alloc, meaning)?))
-            }
-        }
+    /// What the refusal of a code means.
+    pub(crate) fn meaning(alloc: Global, code: &str) -> Result<Reason, AllocError> {
+        let meaning = meaning_of(code.as_bytes());
+        Ok(Reason::of_line(String::from_str(alloc, meaning)?))
     }
 }

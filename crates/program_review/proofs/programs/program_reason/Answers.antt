@@ -1,10 +1,10 @@
-use Rattle.program_review.proofs.Outside.{caused_by, IfOk-weaker, IsOfPlace, option_map, Spot, spot_of, subst}
-use Rattle.program_review.proofs.ReasonLemmas.{reasoned}
+use Rattle.std.proofs.Common.{rules}
+use Rattle.program_review.proofs.Outside.{opened_by, option_map, spot_of, text_reading}
+use Rattle.program_review.proofs.ReasonLemmas.{on_spot, spot_is}
 use Rattle.program_review.proofs.programs.program_reason.Goals as goal
 
 pub returns : goal.returns
-returns c =
-    IfOk-weaker c.or_meaning.result _ _
-    (λ g e. reasoned c.args.refusal (spot_of c.args.text.now c.args.number c.args.above) c.in_ok-reason.reason g
-    (subst (λ (p : Spot). IsOfPlace c.args.refusal p (option_map caused_by c.in_ok-reason.reason)) c.on_line-place.ensures.spot
-    c.in_ok-reason.ensures) e) c.or_meaning.ensures
+returns c = on_spot c.reason_on.result c.args.refusal _ (spot_of c.args.text.now c.args.number)
+    (spot_is c.args.text.now c.from_line.result.now c.args.number c.as_slice-statements.result.now (text_reading c.args.text.now).statements
+    (option_map (λ s. s.now) c.statement_on.result) (option_map (λ s. s.now) c.last.result) (option_map opened_by c.open_block.result)
+    c.from_line.ensures.bytes (search rules) c.statement_on.ensures (search rules) c.open_block.ensures) c.reason_on.ensures

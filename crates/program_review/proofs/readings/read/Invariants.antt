@@ -1,4 +1,4 @@
-use Rattle.program_review.proofs.Names.{◌++◌, ◌≡◌, length, text_reading}
+use Rattle.program_review.proofs.Outside.{◌++◌, ◌≡◌, length, text_reading}
 use Rattle.program_review.proofs.readings.read.Given as goal
 
 -- the statements so far and those that are left are all of them

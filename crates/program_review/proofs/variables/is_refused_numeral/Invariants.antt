@@ -1,4 +1,5 @@
-use Rattle.program_review.proofs.Names.{◌≡◌, find, is_named, is_no_length, length}
+use Rattle.program_review.proofs.Names.{◌≡◌, find, is_named, length}
+use Rattle.program_review.specs.Lengths.{is_no_length}
 use Rattle.program_review.proofs.variables.is_refused_numeral.Given as goal
 
 -- those that are passed are lengths

@@ -1,5 +1,5 @@
 use Rattle.std.proofs.Common.{length}
-use Rattle.program_review.proofs.walking.Passages.pass_above.Given as goal
+use Rattle.program_review.proofs.walking.Walk.reach.Given as goal
 
 abbrev pub decreases-loop-left : goal.decreases-loop-left
 decreases-loop-left l = length l.left
