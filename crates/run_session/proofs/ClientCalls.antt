@@ -2,7 +2,7 @@
 use Rattle.run_session.proofs.Names.{◌∙◌, ◌≡◌, Bool, Call, calls, ClientEnd, cond, done_by, end_read, Err, false, false≢true, Growth, held, IfErr}
 use Rattle.run_session.proofs.Names.{inl, inr, IsFree, IsRunCall, List, Ok, OnErr, OnOk, Pair, possible, Ran, ReadOne, refl, Result, subst, sym, true}
 use Rattle.run_session.proofs.Names.{ℕ}
-use Rattle.run_session.proofs.Names.{ap, Feed, Send}
+use Rattle.run_session.proofs.Names.{ap, Feed, May, Send}
 use Rattle.run_session.proofs.Noting.{spent}
 use Rattle.run_session.specs.Errors.{Follows, Hears, noted_by, Talk}
 use Rattle.run_session.specs.Records.{forgets}
@@ -21,7 +21,7 @@ or_false false = refl
 
 -- from one client to another, with these pauses that are to come
 abbrev pub Moves : List ℕ → ClientEnd → ClientEnd → Growth → Talk → Talk → Type 0
-Moves ps e f g t u = (b : Bool) (first : Pair) (v : Talk) → Ran b first v ps (record { end = e; recording = g }) t
+Moves ps e f g t u = (b : May) (first : Pair) (v : Talk) → Ran b first v ps (record { end = e; recording = g }) t
     → Ran b first v ps (record { end = f; recording = g }) u
 
 pub same_keeps : (ps : List ℕ) (e f : ClientEnd) (g : Growth) (t : Talk) → f ≡ e → Moves ps e f g t t
@@ -37,7 +37,7 @@ pub call_keeps : (ps : List ℕ) (call : Call) (e f : ClientEnd) (g : Growth) (t
 call_keeps ps call e f g t u run free may is follows = λ b first v ran.
     subst (λ (x : ClientEnd). Ran b first v ps (record { end = x; recording = g }) u)
     (done_now call e (possible call e) refl may ∙ sym is)
-    (calls ps (record { end = e; recording = g }) t u call ran run (free b) follows)
+    (calls ps (record { end = e; recording = g }) t u call ran run (free b.aborts) follows)
 
 -- bytes are fed, and heard
 pub feeds_keep : {A : Type 0} (r : Result A ClientFault) (ps bytes : List ℕ) (e f : ClientEnd) (g : Growth) (t u v : Talk) (before after : List ℕ)

@@ -1,5 +1,5 @@
 -- What the examples say of errors.
-use Rattle.run_session.proofs.Names.{[], ◌++◌, ◌+◌, ◌==◌, ◌∙◌, ◌∷◌, ◌≡◌, ◌⊎◌, ap, append-nil, append_assoc, arith, Bool, codes, drop, false, false≢true, inl, inr, length, length-append, List}
+use Rattle.run_session.proofs.Names.{[], ◌++◌, ◌==◌, ◌∙◌, ◌∷◌, ◌≡◌, ◌⊎◌, ap, append-nil, append_assoc, arith, Bool, codes, drop, false, false≢true, inl, inr, length, length-append, List}
 use Rattle.run_session.proofs.Names.{map, None, refl, subst, sym, true, ℕ}
 use Rattle.std.specs.Prelude.{◌||◌}
 use Rattle.std.specs.List.{flat_map, list_any}

@@ -1,7 +1,7 @@
 -- What the file of a record has during its run.
 use Rattle.effects.specs.declared.vocabulary.Answer.{Answer}
 use Rattle.effects.specs.declared.vocabulary.Answer.TheVariants as answer
-use Rattle.run_session.proofs.Names.{HasFiled}
+use Rattle.run_session.proofs.Names.{anything, HasFiled, KeepsNoting, May}
 use Rattle.std.specs.Prelude.{◌||◌, is_err}
 use Rattle.run_session.proofs.ClientCalls.{or_false, or_true}
 use Rattle.run_session.specs.Errors.{Talk}
@@ -13,7 +13,7 @@ use Rattle.run_session.proofs.Names.{Bytes, calls, ClientEnd, cond, confirms, Do
 use Rattle.run_session.proofs.Names.{false≢true, filed, filed_by, Found, GoesOn, Growth, HasReported, HaveLines, inl, inr, IsKept, IsQuiet, IsRun, IsRunOf, IsSafe, Keeps, lacking}
 use Rattle.run_session.proofs.Names.{length, List, Missing, new_lines, None, Nothing, of_file, Ok, OnErr, OnOk, Option, outcome, outcome_by, Outside}
 use Rattle.run_session.proofs.Names.{Pair, Ran, refl, Reply, Reports, Result, Short, Some, Stage, State, subst, suc, sym, take, take-append-drop, tells}
-use Rattle.run_session.proofs.Names.{the_reply, told_now, told_unless, Took, true, is_error, IsNoteText, map, note_lines, Says, with_acts, with_notes, writes, zero, ℕ}
+use Rattle.run_session.proofs.Names.{the_reply, told_now, told_unless, Took, true, map, note_lines, Says, with_acts, with_notes, writes, zero, ℕ}
 
 -- lines are added at the end
 grown_by : (lacks : Bool) (e : ClientEnd) (notes : List Says) (g : Growth)
@@ -24,12 +24,12 @@ grown_by false e notes g =
     let lines : List ℕ = note_lines g.telling.connection notes in
     (acts ++ lines, append_assoc g.text acts lines)
 
-pub grows : {b : Bool} (first : Pair) (v : Talk) (ps : List ℕ) (p : Pair) (t : Talk) → Ran b first v ps p t → (more : List ℕ) × (p.recording.text ≡ first.recording.text ++ more)
+pub grows : {b : May} (first : Pair) (v : Talk) (ps : List ℕ) (p : Pair) (t : Talk) → Ran b first v ps p t → (more : List ℕ) × (p.recording.text ≡ first.recording.text ++ more)
 grows first v _ _ _ (begins ps) = ([], sym (append-nil first.recording.text))
 grows first v _ _ _ (calls ps p t u call r run free talks) = grows first v ps p t r
 grows first v _ _ _ (forgets ps p t u r lost) = grows first v ps p t r
 grows first v _ _ _ (confirms n ps p t r counted) = grows first v (n ∷ ps) p t r
-grows first v _ _ _ (says ps p t said r can other) =
+grows first v _ _ _ (says ps p t said r can other on) =
     let before = grows first v ps p t r in
     let added = grown_by true p.end (said ∷ []) p.recording in
     (before.0 ++ added.0, added.1 ∙ (ap (λ (t : List ℕ). t ++ added.0) before.1 ∙ append_assoc first.recording.text before.0 added.0))
@@ -38,38 +38,55 @@ grows first v _ _ _ (tells ps p t u lacks errors r records lines) =
     let added = grown_by lacks p.end (map error_note errors) p.recording in
     (before.0 ++ added.0, added.1 ∙ (ap (λ (t : List ℕ). t ++ added.0) before.1 ∙ append_assoc first.recording.text before.0 added.0))
 
+-- what is known of the record's file is the same
+pub record IsSameFile (s t : State) : Type 0 where
+  pub lost : t.book.lost ≡ s.book.lost
+  pub filed : t.book.filed ≡ s.book.filed
+  pub settled : t.book.settled ≡ s.book.settled
+
+pub same_file : (s t : State) → of_file t.book ≡ of_file s.book → IsSameFile s t
+same_file s t same = record {
+  lost = ap (λ (b : Book). b.lost) same;
+  filed = ap (λ (b : Book). b.filed) same;
+  settled = ap (λ (b : Book). b.settled) same;
+}
+
 -- the client and the record are later ones, and nothing is written
-pub moved : (first : Pair) (before : List (ℕ × Act)) (s t : State) (o : Outside) → Keeps s t → of_file t.book ≡ of_file s.book
+pub moved : (first : Pair) (before : List (ℕ × Act)) (s t : State) (o : Outside) → KeepsNoting s t → IsSameFile s t
     → IsKept first before s o → IsKept first before t o
 moved first before s t o keeps same k =
-    let w : Origin = record { aborts = true; first = s.pair; begun = s.talk; before = before; marks = o.marks } in
+    let w : Origin = record { may = anything; first = s.pair; begun = s.talk; before = before; marks = o.marks } in
     let more = grows s.pair s.talk t.book.pauses t.pair t.talk
-    (keeps w (record { ran = begins s.book.pauses; reported = k.ran.reported; same = k.ran.same })).ran in
+    (keeps w refl (record { ran = begins s.book.pauses; reported = k.ran.reported; same = k.ran.same })).ran in
     record {
       begun = k.begun;
-      ran = keeps (record { aborts = true; first = first; begun = k.begun; before = before; marks = o.marks }) k.ran;
+      ran = keeps (record { may = anything; first = first; begun = k.begun; before = before; marks = o.marks }) refl k.ran;
       front = (
         k.front.0 ++ more.0,
         sym (append_assoc o.file k.front.0 more.0)
             ∙ (ap (λ (x : List ℕ). x ++ more.0) k.front.1 ∙ sym more.1),
       );
-      filed = λ l. k.filed (sym (ap (λ (b : Book). b.lost) same) ∙ l) ∙ sym (ap (λ (b : Book). b.filed) same);
+      filed = λ l. k.filed (sym same.lost ∙ l) ∙ sym same.filed;
       within = k.within;
-      safe = subst (λ (b : Book). IsSafe first b.settled o.safe) (sym same) k.safe;
+      safe = subst (λ (n : ℕ). IsSafe first n o.safe) (sym same.settled) k.safe;
     }
+
+pub weak : (s t : State) → Keeps s t → KeepsNoting s t
+weak s t keeps = λ w on run. keeps w run
 
 -- what is outside after an answer at a stage that writes this
 abbrev pub by_write : Option Write → ℕ → State → Reply → Outside → Outside
 by_write w n s reply o =
     record (outcome_by n w (lacking s) reply o) { marks = marked w (is_done reply) s o.marks }
 
-pub moved_on : (s t : State) (reply : Reply) → writes s.stage ≡ None → Keeps s t → of_file t.book ≡ of_file s.book → GoesOn s reply t
+pub moved_on : (s t : State) (reply : Reply) → writes s.stage ≡ None → KeepsNoting s t → IsSameFile s t → GoesOn s reply t
 moved_on s t reply quiet keeps same = λ first before o n k.
     subst (λ (w : Option Write). IsKept first before t (by_write w n s reply o)) (sym quiet) (moved first before s t o keeps same k)
 
 -- later ones after an answer
 pub goes_further : (s m t : State) (reply : Reply) → GoesOn s reply m → Keeps m t → of_file t.book ≡ of_file m.book → GoesOn s reply t
-goes_further s m t reply goes keeps same = λ first before o n k. moved first before m t (outcome n s reply o) keeps same (goes first before o n k)
+goes_further s m t reply goes keeps same = λ first before o n k.
+    moved first before m t (outcome n s reply o) (weak m t keeps) (same_file m t same) (goes first before o n k)
 
 pub record IsSame (s t : State) : Type 0 where
   pub pair : t.pair ≡ s.pair
@@ -140,7 +157,7 @@ pub filed_on : (s t : State) (forced : Bool) → writes s.stage ≡ Some (Record
 filed_on s t false w sound same book = λ first before o n k.
     subst (λ (x : Option Write). IsKept first before t (by_write x n s Done o)) (sym w) (record {
       begun = k.begun;
-      ran = same_ran (record { aborts = true; first = first; begun = k.begun; before = before; marks = o.marks }) s t same (ap (λ (b : Book). b.pauses) (book ∙ ap (λ (x : Option Write). filed_by x s) w)) k.ran;
+      ran = same_ran (record { may = anything; first = first; begun = k.begun; before = before; marks = o.marks }) s t same (ap (λ (b : Book). b.pauses) (book ∙ ap (λ (x : Option Write). filed_by x s) w)) k.ran;
       front = ([], (filed_file first before s t o sound same.pair k).0);
       filed = λ l. (filed_file first before s t o sound same.pair k).1
           ∙ sym (ap (λ (b : Book). b.filed) (book ∙ ap (λ (x : Option Write). filed_by x s) w));
@@ -150,7 +167,7 @@ filed_on s t false w sound same book = λ first before o n k.
 filed_on s t true w sound same book = λ first before o n k.
     subst (λ (x : Option Write). IsKept first before t (by_write x n s Done o)) (sym w) (record {
       begun = k.begun;
-      ran = same_ran (record { aborts = true; first = first; begun = k.begun; before = before; marks = o.marks }) s t same (ap (λ (b : Book). b.pauses) (book ∙ ap (λ (x : Option Write). filed_by x s) w)) k.ran;
+      ran = same_ran (record { may = anything; first = first; begun = k.begun; before = before; marks = o.marks }) s t same (ap (λ (b : Book). b.pauses) (book ∙ ap (λ (x : Option Write). filed_by x s) w)) k.ran;
       front = ([], (filed_file first before s t o sound same.pair k).0);
       filed = λ l. (filed_file first before s t o sound same.pair k).1
           ∙ sym (ap (λ (b : Book). b.filed) (book ∙ ap (λ (x : Option Write). filed_by x s) w));
@@ -193,12 +210,12 @@ safe_more first count safe more h = record {
 }
 
 lost_kept : (first : Pair) (begun : Talk) (before : List (ℕ × Act)) (s t : State) (p : Outside)
-    → IsRunOf (record { aborts = true; first = first; begun = begun; before = before; marks = p.marks }) s → IsSame s t → t.book ≡ record (s.book) { lost = true }
+    → IsRunOf (record { may = anything; first = first; begun = begun; before = before; marks = p.marks }) s → IsSame s t → t.book ≡ record (s.book) { lost = true }
     → (rest : List ℕ) × (p.file ++ rest ≡ s.pair.recording.text) → (rest : List ℕ) × (p.safe ++ rest ≡ p.file)
     → IsSafe first s.book.settled p.safe → IsKept first before t p
 lost_kept first begun before s t p ran same book front within safe = record {
   begun = begun;
-  ran = same_ran (record { aborts = true; first = first; begun = begun; before = before; marks = p.marks }) s t same (ap (λ (b : Book). b.pauses) book) ran;
+  ran = same_ran (record { may = anything; first = first; begun = begun; before = before; marks = p.marks }) s t same (ap (λ (b : Book). b.pauses) book) ran;
   front = (front.0, front.1 ∙ ap (λ (x : Pair). x.recording.text) (sym same.pair));
   filed = λ l. absurd (false≢true (sym l ∙ ap (λ (b : Book). b.lost) book));
   within = within;
@@ -271,7 +288,7 @@ same_text g = ap (λ (t : List ℕ). record g { text = t }) (append-nil g.text)
 
 -- from one record to another, with these pauses that are to come
 abbrev Tells : List ℕ → ClientEnd → Growth → Growth → Talk → Talk → Type 0
-Tells ps e g h t u = (b : Bool) (first : Pair) (v : Talk) → Ran b first v ps (record { end = e; recording = g }) t
+Tells ps e g h t u = (b : May) (first : Pair) (v : Talk) → Ran b first v ps (record { end = e; recording = g }) t
     → Ran b first v ps (record { end = e; recording = h }) u
 
 acts_keep : (ps : List ℕ) (e : ClientEnd) (g h : Growth) (t : Talk) → h ≡ with_acts e.client.program.features e.client.table.tally.counted g
@@ -303,6 +320,7 @@ pub new_kept : (before : List (ℕ × Act)) (s : State) → s.book ≡ record {
   short = s.book.short;
   spent = s.book.spent;
   key = s.book.key;
+  noted = s.book.noted;
 }
     → HasReported before s.pair s.reports → IsKept s.pair before s (record { file = s.pair.recording.text; safe = s.pair.recording.text; marks = s.reports.marks })
 new_kept before s book reported = record {
@@ -342,15 +360,6 @@ told_errors_keep (Err why) ps e g h t lines done some =
     errors_keep ps e g h u (first_lines some.0 t.errors lines) some.1.added b first v
     (forgets ps (record { end = e; recording = g }) t u ran (or_true t.lost))
 
--- and a note
-pub told_note_keeps : {A E : Type 0} (r : Result A E) (ps : List ℕ) (e : ClientEnd) (g h : Growth) (t : Talk) (said : Says)
-    → IsNoteText said.0 said.1 → is_error said.0 ≡ false → OnOk r (h ≡ with_notes (said ∷ []) g) → OnErr r (h ≡ g) → Tells ps e g h t t
-told_note_keeps (Ok a) ps e g h t said can other done same = λ b first v ran.
-    subst (λ (x : Growth). Ran b first v ps (record { end = e; recording = x }) t) (sym done)
-    (says ps (record { end = e; recording = g }) t said ran can other)
-told_note_keeps (Err why) ps e g h t said can other done same =
-    λ b first v ran. subst (λ (x : Growth). Ran b first v ps (record { end = e; recording = x }) t) (sym same) ran
-
 pub told_on : (ps : List ℕ) (e : ClientEnd) (g h : Growth) (t u v : Talk) → Tells ps e g h t u → v ≡ u → Tells ps e g h t v
 told_on ps e g h t u v keeps is = λ b first w ran.
     subst (λ (x : Talk). Ran b first w ps (record { end = e; recording = h }) x) (sym is) (keeps b first w ran)
@@ -369,7 +378,8 @@ or_quiet st a h f (inl e) = ap writes e ∙ h
 or_quiet st a h f (inr x) = f x
 
 pub arm_on : (v s t : State) (reply : Reply) → v ≡ s → writes v.stage ≡ None → Keeps s t → of_file t.book ≡ of_file s.book → GoesOn s reply t
-arm_on v s t reply is quiet keeps same = moved_on s t reply (ap (λ (x : State). writes x.stage) (sym is) ∙ quiet) keeps same
+arm_on v s t reply is quiet keeps same =
+    moved_on s t reply (ap (λ (x : State). writes x.stage) (sym is) ∙ quiet) (weak s t keeps) (same_file s t same)
 
 pub arm : (v s t : State) (reply : Reply) → v ≡ s → writes v.stage ≡ None → Keeps s t → t.book ≡ s.book → GoesOn s reply t
 arm v s t reply is quiet keeps same = arm_on v s t reply is quiet keeps (ap of_file same)
@@ -402,7 +412,7 @@ other_file (Some Whole) is n text reply o = refl
 pub noted_goes : (v s t : State) (reply : Reply) → v ≡ s → is_record (writes v.stage) ≡ false → Keeps (answered s reply) t
     → of_file t.book ≡ of_file s.book → GoesOn s reply t
 noted_goes v s t reply is other keeps same = λ first before o n k.
-    moved first before (answered s reply) t (outcome n s reply o) keeps same
+    moved first before (answered s reply) t (outcome n s reply o) (weak (answered s reply) t keeps) (same_file (answered s reply) t same)
     (subst (λ (p : Outside). IsKept first before (answered s reply) (record p { marks = marked_at s reply o.marks }))
     (sym (other_file (writes s.stage) (ap (λ (x : State). is_record (writes x.stage)) (sym is) ∙ other) n (lacking s) reply o)) (record {
       begun = k.begun;

@@ -9,6 +9,7 @@ pub mod Reporting
 pub mod Moments
 pub mod Pauses
 pub mod Stops
+pub mod Dues
 pub mod Noting
 pub mod Hearing
 pub mod Touches

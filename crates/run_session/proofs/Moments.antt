@@ -1,5 +1,7 @@
 -- A run is a list of moments, whose record's file is what a killed run leaves.
-use Rattle.run_session.proofs.Names.{HasFollowed, HasReported, HasTold, IsAt, pace, Pace, Filed}
+use Rattle.run_session.proofs.Names.{May, HasFollowed, HasReported, HasTold, pace}
+use Rattle.run_session.proofs.Paces.{filed_at}
+use Rattle.run_session.specs.Records.{is_filed}
 use Rattle.run_session.proofs.Names.{[], ◌++◌, ◌+◌, ◌∙◌, ◌∷◌, ◌≡◌, ◌≤◌, Abort, Act, ap, append-nil, append_assoc, AreAsked, AreNotes, AreFit, error_note}
 use Rattle.run_session.proofs.Names.{AreWritten, arith, begins, behind_call, behind_calls, behind_moments, Bool, Call, Calls, calls, calls_in}
 use Rattle.run_session.proofs.Names.{ClientEnd, cond, confirms, Connected, done_by, drop, drop-length, end_connected, entry_line, false, false≢true}
@@ -56,11 +58,11 @@ are_notes [] last h some = tt
 are_notes ((note, text) ∷ notes) last h some = (h.0, some, are_notes notes last h.1 some)
 
 -- a run keeps the number of its connection
-ran_last : {b : Bool} (first : Pair) (v : Talk) (ps : List ℕ) (p : Pair) (t : Talk) → Ran b first v ps p t → p.end.client.last ≡ first.end.client.last
+ran_last : {b : May} (first : Pair) (v : Talk) (ps : List ℕ) (p : Pair) (t : Talk) → Ran b first v ps p t → p.end.client.last ≡ first.end.client.last
 ran_last first v _ _ _ (begins ps) = refl
 ran_last first v _ _ _ (calls ps p t u call r is free talks) = Stays.last (call_keeps call p.end is) ∙ ran_last first v ps p t r
 ran_last first v _ _ _ (tells ps p t u lacks errors r records lines) = ran_last first v ps p t r
-ran_last first v _ _ _ (says ps p t said r can other) = ran_last first v ps p t r
+ran_last first v _ _ _ (says ps p t said r can other on) = ran_last first v ps p t r
 ran_last first v _ _ _ (forgets ps p t u r lost) = ran_last first v ps p t r
 ran_last first v _ _ _ (confirms n ps p t r counted) = ran_last first v (n ∷ ps) p t r
 
@@ -71,7 +73,7 @@ record Moments (n : ℕ) (p q : Pair) : Type 0 where
   fit : AreFit n moments p.end
   reports : Reports p.end (calls_in moments)
 
-before : {b : Bool} (n : ℕ) (first : Pair) (v : Talk) (ps : List ℕ) (p q : Pair) (t : Talk) → 1 ≤ first.end.client.last → Ran b first v ps p t
+before : {b : May} (n : ℕ) (first : Pair) (v : Talk) (ps : List ℕ) (p q : Pair) (t : Talk) → 1 ≤ first.end.client.last → Ran b first v ps p t
     → Moments n p q → Moments n first q
 before n first v _ _ q _ some (begins ps) s = s
 before n first v _ _ q _ some (confirms k ps p t r counted) s = before n first v (k ∷ ps) p q t some r s
@@ -83,7 +85,7 @@ before n first v _ _ q _ some (calls ps p t u call r is free talks) s = before n
   fit = (run_fits n call p.end is, s.fit);
   reports = call_reports call (calls_in s.moments) p.end is s.reports;
 })
-before n first v _ _ q _ some (says ps p t said r can other) s = before n first v ps p q t some r (record {
+before n first v _ _ q _ some (says ps p t said r can other on) s = before n first v ps p q t some r (record {
   moments = Tell true (said ∷ []) ∷ s.moments;
   leads = s.leads;
   fit = (are_notes (said ∷ []) p.end.client.last (can, tt) (subst (λ (k : ℕ). 1 ≤ k) (sym (ran_last first v ps p t r)) some), s.fit);
@@ -96,7 +98,7 @@ before n first v _ _ q _ some (tells ps p t u lacks errors r records lines) s = 
   reports = s.reports;
 })
 
-moments_of : {b : Bool} (n : ℕ) (ps : List ℕ) (first p : Pair) (v t : Talk) → 1 ≤ first.end.client.last → Ran b first v ps p t → Moments n first p
+moments_of : {b : May} (n : ℕ) (ps : List ℕ) (first p : Pair) (v t : Talk) → 1 ≤ first.end.client.last → Ran b first v ps p t → Moments n first p
 moments_of n ps first p v t some r = before n first v ps p p t some r (record {
   moments = [];
   leads = refl;
@@ -140,7 +142,7 @@ ends [] q = refl
 ends (Calls call ∷ ms) q = ends ms _
 ends (Tell lacks errors ∷ ms) q = ends ms _
 
-led : {x : Bool} (p : Meaning) (part : Option (List ℕ)) (bytes : List ℕ) (b : Beginning) (window : ℕ) (ps : List ℕ) (first q : Pair)
+led : {x : May} (p : Meaning) (part : Option (List ℕ)) (bytes : List ℕ) (b : Beginning) (window : ℕ) (ps : List ℕ) (first q : Pair)
     (v t : Talk) → IsBegun p part bytes b window first → Ran x first v ps q t → Led p b window q
 led p part bytes b window ps first q v t h ran = record {
   moments = Calls (Connected b.connection) ∷ m.moments;
@@ -222,11 +224,11 @@ nothing_due e g all =
 pub whole : (p : Meaning) (part : Option (List ℕ)) (bytes : List ℕ) (b : Beginning) (window : ℕ) (first : Pair) (before : List (ℕ × Act)) (s : State) (o : Outside)
     → IsProgram p → IsPartGiven part → AreAsked p.features → IsBegun p part bytes b window first → IsKept first before s o
     → AreWritten (numbered b.connection s.pair.end.client.table.tally.counted)
-    → HasFollowed s → s.book.short ≡ false → pace s.stage ≡ Filed → s.book.keeps ≡ true → s.book.lost ≡ false
+    → HasFollowed s → s.book.short ≡ false → is_filed (pace s.stage) ≡ true → s.book.keeps ≡ true → s.book.lost ≡ false
     → IsRecordOf part p.features s.pair.end.client.table.tally.features
     (b.told ++ numbered b.connection s.pair.end.client.table.tally.counted) o.file
 whole p part bytes b window first before s o program given asked h k written followed long filed keeps sound =
-    let at : IsAt Filed s = subst (λ (x : Pace). IsAt x s) filed (followed long) in
+    let at = filed_at (pace s.stage) s filed (followed long) in
     let all : s.pair.recording.told ≡ length s.pair.end.client.table.tally.counted = at.0.recorded keeps in
     let file : o.file ≡ s.pair.recording.text = has_all first before s o k sound at.1 in
     let l : Led p b window s.pair = led p part bytes b window s.book.pauses first s.pair k.begun s.talk h k.ran.ran in
@@ -252,7 +254,7 @@ told p part bytes b window s h none =
     record { recorded = λ keeps. ap (λ (x : Pair). x.recording.told) h.start ∙ counted; reported = λ named. none ∙ counted }
 
 pub contacts : (before : List (ℕ × Act)) (s : State) → HasReported before s.pair s.reports → HasFollowed s → s.book.short ≡ false
-    → pace s.stage ≡ Filed → s.reports.named ≡ true
+    → is_filed (pace s.stage) ≡ true → s.reports.named ≡ true
     → s.reports.text ≡ contacts_text (before ++ numbered s.reports.number s.pair.end.client.table.tally.counted)
 contacts before s has followed long filed named =
-    let at : IsAt Filed s = subst (λ (x : Pace). IsAt x s) filed (followed long) in all_reported before s has (at.0.reported named)
+    let at = filed_at (pace s.stage) s filed (followed long) in all_reported before s has (at.0.reported named)

@@ -1,8 +1,12 @@
 -- How far the record has followed its client.
-use Rattle.run_session.proofs.Names.{[], ◌∙◌, ◌≡◌, ◌≤◌, ◌⊎◌, Abort, Act, ap, Book, Bool, ClientEnd, cond, done_by, drop, Err, false, Filed, Follows, HasFiled}
-use Rattle.run_session.proofs.Names.{HasFollowed, HasTold, IsTold, IfErr, inl, inr, IsAt, lacking, length, List, of_file, Ok, OnErr, OnOk, pace, Pace, Told}
-use Rattle.run_session.proofs.Names.{FollowsTold, refl, Result, Send, Stage, State, StaysTold, subst, sym, true, ℕ}
+use Rattle.run_session.proofs.Names.{[], ◌∙◌, ◌≡◌, ◌≤◌, ◌⊎◌, Abort, Act, ap, Bool, ClientEnd, cond, done_by, drop, Err, false, Filed, Follows, HasFiled}
+use Rattle.run_session.proofs.Names.{HasFollowed, HasTold, IsTold, IfErr, inl, inr, IsAt, length, List, Ok, OnOk, pace, Pace, Told}
+use Rattle.run_session.proofs.Names.{FollowsTold, refl, Result, Send, Stage, State, subst, sym, true, ℕ}
 use Rattle.std.proofs.lemmas.List.{drop_all}
+use Rattle.run_session.proofs.Names.{◌&&◌, ap₂, Apart, false≢true, FollowsApart, HasAll, HasEnded, is_some, not}
+use Rattle.std.specs.Prelude.{◌||◌, nat_lt}
+use Rattle.run_session.specs.Evidence.{has_due, Notes}
+use Rattle.run_session.specs.Records.{is_due, is_filed, Open, Unknown}
 use Rattle.client_core.specs.Refusals.{IsSendRefused}
 use Rattle.client_core.specs.declared.faults.ClientFault.{ClientFault}
 use Rattle.dme_line.specs.declared.tags.Tag.{Tag}
@@ -52,28 +56,76 @@ pub stays : (v s : State) (f : ClientEnd) → v ≡ s → CountsNone v.pair.end 
 stays v s f is none has = subst (IsTold v.book.keeps v.reports.named v.pair.recording.told v.reports.told)
     (sym (ap (λ (l : List Act). length l) none)) (subst HasTold (sym is) has)
 
+-- ---- what is due
+
+or_none : (o d e : Bool) → (not o || (d || e)) ≡ false → (not o || (d || false)) ≡ false
+or_none true true e is = is
+or_none true false e is = refl
+or_none false d e is = is
+
+-- what is not due at any moment is not due before the end
+pub undue : (n : Notes) (complete : ℕ) (over : Bool) → has_due n complete over ≡ false → has_due n complete false ≡ false
+undue n complete over is = go (is_some n.given) is
+  where
+    go : (g : Bool) → (g && (not n.opened || (nat_lt n.dated complete || (over && not n.left)))) ≡ false
+        → (g && (not n.opened || (nat_lt n.dated complete || (false && not n.left)))) ≡ false
+    go true is = or_none n.opened (nat_lt n.dated complete) (over && not n.left) is
+    go false is = refl
+
 -- ---- after an answer
 
-further : (s t : State) → pace s.stage ≡ Filed → t.book.short ≡ s.book.short → Follows s t → HasFollowed s → HasFollowed t
-further s t filed short follows has = λ long.
-    let at : IsAt Filed s = subst (λ (x : Pace). IsAt x s) filed (has (sym short ∙ long)) in follows at.0 at.1 long
-
-further_told : (s t : State) → pace s.stage ≡ Told → t.book.short ≡ s.book.short → FollowsTold s t → HasFollowed s → HasFollowed t
-further_told s t told short follows has = λ long. follows (subst (λ (x : Pace). IsAt x s) told (has (sym short ∙ long))) long
+further : (p : Pace) (s t : State) → pace s.stage ≡ p → t.book.short ≡ s.book.short → (IsAt p s → HasFollowed t) → HasFollowed s → HasFollowed t
+further p s t at short follows has = λ long. follows (subst (λ (x : Pace). IsAt x s) at (has (sym short ∙ long))) long
 
 pub on_filed : {A E : Type 0} (r : Result A E) (v s t : State) → v ≡ s → pace v.stage ≡ Filed → t.book.short ≡ s.book.short → OnOk r (Follows s t)
     → OnOk r (HasFollowed s → HasFollowed t)
-on_filed (Ok a) v s t is filed short f = further s t (ap (λ (x : State). pace x.stage) (sym is) ∙ filed) short f
+on_filed (Ok a) v s t is filed short f = further Filed s t (ap (λ (x : State). pace x.stage) (sym is) ∙ filed) short (λ at. f at.0 at.1)
 on_filed (Err e) v s t is filed short f = tt
+
+pub on_apart : {A E : Type 0} (r : Result A E) (v s t : State) → v ≡ s → pace v.stage ≡ Apart → t.book.short ≡ s.book.short → OnOk r (FollowsApart s t)
+    → OnOk r (HasFollowed s → HasFollowed t)
+on_apart (Ok a) v s t is apart short f = further Apart s t (ap (λ (x : State). pace x.stage) (sym is) ∙ apart) short (λ at. f at.0 at.1)
+on_apart (Err e) v s t is apart short f = tt
 
 pub on_told : {A E : Type 0} (r : Result A E) (v s t : State) → v ≡ s → pace v.stage ≡ Told → t.book.short ≡ s.book.short → OnOk r (FollowsTold s t)
     → OnOk r (HasFollowed s → HasFollowed t)
-on_told (Ok a) v s t is told short f = further_told s t (ap (λ (x : State). pace x.stage) (sym is) ∙ told) short f
+on_told (Ok a) v s t is told short f = further Told s t (ap (λ (x : State). pace x.stage) (sym is) ∙ told) short f
 on_told (Err e) v s t is told short f = tt
 
 pub also_filed : {A E : Type 0} (r : Result A E) (s t : State) → OnOk r (FollowsTold s t) → OnOk r (Follows s t)
 also_filed (Ok a) s t f = λ told filed. f told
 also_filed (Err e) s t f = tt
+
+-- its file has it at each of these paces
+pub filed_at : (p : Pace) (s : State) → is_filed p ≡ true → IsAt p s → HasTold s × HasFiled s
+filed_at Unknown s is at = absurd (false≢true is)
+filed_at Told s is at = absurd (false≢true is)
+filed_at Filed s is at = (at.0, ap (λ (o : Open). o.lacks) at.1)
+filed_at Apart s is at = (at.0, ap (λ (o : Open). o.lacks) at.1)
+
+-- ---- nothing is lacking, and nothing is due
+
+all_even : (s : State) (over : Bool) → HasFiled s → is_due s over ≡ false → HasAll s
+all_even s over filed none = ap₂ (λ (l : List ℕ) (d : Bool). record { lacks = l; due = d }) filed
+    (undue s.book.noted s.pair.recording.telling.counted.features over none)
+
+pub told_on : {A E : Type 0} (r : Result A E) (s t : State) (over : Bool) → HasFiled s → is_due s over ≡ false → OnOk r (Follows s t)
+    → OnOk r (FollowsTold s t)
+told_on (Ok a) s t over filed none f = λ has. f has (all_even s over filed none)
+told_on (Err e) s t over filed none f = tt
+
+and_false : (b c : Bool) → c ≡ false → (b && c) ≡ false
+and_false true c is = is
+and_false false c is = refl
+
+pub ends_on : {A E : Type 0} (r : Result A E) (s t : State) → is_due s true ≡ false → OnOk r (FollowsApart s t) → OnOk r (Follows s t)
+ends_on (Ok a) s t none f = λ has all. f has (ap₂ (λ (l : List ℕ) (d : Bool). record { lacks = l; due = d })
+    (ap (λ (o : Open). o.lacks) all) (and_false s.book.noted.opened (is_due s true) none))
+ends_on (Err e) s t none f = tt
+
+pub unopened : (s : State) → length s.pair.recording.text ≤ s.book.filed → s.book.noted.opened ≡ false → HasEnded s
+unopened s few none = ap₂ (λ (l : List ℕ) (d : Bool). record { lacks = l; due = d }) (enough_filed s few)
+    (ap (λ (b : Bool). b && is_due s true) none)
 
 -- ---- the pace of a stage
 

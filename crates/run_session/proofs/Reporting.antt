@@ -1,17 +1,17 @@
 -- What is to be in the file of contacts is what was reported.
-use Rattle.run_session.proofs.Names.{◌++◌, ◌∙◌, ◌∷◌, ◌≡◌, ◌≤◌, Act, ap, Bool, append_assoc, arith, begins, calls, confirms, Err, HasReported, IsRun, IsRunOf}
-use Rattle.run_session.proofs.Names.{length, length-append, List, map, numbered, Ok, OnErr, OnOk, Pair, Ran, refl, Reports, Result, State}
+use Rattle.run_session.proofs.Names.{◌++◌, ◌∙◌, ◌∷◌, ◌≡◌, ◌≤◌, Act, ap, append_assoc, arith, begins, calls, confirms, Err, HasReported, IsRun, IsRunOf}
+use Rattle.run_session.proofs.Names.{Growth, length, length-append, May, true, List, map, numbered, Ok, OnErr, OnOk, Pair, Ran, refl, Reports, Result, State}
 use Rattle.run_session.proofs.Names.{subst, sym, take, take-append-drop, tells, ℕ, [], append-nil, drop, codes}
 use Rattle.std.proofs.lemmas.List.{map-append, take-append-le, take_all}
 use Rattle.contact_ledger.proofs.WrittenTexts.{text_more}
 use Rattle.contact_ledger.specs.ContactTexts.{act_line, contact_lines, contacts_text}
 use Rattle.contact_ledger.specs.Lines.{text_of}
 use Rattle.run_session.specs.Errors.{Talk}
-use Rattle.run_session.specs.Records.{forgets, Marks, Origin, says}
+use Rattle.run_session.specs.Records.{AddsNotes, forgets, Marks, Origin, says}
 use Rattle.run_session.proofs.Kept.{call_keeps, numbered_more}
 
 -- a run counts more
-more_counted : {b : Bool} (first : Pair) (v : Talk) (ps : List ℕ) (p : Pair) (t : Talk) → Ran b first v ps p t
+more_counted : {b : May} (first : Pair) (v : Talk) (ps : List ℕ) (p : Pair) (t : Talk) → Ran b first v ps p t
     → (more : List Act) × (p.end.client.table.tally.counted ≡ first.end.client.table.tally.counted ++ more)
 more_counted first v _ _ _ (begins ps) = ([], sym (append-nil first.end.client.table.tally.counted))
 more_counted first v _ _ _ (calls ps p t u call r is free talks) =
@@ -21,14 +21,14 @@ more_counted first v _ _ _ (calls ps p t u call r is free talks) =
       now.acts ∙ (ap (λ (l : List Act). l ++ now.more) before.1 ∙ append_assoc first.end.client.table.tally.counted before.0 now.more),
     )
 more_counted first v _ _ _ (tells ps p t u lacks errors r records lines) = more_counted first v ps p t r
-more_counted first v _ _ _ (says ps p t said r can other) = more_counted first v ps p t r
+more_counted first v _ _ _ (says ps p t said r can other on) = more_counted first v ps p t r
 more_counted first v _ _ _ (forgets ps p t u r lost) = more_counted first v ps p t r
 more_counted first v _ _ _ (confirms n ps p t r counted) = more_counted first v (n ∷ ps) p t r
 
 within : (k : ℕ) (xs ys zs : List Act) → zs ≡ xs ++ ys → k ≤ length xs → k ≤ length zs
 within k xs ys zs is few = let long = ap (λ (l : List Act). length l) is ∙ length-append xs ys in omega (arith, long, few)
 
-pub stays_reported : {b : Bool} (before : List (ℕ × Act)) (qs : List ℕ) (p q : Pair) (v u : Talk) (r : Reports) → Ran b p v qs q u
+pub stays_reported : {b : May} (before : List (ℕ × Act)) (qs : List ℕ) (p q : Pair) (v u : Talk) (r : Reports) → Ran b p v qs q u
     → HasReported before p r → HasReported before q r
 stays_reported before qs p q v u r ran has =
     let now = more_counted p v qs q u ran in (
@@ -38,16 +38,27 @@ stays_reported before qs p q v u r ran has =
     )
 
 -- a client and its record that are later ones than those that a session was opened with, while nothing is reported
-pub keeps_by : (v s : State) (qs : List ℕ) (q : Pair) (u : Talk) → v ≡ s
-    → ((b : Bool) (first : Pair) (begun : Talk) → Ran b first begun v.book.pauses v.pair v.talk → Ran b first begun qs q u)
-    → (w : Origin) → IsRunOf w s → IsRun w qs q u v.reports
-keeps_by v s qs q u is moves w run =
+keeps_at : (w : Origin) (v s : State) (qs : List ℕ) (q : Pair) (u : Talk) → v ≡ s
+    → ((first : Pair) (begun : Talk) → Ran w.may first begun v.book.pauses v.pair v.talk → Ran w.may first begun qs q u)
+    → IsRunOf w s → IsRun w qs q u v.reports
+keeps_at w v s qs q u is moves run =
     let at : IsRunOf w v = subst (λ (x : State). IsRunOf w x) (sym is) run in
     record {
-      ran = moves w.aborts w.first w.begun at.ran;
-      reported = stays_reported w.before qs v.pair q v.talk u v.reports (moves w.aborts v.pair v.talk (begins v.book.pauses)) at.reported;
+      ran = moves w.first w.begun at.ran;
+      reported = stays_reported w.before qs v.pair q v.talk u v.reports (moves v.pair v.talk (begins v.book.pauses)) at.reported;
       same = at.same;
     }
+
+pub keeps_by : (v s : State) (qs : List ℕ) (q : Pair) (u : Talk) → v ≡ s
+    → ((b : May) (first : Pair) (begun : Talk) → Ran b first begun v.book.pauses v.pair v.talk → Ran b first begun qs q u)
+    → (w : Origin) → IsRunOf w s → IsRun w qs q u v.reports
+keeps_by v s qs q u is moves w run = keeps_at w v s qs q u is (moves w.may) run
+
+-- likewise, while its record gets notes
+pub notes_keep : (v s : State) (h : Growth) → v ≡ s → AddsNotes v.pair.recording h → (w : Origin) → w.may.notes ≡ true → IsRunOf w s
+    → IsRun w v.book.pauses (record { end = v.pair.end; recording = h }) v.talk v.reports
+notes_keep v s h is adds w on run = keeps_at w v s v.book.pauses (record { end = v.pair.end; recording = h }) v.talk is
+    (λ first begun ran. adds.keeps w.may first begun v.book.pauses v.pair.end v.talk on ran) run
 
 more_text : (front more : List (ℕ × Act)) → contacts_text (front ++ more) ≡ contacts_text front ++ text_of (map act_line more)
 more_text front more = ap (λ (lines : List (List ℕ)). text_of (codes "DME-CONTACTS 1" ∷ lines)) (map-append act_line front more)

@@ -2,15 +2,17 @@
 use Rattle.run_session.proofs.Names.{◌∙◌, ◌≡◌, ◌⊎◌, Abort, ap, begins, behind_call, Bool, calls, ClientEnd, done_by, Err, false, GoesOn, IfErr, inl, inr}
 use Rattle.run_session.proofs.Names.{cond, HasReported, Ran, Reports, false≢true, IsKept, IsRun, Option, IsRunOf, Keeps, Leave, List, None, of_file, Ok, OnErr, OnOk, Outside, Pair, possible, refl, Reply}
 use Rattle.run_session.proofs.Names.{Result, Stage, State, subst, sym, true, writes, Act, ℕ}
+use Rattle.run_session.proofs.Names.{anything, Book, KeepsNoting, nothing}
 use Rattle.std.specs.Prelude.{is_err}
-use Rattle.run_session.specs.Records.{answered, is_stop, IsLater, IsShort, left, Origin, stopped, Stops, StopsOn, Write}
-use Rattle.run_session.proofs.Filing.{by_write, moved}
+use Rattle.run_session.specs.Records.{answered, is_noting, is_stop, IsLater, IsLaterNoting, IsShort, IsUnmoved, left, noted_if, noted_now, Origin, stopped, Stops, StopsOn, turned, Turns, Write}
+use Rattle.run_session.proofs.Filing.{by_write, moved, moved_on, same_file, weak}
 use Rattle.client_core.specs.Refusals.{IsSendRefused}
 use Rattle.client_core.specs.declared.faults.ClientFault.{ClientFault}
 use Rattle.run_session.proofs.Reporting.{stays_reported}
 use Rattle.run_session.specs.Errors.{Talk, noted_by, with_written}
 use Rattle.protocol_model.specs.Client.{client_aborted, may_abort}
 use Rattle.run_session.specs.Records.{forgets}
+use Rattle.run_session.specs.Evidence.{Course}
 
 -- ---- later ones
 
@@ -22,37 +24,102 @@ answered_later s t reply keeps = λ w run.
     let now = keeps (record w { marks = (answered s reply).reports.marks }) (record { ran = run.ran; reported = run.reported; same = refl }) in
     record { ran = now.ran; reported = now.reported; same = refl }
 
-left_later : (x m t : State) → IsLater x m → Keeps (left m) t → IsLater x t
-left_later x m t is keeps = λ w run.
-    let at = is w run in
+later_noting : (s t : State) → KeepsNoting s t → IsLaterNoting s t
+later_noting s t keeps = λ w on run. let now = keeps w on run in record { ran = now.ran; reported = now.reported; same = refl }
+
+left_later : (x m t : State) → IsLaterNoting x m → Keeps (left m) t → IsLaterNoting x t
+left_later x m t is keeps = λ w on run.
+    let at = is w on run in
     let now = keeps (record w { marks = m.reports.marks })
     (record { ran = calls m.book.pauses m.pair m.talk m.talk Leave at.ran tt tt refl; reported = at.reported; same = refl }) in
     record { ran = now.ran; reported = now.reported; same = refl }
 
 -- ---- an answer
 
--- one that does not stop the run
-pub still : {A E : Type 0} (r : Result A E) (v s t : State) (reply : Reply) → v ≡ s → is_stop v.stage reply ≡ false → IsLater s t → StopsOn r s reply t
-still (Ok a) v s t reply is other after = subst (λ (b : Bool). IsLater (stopped b s) t) (sym (ap (λ (x : State). is_stop x.stage reply) (sym is) ∙ other)) after
-still (Err e) v s t reply is other after =
-    inl (subst (λ (b : Bool). IsLater (stopped b s) t) (sym (ap (λ (x : State). is_stop x.stage reply) (sym is) ∙ other)) after)
+same_book : (b : Bool) (s : State) → (stopped b s).book ≡ s.book
+same_book true s = refl
+same_book false s = refl
 
-pub is_still : (reply : Reply) (st a : Stage) → is_stop a reply ≡ false → st ≡ a → is_stop st reply ≡ false
-is_still reply st a h e = ap (λ (x : Stage). is_stop x reply) e ∙ h
+-- one that is no time of notes
+unnoted : (b : Bool) (s : State) (reply : Reply) → is_stop s.stage reply ≡ b → is_noting s.stage ≡ false → turned s reply ≡ stopped b s
+unnoted b s reply at quiet = ap (λ (x : Bool). noted_if x reply (stopped (is_stop s.stage reply) s)) quiet ∙ ap (λ (x : Bool). stopped x s) at
 
-pub or_still : {X : Type 0} (reply : Reply) (st a : Stage) → is_stop a reply ≡ false → (X → is_stop st reply ≡ false) → (st ≡ a) ⊎ X
-    → is_stop st reply ≡ false
+turns : {A E : Type 0} (r : Result A E) (b : Bool) (s t : State) (reply : Reply) → is_stop s.stage reply ≡ b → is_noting s.stage ≡ false
+    → OnOk r (IsLater (stopped b s) t) → OnErr r (IsLater (stopped b s) t ⊎ IsUnmoved s t) → t.book.noted ≡ s.book.noted → StopsOn r s reply t
+turns (Ok a) b s t reply at quiet ran short same = subst (λ (x : State). Turns x t) (sym (unnoted b s reply at quiet))
+    (ran, same ∙ sym (ap (λ (x : Book). x.noted) (same_book b s)))
+turns (Err e) b s t reply at quiet ran (inl is) same =
+    inl (λ w on run. subst (λ (x : Bool). IsLater (stopped x s) t) (sym at) is w run)
+turns (Err e) b s t reply at quiet ran (inr is) same = inr is
+
+pub on_ok : {A E X : Type 0} (r : Result A E) → X → OnOk r X
+on_ok (Ok a) x = x
+on_ok (Err e) x = tt
+
+on_err : {A E X : Type 0} (r : Result A E) → X → OnErr r X
+on_err (Ok a) x = tt
+on_err (Err e) x = x
+
+-- one that does not stop the run either
+abbrev pub IsStill : Reply → Stage → Type 0
+IsStill reply st = (is_stop st reply ≡ false) × (is_noting st ≡ false)
+
+pub still_noted : {A E : Type 0} (r : Result A E) (v s t : State) (reply : Reply) → v ≡ s → IsStill reply v.stage → IsLater s t
+    → t.book.noted ≡ s.book.noted → StopsOn r s reply t
+still_noted r v s t reply is other after same =
+    let at : IsStill reply s.stage = subst (λ (x : State). IsStill reply x.stage) is other in
+    turns r false s t reply at.0 at.1 (on_ok r after) (on_err r (inl after)) same
+
+pub still : {A E : Type 0} (r : Result A E) (v s t : State) (reply : Reply) → v ≡ s → IsStill reply v.stage → IsLater s t → t.book ≡ s.book
+    → StopsOn r s reply t
+still r v s t reply is other after same = still_noted r v s t reply is other after (ap (λ (b : Book). b.noted) same)
+
+pub is_still : (reply : Reply) (st a : Stage) → IsStill reply a → st ≡ a → IsStill reply st
+is_still reply st a h e = subst (IsStill reply) (sym e) h
+
+pub or_still : {X : Type 0} (reply : Reply) (st a : Stage) → IsStill reply a → (X → IsStill reply st) → (st ≡ a) ⊎ X → IsStill reply st
 or_still reply st a h f (inl e) = is_still reply st a h e
 or_still reply st a h f (inr x) = f x
 
 -- one that may stop it
-pub may_stop : {A E : Type 0} (r : Result A E) (b : Bool) (v s t : State) (reply : Reply) → v ≡ s → is_stop v.stage reply ≡ b
-    → OnOk r (Keeps (stopped b s) t) → OnErr r (IsShort b s t) → StopsOn r s reply t
-may_stop (Ok a) b v s t reply is at ran short =
-    subst (λ (b : Bool). IsLater (stopped b s) t) (sym (ap (λ (x : State). is_stop x.stage reply) (sym is) ∙ at)) (later (stopped b s) t ran)
-may_stop (Err e) b v s t reply is at ran (inl runs) =
-    inl (subst (λ (b : Bool). IsLater (stopped b s) t) (sym (ap (λ (x : State). is_stop x.stage reply) (sym is) ∙ at)) (later (stopped b s) t runs))
-may_stop (Err e) b v s t reply is at ran (inr same) = inr same
+pub may_stop : {A E : Type 0} (r : Result A E) (b : Bool) (v s t : State) (reply : Reply) → v ≡ s → is_stop v.stage reply ≡ b → is_noting v.stage ≡ false
+    → OnOk r (Keeps (stopped b s) t) → OnErr r (IsShort b s t) → of_file t.book ≡ of_file s.book → StopsOn r s reply t
+may_stop r b v s t reply is at quiet ran short same =
+    turns r b s t reply (ap (λ (x : State). is_stop x.stage reply) (sym is) ∙ at) (ap (λ (x : State). is_noting x.stage) (sym is) ∙ quiet)
+    (if_ok r ran) (if_short r short) (ap (λ (b : Book). b.noted) same)
+  where
+    if_ok : {A E : Type 0} (r : Result A E) → OnOk r (Keeps (stopped b s) t) → OnOk r (IsLater (stopped b s) t)
+    if_ok (Ok a) ran = later (stopped b s) t ran
+    if_ok (Err e) ran = tt
+
+    if_short : {A E : Type 0} (r : Result A E) → OnErr r (IsShort b s t) → OnErr r (IsLater (stopped b s) t ⊎ IsUnmoved s t)
+    if_short (Ok a) short = tt
+    if_short (Err e) (inl runs) = inl (later (stopped b s) t runs)
+    if_short (Err e) (inr same) = inr same
+
+-- the time of notes
+noting_turns : (s : State) (reply : Reply) → s.stage ≡ Stage.Noting → turned s reply ≡ noted_now s reply
+noting_turns s reply at = ap (λ (st : Stage). noted_if (is_noting st) reply (stopped (is_stop st reply) s)) at
+
+pub notes_turn : {A E : Type 0} (r : Result A E) (v s t : State) (reply : Reply) → v ≡ s → v.stage ≡ Stage.Noting → OnOk r (Keeps (noted_now s reply) t)
+    → OnOk r (t.book.noted ≡ (noted_now s reply).book.noted) → KeepsNoting s t → StopsOn r s reply t
+notes_turn r v s t reply is at exact passes ran = go r exact passes
+  where
+    here : s.stage ≡ Stage.Noting
+    here = ap (λ (x : State). x.stage) (sym is) ∙ at
+
+    go : {A E : Type 0} (r : Result A E) → OnOk r (Keeps (noted_now s reply) t) → OnOk r (t.book.noted ≡ (noted_now s reply).book.noted)
+        → StopsOn r s reply t
+    go (Ok a) exact passes = subst (λ (x : State). Turns x t) (sym (noting_turns s reply here)) (later (noted_now s reply) t exact, passes)
+    go (Err e) exact passes = inl (subst (λ (st : Stage). IsLaterNoting (stopped (is_stop st reply) s) t) (sym here) (later_noting s t ran))
+
+pub notes_go : (v s t : State) (reply : Reply) → v ≡ s → v.stage ≡ Stage.Noting → KeepsNoting s t → t.book ≡ record (s.book) { noted = t.book.noted }
+    → GoesOn s reply t
+notes_go v s t reply is at keeps same = moved_on s t reply (ap (λ (x : State). writes x.stage) (sym is) ∙ ap writes at) keeps (record {
+  lost = ap (λ (b : Book). b.lost) same;
+  filed = ap (λ (b : Book). b.filed) same;
+  settled = ap (λ (b : Book). b.settled) same;
+})
 
 -- a run that continues after the client could abort
 pub ran_on : {A E : Type 0} (r : Result A E) (v s m t : State) → v ≡ s → Keeps (stopped true v) m → Keeps m t → OnOk r (Keeps (stopped true s) t)
@@ -76,9 +143,14 @@ pub ran_short : {A E : Type 0} (r : Result A E) (v s m t : State) → v ≡ s �
 ran_short (Ok a) v s m t is first more = tt
 ran_short (Err e) v s m t is first more = inl (λ w run. more w (first w (subst (λ (x : State). IsRunOf w (stopped true x)) (sym is) run)))
 
-pub is_short : {A E : Type 0} (r : Result A E) (v s t : State) → v ≡ s → IsShort true v t → OnErr r (IsShort true s t)
-is_short (Ok a) v s t is short = tt
-is_short (Err e) v s t is short = subst (λ (x : State). IsShort true x t) is short
+pub is_short : {A E : Type 0} (r : Result A E) (k : Course) (v s t : State) → v ≡ s → IsShort true (record v { course = k }) t
+    → OnErr r (IsShort true s t)
+is_short (Ok a) k v s t is short = tt
+is_short (Err e) k v s t is short = go (subst (λ (x : State). IsShort true (record x { course = k }) t) is short)
+  where
+    go : IsShort true (record s { course = k }) t → IsShort true s t
+    go (inl keeps) = inl keeps
+    go (inr same) = inr same
 
 -- what is kept of a client is kept of one that aborts
 kept_stopped : (b : Bool) (first : Pair) (before : List (ℕ × Act)) (s : State) (o : Outside) → IsKept first before s o → IsKept first before (stopped b s) o
@@ -87,7 +159,7 @@ kept_stopped true first before s o k = record {
   begun = k.begun;
   ran = record {
     ran = calls s.book.pauses s.pair s.talk (stopped true s).talk Abort k.ran.ran tt refl refl;
-    reported = stays_reported {b = true} before s.book.pauses s.pair (stopped true s).pair s.talk (stopped true s).talk s.reports
+    reported = stays_reported {b = anything} before s.book.pauses s.pair (stopped true s).pair s.talk (stopped true s).talk s.reports
         (calls s.book.pauses s.pair s.talk (stopped true s).talk Abort (begins s.book.pauses) tt refl refl) k.ran.reported;
     same = k.ran.same;
   };
@@ -101,7 +173,8 @@ keeps_go : (s m t : State) (reply : Reply) → writes s.stage ≡ None
     → ((first : Pair) (before : List (ℕ × Act)) (o : Outside) → IsKept first before s o → IsKept first before m o) → Keeps m t
     → of_file t.book ≡ of_file m.book → GoesOn s reply t
 keeps_go s m t reply quiet kept keeps same = λ first before o n k.
-    subst (λ (w : Option Write). IsKept first before t (by_write w n s reply o)) (sym quiet) (moved first before m t o keeps same (kept first before o k))
+    subst (λ (w : Option Write). IsKept first before t (by_write w n s reply o)) (sym quiet)
+    (moved first before m t o (weak m t keeps) (same_file m t same) (kept first before o k))
 
 goes : (b : Bool) (s t : State) (reply : Reply) → writes s.stage ≡ None → Keeps (stopped b s) t → of_file t.book ≡ of_file s.book → GoesOn s reply t
 goes false s t reply quiet keeps same = keeps_go s s t reply quiet (λ first before o k. k) keeps same
@@ -174,24 +247,34 @@ same_talk w ps p t u r is run = subst (λ (x : Talk). IsRun w ps p x r) (sym is)
 
 -- ---- what that says
 
-pub calm : (before : List (ℕ × Act)) (s t : State) → HasReported before s.pair s.reports → IsLater s t → Ran false s.pair s.talk t.book.pauses t.pair t.talk
-calm before s t has is = (is (record { aborts = false; first = s.pair; begun = s.talk; before = before; marks = s.reports.marks })
+pub calm : (before : List (ℕ × Act)) (s t : State) → HasReported before s.pair s.reports → IsLater s t → Ran nothing s.pair s.talk t.book.pauses t.pair t.talk
+calm before s t has is = (is (record { may = nothing; first = s.pair; begun = s.talk; before = before; marks = s.reports.marks })
     (record { ran = begins s.book.pauses; reported = has; same = refl })).ran
 
-pub with_memory : (b : Bool) (s t : State) (reply : Reply) → is_stop s.stage reply ≡ b → t.book.spent ≡ false → Stops s reply t → IsLater (stopped b s) t
-with_memory b s t reply at enough (inl is) = subst (λ (b : Bool). IsLater (stopped b s) t) at is
-with_memory b s t reply at enough (inr is) = absurd (false≢true (sym enough ∙ is.1))
+enough_memory : (s t : State) (reply : Reply) → t.book.spent ≡ false → Stops s reply t → Turns (turned s reply) t
+enough_memory s t reply enough (inl is) = is
+enough_memory s t reply enough (inr is) = absurd (false≢true (sym enough ∙ is.1))
+
+pub with_memory : (b : Bool) (s t : State) (reply : Reply) → is_stop s.stage reply ≡ b → is_noting s.stage ≡ false → t.book.spent ≡ false
+    → Stops s reply t → Turns (stopped b s) t
+with_memory b s t reply at quiet enough stops =
+    subst (λ (x : State). Turns x t) (unnoted b s reply at quiet) (enough_memory s t reply enough stops)
+
+pub all_noted : (s t : State) (reply : Reply) → s.stage ≡ Stage.Noting → t.book.spent ≡ false → Stops s reply t → Turns (noted_now s reply) t
+all_noted s t reply at enough stops =
+    subst (λ (x : State). Turns x t) (noting_turns s reply at) (enough_memory s t reply enough stops)
 
 -- ---- memory runs out
 
 pub keeps_left : (s t : State) → Keeps (left s) t → Keeps s t
 keeps_left s t keeps = λ w run. keeps w (record { ran = calls s.book.pauses s.pair s.talk s.talk Leave run.ran tt tt refl; reported = run.reported; same = run.same })
 
-pub left_stops : {A E : Type 0} (r : Result A E) (s m t : State) (reply : Reply) → StopsOn r s reply m → Keeps (left m) t → t.book.spent ≡ true
-    → Stops s reply t
-left_stops (Ok a) s m t reply stops keeps spent = inl (left_later (stopped (is_stop s.stage reply) s) m t stops keeps)
-left_stops (Err e) s m t reply (inl stops) keeps spent = inl (left_later (stopped (is_stop s.stage reply) s) m t stops keeps)
-left_stops (Err e) s m t reply (inr same) keeps spent = inr (later (left s) t (subst (λ (x : State). Keeps (left x) t) same keeps), spent)
+pub left_stops : {A E : Type 0} (r : Result A E) (s m t : State) (reply : Reply) → is_err r ≡ true → StopsOn r s reply m → Keeps (left m) t
+    → t.book.spent ≡ true → Stops s reply t
+left_stops (Ok a) s m t reply short stops keeps spent = absurd (false≢true short)
+left_stops (Err e) s m t reply short (inl stops) keeps spent = inr (inl (left_later (stopped (is_stop s.stage reply) s) m t stops keeps), spent)
+left_stops (Err e) s m t reply short (inr same) keeps spent =
+    inr (inr (λ w on run. later (left s) t (subst (λ (x : State). Keeps (left x) t) same keeps) w run), spent)
 
 pub ok_stops : {A E : Type 0} (r : Result A E) (s t : State) (reply : Reply) → is_err r ≡ false → StopsOn r s reply t → Stops s reply t
 ok_stops (Ok a) s t reply done stops = inl stops

@@ -1,5 +1,5 @@
 -- What is shown of the errors of a server, and kept of them for the record (this profile).
-use Rattle.std.specs.Prelude.{◌≡◌, ℕ, zero, suc, ◌-◌, List, [], ◌∷◌, ◌++◌, Option, Some, None, Bool, false, true, if◌then◌else◌, nat_lt, map, length, drop, codes, decimal}
+use Rattle.std.specs.Prelude.{◌≡◌, ℕ, zero, suc, ◌-◌, List, [], ◌∷◌, ◌++◌, Option, Some, None, Bool, false, if◌then◌else◌, nat_lt, map, length, drop, codes, decimal}
 use Rattle.std.specs.List.{flat_map}
 use Rattle.client_core.specs.Calls.{Call, Abort, Connected, Feed, Leave, ReadOne, Restart, Resume, Send, Sent as Taken, possible}
 use Rattle.dme_line.specs.Kinds.{kind_name, kind_of}

@@ -1,6 +1,5 @@
 -- What a run's client and its record are after any answers, and what the record's file has (this profile).
 use Rattle.std.specs.Prelude.{◌≡◌, ◌≤◌, ◌&&◌, ◌||◌, ◌⊎◌, ⊤, ℕ, Bool, true, false, not, Result, Ok, Err, if◌then◌else◌, Option, None, Some, List, [], ◌∷◌, ◌++◌, ◌<◌, length, map, take, drop}
-use Rattle.std.specs.List.{AllByRecursion}
 use Rattle.std.specs.Str.{bytes_eq}
 use Rattle.client_core.specs.Calls.{Call, Abort, Send as Sends, behind_call, done_by, Leave as Leaves}
 use Rattle.contact_ledger.specs.ContactTexts.{contacts_text}
@@ -25,6 +24,7 @@ use Rattle.order_parts.specs.Ends.{end_shown}
 use Rattle.order_parts.specs.Kept.{IsFeaturesText}
 use Rattle.run_session.specs.Errors as errors
 use Rattle.run_session.specs.Errors.{noted_by, Records, Talk}
+use Rattle.run_session.specs.Evidence.{Course, Notes, can_note, can_say, ended, given_due, has_due, is_over, made, passed}
 use Rattle.run_session.specs.declared.stages.Stage.{Stage}
 use Rattle.run_session.specs.declared.stages.Stage.TheVariants as stage
 
@@ -37,6 +37,17 @@ abbrev pub held : List ℕ → ℕ
 held [] = 0
 held (count ∷ pauses) = count
 
+-- what a run may have done since a moment, besides what it does in any case: its client aborted, and its record got notes
+pub record May : Type 0 where
+  pub aborts : Bool
+  pub notes : Bool
+
+abbrev pub anything : May
+anything = record { aborts = true; notes = true }
+
+abbrev pub nothing : May
+nothing = record { aborts = false; notes = false }
+
 -- a command is sent only if it is not held back, and an abort only where aborts are allowed
 abbrev pub IsFree : (aborts : Bool) → ℕ → ClientEnd → Call → Type 0
 IsFree aborts count e Sends = count < length e.client.table.tally.unsent
@@ -46,28 +57,28 @@ IsFree aborts count e call = ⊤
 -- a client on its connection and its record, with the pauses that are to come and what is known of its server's errors, from what they were
 -- at first: the client makes calls of its own, and sends nothing that is held back; what it writes is noted, and what it is fed is heard; the
 -- record gets the lines of what the client has counted, unless memory runs out for them, those of the errors that were heard since, and notes
--- that are no errors; of errors nothing is known once memory has run out for them; and a pause ends only once all that stands above it is
--- counted
-pub data Ran (aborts : Bool) (first : Pair) (begun : Talk) : List ℕ → Pair → Talk → Type 0 where
-  begins : (pauses : List ℕ) → Ran aborts first begun pauses first begun
-  calls : (pauses : List ℕ) (p : Pair) (t u : Talk) (call : Call) → Ran aborts first begun pauses p t → IsRunCall call
-      → IsFree aborts (held pauses) p.end call → errors.Follows call p.end t u
-      → Ran aborts first begun pauses (record { end = behind_call call p.end; recording = p.recording }) u
-  tells : (pauses : List ℕ) (p : Pair) (t u : Talk) (lacks : Bool) (errors : List (List ℕ)) → Ran aborts first begun pauses p t
+-- that are no errors, where notes are allowed; of errors nothing is known once memory has run out for them; and a pause ends only once all
+-- that stands above it is counted
+pub data Ran (may : May) (first : Pair) (begun : Talk) : List ℕ → Pair → Talk → Type 0 where
+  begins : (pauses : List ℕ) → Ran may first begun pauses first begun
+  calls : (pauses : List ℕ) (p : Pair) (t u : Talk) (call : Call) → Ran may first begun pauses p t → IsRunCall call
+      → IsFree may.aborts (held pauses) p.end call → errors.Follows call p.end t u
+      → Ran may first begun pauses (record { end = behind_call call p.end; recording = p.recording }) u
+  tells : (pauses : List ℕ) (p : Pair) (t u : Talk) (lacks : Bool) (errors : List (List ℕ)) → Ran may first begun pauses p t
       → Records errors t u → HaveLines errors
-      → Ran aborts first begun pauses (record {
+      → Ran may first begun pauses (record {
         end = p.end;
         recording = with_notes (map error_note errors) (told_unless lacks p.end p.recording);
       }) u
-  says : (pauses : List ℕ) (p : Pair) (t : Talk) (said : Says) → Ran aborts first begun pauses p t → IsNoteText said.0 said.1
-      → is_error said.0 ≡ false
-      → Ran aborts first begun pauses (record { end = p.end; recording = with_notes (said ∷ []) p.recording }) t
-  forgets : (pauses : List ℕ) (p : Pair) (t u : Talk) → Ran aborts first begun pauses p t → u.lost ≡ true
-      → Ran aborts first begun pauses p u
-  confirms : (count : ℕ) (pauses : List ℕ) (p : Pair) (t : Talk) → Ran aborts first begun (count ∷ pauses) p t
-      → length p.end.client.table.tally.todo ≤ count → Ran aborts first begun pauses p t
+  says : (pauses : List ℕ) (p : Pair) (t : Talk) (said : Says) → Ran may first begun pauses p t → IsNoteText said.0 said.1
+      → is_error said.0 ≡ false → may.notes ≡ true
+      → Ran may first begun pauses (record { end = p.end; recording = with_notes (said ∷ []) p.recording }) t
+  forgets : (pauses : List ℕ) (p : Pair) (t u : Talk) → Ran may first begun pauses p t → u.lost ≡ true
+      → Ran may first begun pauses p u
+  confirms : (count : ℕ) (pauses : List ℕ) (p : Pair) (t : Talk) → Ran may first begun (count ∷ pauses) p t
+      → length p.end.client.table.tally.todo ≤ count → Ran may first begun pauses p t
 
--- what is known of the record's file, and the pauses that are to come
+-- what is known of the record's file, the pauses that are to come, and what was noted
 pub record Book : Type 0 where
   pub lost : Bool  -- whether it could not be kept
   pub filed : ℕ  -- how many bytes of the record's text it has
@@ -77,6 +88,7 @@ pub record Book : Type 0 where
   pub short : Bool  -- whether memory has run out before the client was on its connection
   pub spent : Bool  -- whether it has run out
   pub key : Option (List ℕ)  -- that of the record's seals, if it is sealed
+  pub noted : Notes
 
 -- what is known of the files besides the record, and of the report
 pub record Marks : Type 0 where
@@ -101,6 +113,7 @@ pub record State : Type 0 where
   pub book : Book
   pub reports : Reports
   pub talk : Talk
+  pub course : Course
   pub text : List ℕ  -- what is printed at the end
   pub list : List ℕ  -- what the features file is to have
   pub held : ℕ  -- how many features it has then
@@ -134,14 +147,14 @@ first_reports named lists number before = record {
 
 -- a client and its record at first, the acts that were reported before, and what is known of the files
 pub record Origin : Type 0 where
-  pub aborts : Bool  -- whether its client may have aborted since
+  pub may : May
   pub first : Pair
   pub begun : Talk
   pub before : List (ℕ × Act)
   pub marks : Marks
 
 pub record IsRun (w : Origin) (pauses : List ℕ) (p : Pair) (t : Talk) (r : Reports) : Type 0 where
-  pub ran : Ran w.aborts w.first w.begun pauses p t
+  pub ran : Ran w.may w.first w.begun pauses p t
   pub reported : HasReported w.before p r
   pub same : r.marks ≡ w.marks
 
@@ -152,6 +165,10 @@ IsRunOf w s = IsRun w s.book.pauses s.pair s.talk s.reports
 abbrev pub Keeps : State → State → Type 0
 Keeps s t = (w : Origin) → IsRunOf w s → IsRunOf w t
 
+-- likewise of a run whose record may have got notes since
+abbrev pub KeepsNoting : State → State → Type 0
+KeepsNoting s t = (w : Origin) → w.may.notes ≡ true → IsRunOf w s → IsRunOf w t
+
 -- what a run begins with, besides its client
 pub record Start : Type 0 where
   pub growth : Growth
@@ -160,6 +177,7 @@ pub record Start : Type 0 where
   pub reports : Reports
   pub talk : Talk
   pub key : Option (List ℕ)
+  pub notes : Option (List Says)  -- what is noted as the connection is made, if there is a record
 
 -- what the record's file has: with what may not be on the device, and what no crash takes away; and what was answered of the others
 pub record Outside : Type 0 where
@@ -245,7 +263,7 @@ pub record IsSafe (first : Pair) (count : ℕ) (safe : List ℕ) : Type 0 where
   pub pauses : List ℕ
   pub begun : Talk
   pub talk : Talk
-  pub ran : Ran true first begun pauses moment talk
+  pub ran : Ran anything first begun pauses moment talk
   pub rest : List ℕ
   pub text : moment.recording.text ++ rest ≡ safe
   pub features : count ≤ moment.recording.telling.counted.features
@@ -254,7 +272,7 @@ pub record IsSafe (first : Pair) (count : ℕ) (safe : List ℕ) : Type 0 where
 -- text, as many as are known unless it could not be kept; and the features that count as settled are safe
 pub record IsKept (first : Pair) (before : List (ℕ × Act)) (s : State) (o : Outside) : Type 0 where
   pub begun : Talk
-  pub ran : IsRunOf (record { aborts = true; first = first; begun = begun; before = before; marks = o.marks }) s
+  pub ran : IsRunOf (record { may = anything; first = first; begun = begun; before = before; marks = o.marks }) s
   pub front : (rest : List ℕ) × (o.file ++ rest ≡ s.pair.recording.text)
   pub filed : s.book.lost ≡ false → length o.file ≡ s.book.filed
   pub within : (rest : List ℕ) × (o.safe ++ rest ≡ o.file)
@@ -303,17 +321,66 @@ is_stop stage.Awaiting reply = declines true reply
 is_stop stage.Returning reply = declines false reply
 is_stop st reply = false
 
--- a record is as it was, or has one more line, that of this note
-abbrev pub Notes : Says → State → State → Type 0
-Notes said s t = (t.pair.recording ≡ s.pair.recording) ⊎ (t.pair.recording ≡ with_notes (said ∷ []) s.pair.recording)
+-- a note comes to a record, if it can
+abbrev pub with_note : (can : Bool) → Says → Growth → Growth
+with_note can said g = if can then with_notes (said ∷ []) g else g
 
--- the note is the seal of its key for all that was there; without a key nothing is noted
-abbrev pub SealsBy : Option (List ℕ) → State → State → Type 0
-SealsBy None s t = t.pair.recording ≡ s.pair.recording
-SealsBy (Some key) s t = Notes (Sealed, seal_of key s.pair.recording.text) s t
+-- notes do, one after another
+abbrev pub with_said : List Says → Growth → Growth
+with_said [] g = g
+with_said (said ∷ more) g = with_said more (with_note (can_note said) said g)
 
-abbrev pub Seals : State → State → Type 0
-Seals s t = SealsBy s.book.key s t
+-- the seal of all of its text, once the run on the connection is over; without a key none
+abbrev pub seal_if : (over : Bool) → Option (List ℕ) → Growth → Growth
+seal_if over None g = g
+seal_if over (Some key) g =
+    if over then with_note (can_say (Sealed, seal_of key g.text)) (Sealed, seal_of key g.text) g else g
+
+-- some notes do that are no errors; and nothing else
+pub record AddsNotes (g h : Growth) : Type 0 where
+  pub keeps : (may : May) (first : Pair) (begun : Talk) (pauses : List ℕ) (e : ClientEnd) (t : Talk) → may.notes ≡ true
+      → Ran may first begun pauses (record { end = e; recording = g }) t
+      → Ran may first begun pauses (record { end = e; recording = h }) t
+  pub told : h.told ≡ g.told
+
+abbrev pub over : State → Bool
+over s = is_over s.course s.pair.end.client.state
+
+-- what is due at this time besides what is given
+abbrev pub made_at : State → (time : List ℕ) → List Says
+made_at s time = made s.book.noted time s.course.server s.pair.recording.telling.counted.features
+    (ended s.course s.pair.end.client.state)
+
+-- all of it; nothing if the time is not known
+abbrev pub due_at : State → Option (List ℕ) → List Says
+due_at s None = []
+due_at s (Some time) = given_due s.book.noted ++ made_at s time
+
+abbrev pub time_of : Reply → Option (List ℕ)
+time_of (Bytes time) = Some time
+time_of reply = None
+
+abbrev pub with_due : State → Option (List ℕ) → State
+with_due s time = record s {
+  pair = record (s.pair) { recording = with_said (due_at s time) s.pair.recording };
+}
+
+-- the record is sealed if the run on the connection is over; and what was due counts as noted
+abbrev pub closed : State → State
+closed s = record s {
+  pair = record (s.pair) {
+    recording = seal_if (over s) s.book.key s.pair.recording;
+  };
+  book = record (s.book) { noted = passed s.book.noted s.pair.recording.telling.counted.features (over s) };
+}
+
+-- what the answer to the time of notes leaves of a session
+abbrev pub noted_now : State → Reply → State
+noted_now s reply = closed (with_due s (time_of reply))
+
+abbrev pub is_noting : Stage → Bool
+is_noting stage.Noting = true
+is_noting s = false
 
 -- a client that is stopped aborts, if it is Running or Failing: in another state that call is not possible, and changes nothing
 abbrev pub stopped : Bool → State → State
@@ -324,14 +391,32 @@ stopped false s = s
 abbrev pub left : State → State
 left s = record s { pair = record (s.pair) { end = done_by Leaves s.pair.end } }
 
--- one comes of the other without an abort: a run that is at the first, with none so far, is at the second with none
+-- one comes of the other without an abort and without a note: a run that is at the first, with none so far, is at the second with none
 abbrev pub IsLater : State → State → Type 0
 IsLater s t = (w : Origin) → IsRunOf w s → IsRunOf (record w { marks = t.reports.marks }) t
 
--- after an answer that stops the run the client aborts, and then makes other calls; after any other it makes no call but these. If memory
--- runs out before it aborts, it leaves its connection first
+-- without an abort
+abbrev pub IsLaterNoting : State → State → Type 0
+IsLaterNoting s t = (w : Origin) → w.may.notes ≡ true → IsRunOf w s → IsRunOf (record w { marks = t.reports.marks }) t
+
+abbrev pub noted_if : Bool → Reply → State → State
+noted_if true reply s = noted_now s reply
+noted_if false reply s = s
+
+-- what an answer does first: one that stops the run, or is the time of notes
+abbrev pub turned : State → Reply → State
+turned s reply = noted_if (is_noting s.stage) reply (stopped (is_stop s.stage reply) s)
+
+-- and then the client makes other calls than an abort, the record gets no note, and no other counts as noted
+abbrev pub Turns : State → State → Type 0
+Turns s t = IsLater s t × (t.book.noted ≡ s.book.noted)
+
+-- an answer that stops the run makes the client abort; at the time of notes the record gets all that are due and can be said, and its seal at
+-- the end; and after any other answer the client does not abort, and nothing is noted. If memory runs out the client leaves its connection,
+-- perhaps before it aborts, and some notes may be left out
 abbrev pub Stops : State → Reply → State → Type 0
-Stops s reply t = IsLater (stopped (is_stop s.stage reply) s) t ⊎ (IsLater (left s) t × (t.book.spent ≡ true))
+Stops s reply t = Turns (turned s reply) t
+    ⊎ ((IsLaterNoting (stopped (is_stop s.stage reply) s) t ⊎ IsLaterNoting (left s) t) × (t.book.spent ≡ true))
 
 -- the stages before the client sends
 abbrev pub is_before : Stage → Bool
@@ -534,11 +619,39 @@ HasTold s = IsTold s.book.keeps s.reports.named s.pair.recording.told s.reports.
 abbrev pub HasFiled : State → Type 0
 HasFiled s = lacking s ≡ []
 
--- how far a record has followed its client before an effect: its text has all that was counted, and then its file has it; or that is not known
+-- something is due, if the run is over or not
+abbrev pub is_due : State → (over : Bool) → Bool
+is_due s over = has_due s.book.noted s.pair.recording.telling.counted.features over
+
+-- what its file lacks, and whether something is due
+pub record Open : Type 0 where
+  pub lacks : List ℕ
+  pub due : Bool
+
+-- while the run continues on its connection
+abbrev pub open_on : State → Open
+open_on s = record { lacks = lacking s; due = is_due s false }
+
+-- before it, and after its end
+abbrev pub open_off : State → Open
+open_off s = record { lacks = lacking s; due = s.book.noted.opened && is_due s true }
+
+abbrev pub none_open : Open
+none_open = record { lacks = []; due = false }
+
+abbrev pub HasAll : State → Type 0
+HasAll s = open_on s ≡ none_open
+
+abbrev pub HasEnded : State → Type 0
+HasEnded s = open_off s ≡ none_open
+
+-- how far a record has followed its client before an effect: its text has all that was counted; then its file has it, and nothing is due: on
+-- the connection, or before it and after its end; or that is not known
 pub data Pace : Type 0 where
   Unknown : Pace
   Told : Pace
   Filed : Pace
+  Apart : Pace
 
 -- it is not known once memory has run out
 abbrev pub pace : Stage → Pace
@@ -548,16 +661,33 @@ pace stage.Logging = Told
 pace stage.Noting = Told
 pace stage.Recording = Told
 pace stage.Settling = Told
+pace stage.Reporting = Filed
+pace stage.Listing = Filed
+pace stage.Showing = Filed
+pace stage.Sending = Filed
+pace stage.Checking = Filed
+pace stage.Timing = Filed
+pace stage.Receiving = Filed
+pace stage.Awaiting = Filed
+pace stage.Returning = Filed
 pace stage.Telling = Unknown
 pace stage.Exiting = Unknown
-pace st = Filed
+pace st = Apart
+
+abbrev pub is_filed : Pace → Bool
+is_filed Unknown = false
+is_filed Told = false
+is_filed Filed = true
+is_filed Apart = true
 
 abbrev pub IsAt : Pace → State → Type 0
 IsAt Unknown s = ⊤
 IsAt Told s = HasTold s
-IsAt Filed s = HasTold s × HasFiled s
+IsAt Filed s = HasTold s × HasAll s
+IsAt Apart s = HasTold s × HasEnded s
 
--- whatever is sent, received, shown as complete or printed, the record's file has all that the client had counted before, or could not be kept
+-- whatever is sent, received, shown as complete or printed, the record's file has all that the client had counted before, or could not be kept;
+-- and all that was due is noted
 abbrev pub HasFollowed : State → Type 0
 HasFollowed s = s.book.short ≡ false → IsAt (pace s.stage) s
 
@@ -566,19 +696,26 @@ StaysTold s t = HasTold s → HasTold t
 
 -- a record that has followed its client follows it further
 abbrev pub Follows : State → State → Type 0
-Follows s t = HasTold s → HasFiled s → HasFollowed t
+Follows s t = HasTold s → HasAll s → HasFollowed t
+
+abbrev pub FollowsApart : State → State → Type 0
+FollowsApart s t = HasTold s → HasEnded s → HasFollowed t
 
 abbrev pub FollowsTold : State → State → Type 0
 FollowsTold s t = HasTold s → HasFollowed t
 
+-- nothing has come of an answer but what is known of how the run ends
+abbrev pub IsUnmoved : State → State → Type 0
+IsUnmoved s t = t ≡ record s { course = t.course }
+
 -- memory has run out, perhaps before the client could abort
 abbrev pub IsShort : (stop : Bool) → State → State → Type 0
-IsShort stop s t = Keeps (stopped stop s) t ⊎ (t ≡ s)
+IsShort stop s t = Keeps (stopped stop s) t ⊎ IsUnmoved s t
 
--- what an answer makes of the client, unless memory runs out before it aborts
+-- what an answer makes of a session, unless memory runs out
 abbrev pub StopsOn : {A E : Type 0} → Result A E → State → Reply → State → Type 0
-StopsOn (Ok a) s reply t = IsLater (stopped (is_stop s.stage reply) s) t
-StopsOn (Err e) s reply t = IsLater (stopped (is_stop s.stage reply) s) t ⊎ (t ≡ s)
+StopsOn (Ok a) s reply t = Turns (turned s reply) t
+StopsOn (Err e) s reply t = IsLaterNoting (stopped (is_stop s.stage reply) s) t ⊎ IsUnmoved s t
 
 -- what is neither the client's nor the record's changes
 abbrev pub IsQuiet : State → State → Type 0

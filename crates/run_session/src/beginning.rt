@@ -16,7 +16,7 @@ impl Session {
         ensures ran { spec.Keeps self.old self.new }
         ensures book { self.new.book ≡ self.old.book }
         ensures due { OnOk result (spec.IsDue self.new) }
-        ensures followed { OnOk result (spec.Follows self.old self.new) }
+        ensures followed { OnOk result (spec.FollowsApart self.old self.new) }
     {
         if !self.listed.is_kept {
             return self.begin_contacts();
@@ -31,7 +31,7 @@ impl Session {
         ensures ran { spec.Keeps self.old self.new }
         ensures book { self.new.book ≡ self.old.book }
         ensures due { OnOk result (spec.IsDue self.new) }
-        ensures followed { OnOk result (spec.Follows self.old self.new) }
+        ensures followed { OnOk result (spec.FollowsApart self.old self.new) }
     {
         if self.run.reports() {
             self.stage = Stage::MakingContacts;
@@ -46,7 +46,7 @@ impl Session {
         ensures ran { spec.Keeps self.old self.new }
         ensures book { self.new.book ≡ self.old.book }
         ensures due { OnOk result (spec.IsDue self.new) }
-        ensures followed { OnOk result (spec.Follows self.old self.new) }
+        ensures followed { OnOk result (spec.FollowsApart self.old self.new) }
     {
         self.is_on = true;
         self.has_begun = true;
@@ -57,7 +57,7 @@ impl Session {
     fn refuse(&mut self, kept: Kept, answer: Answer<'_>) -> Result<(), AllocError>
         ensures quiet { spec.IsQuiet self.old self.new }
         ensures due { OnOk result (spec.IsDue self.new) }
-        ensures followed { OnOk result (spec.Follows self.old self.new) }
+        ensures followed { OnOk result (spec.FollowsApart self.old self.new) }
     {
         self.verdict = unwritten_line(self.alloc, self.run.name(kept), answer)?;
         self.status = 1;
@@ -71,7 +71,7 @@ impl Session {
         ensures ran { spec.Keeps (spec.answered self.old (the_reply answer.entry)) self.new }
         ensures book { self.new.book ≡ self.old.book }
         ensures due { OnOk result (spec.IsDue self.new) }
-        ensures followed { OnOk result (spec.Follows self.old self.new) }
+        ensures followed { OnOk result (spec.FollowsApart self.old self.new) }
     {
         self.note_listed(answer);
         match answer {
@@ -86,7 +86,7 @@ impl Session {
         ensures ran { spec.Keeps self.old self.new }
         ensures book { self.new.book ≡ self.old.book }
         ensures due { OnOk result (spec.IsDue self.new) }
-        ensures followed { OnOk result (spec.Follows self.old self.new) }
+        ensures followed { OnOk result (spec.FollowsApart self.old self.new) }
     {
         match (self.stage, answer) {
             (_, Answer::Short) => Err(AllocError),

@@ -16,7 +16,7 @@ pub(crate) const NOT_DONE: u8 = 3;
 impl Session {
     pub(crate) fn after_log(&self) -> Stage
         ensures plain { spec.wants result ≡ None }
-        ensures paced { spec.pace result ≡ spec.Filed }
+        ensures paced { spec.pace result ≡ spec.Apart }
     {
         if self.run.wait.is_some() {
             Stage::Beginning
@@ -28,7 +28,7 @@ impl Session {
     /// What comes before the server is called.
     fn before_call(&self) -> Stage
         ensures plain { spec.wants result ≡ None }
-        ensures paced { spec.pace result ≡ spec.Filed }
+        ensures paced { spec.pace result ≡ spec.Apart }
     {
         if self.run.stop.is_some() {
             Stage::Peeking
@@ -54,7 +54,7 @@ impl Session {
     fn not_begun(&mut self) -> Result<(), AllocError>
         ensures quiet { spec.IsQuiet self.old self.new }
         ensures due { OnOk result (spec.IsDue self.new) }
-        ensures followed { OnOk result (spec.Follows self.old self.new) }
+        ensures followed { OnOk result (spec.FollowsApart self.old self.new) }
     {
         let name = self.run.stop_name();
         let line = format!(in self.alloc; "dme: {name} exists: nothing was begun\n")?;
@@ -69,7 +69,7 @@ impl Session {
     fn uncalled(&mut self) -> Result<(), AllocError>
         ensures quiet { spec.IsQuiet self.old self.new }
         ensures due { OnOk result (spec.IsDue self.new) }
-        ensures followed { OnOk result (spec.Follows self.old self.new) }
+        ensures followed { OnOk result (spec.FollowsApart self.old self.new) }
     {
         let host = self.run.host.as_str();
         let line = match self.missed {
@@ -87,7 +87,7 @@ impl Session {
     fn miss(&mut self, cause: Cause) -> Result<(), AllocError>
         ensures quiet { spec.IsQuiet self.old self.new }
         ensures due { OnOk result (spec.IsDue self.new) }
-        ensures followed { OnOk result (spec.Follows self.old self.new) }
+        ensures followed { OnOk result (spec.FollowsApart self.old self.new) }
     {
         self.missed = cause;
         if self.run.wait.is_some() {
@@ -102,7 +102,7 @@ impl Session {
     fn try_again(&mut self, now: u64) -> Result<(), AllocError>
         ensures quiet { spec.IsQuiet self.old self.new }
         ensures due { OnOk result (spec.IsDue self.new) }
-        ensures followed { OnOk result (spec.Follows self.old self.new) }
+        ensures followed { OnOk result (spec.FollowsApart self.old self.new) }
     {
         let most = u64::from(self.run.wait.unwrap_or(0)) * 1000;
         self.left = most.saturating_sub(now.saturating_sub(self.began));
@@ -119,7 +119,7 @@ impl Session {
         ensures ran { spec.Keeps self.old self.new }
         ensures book { self.new.book ≡ self.old.book }
         ensures due { OnOk result (spec.IsDue self.new) }
-        ensures followed { OnOk result (spec.Follows self.old self.new) }
+        ensures followed { OnOk result (spec.FollowsApart self.old self.new) }
     {
         let is_limited = self.run.timeout.is_some() || self.run.stop.is_some();
         if is_limited || !self.pauses.is_empty() {
@@ -135,7 +135,7 @@ impl Session {
         ensures ran { spec.Keeps self.old self.new }
         ensures book { self.new.book ≡ self.old.book }
         ensures due { OnOk result (spec.IsDue self.new) }
-        ensures followed { OnOk result (spec.Follows self.old self.new) }
+        ensures followed { OnOk result (spec.FollowsApart self.old self.new) }
     {
         match (self.stage, answer) {
             (Stage::Logged, Answer::Done) => self.stage = self.after_log(),

@@ -21,7 +21,7 @@ impl Session {
         ensures due { OnOk result (spec.IsDue self.new) }
         ensures followed { OnOk result (spec.Follows self.old self.new) }
     {
-        if self.has_to_note() {
+        if self.has_to_note(true) {
             self.stage = Stage::Noting;
             return Ok(());
         }
@@ -32,18 +32,10 @@ impl Session {
     fn end_run(&mut self) -> Result<(), AllocError>
         ensures quiet { spec.IsQuiet self.old self.new }
         ensures due { OnOk result (spec.IsDue self.new) }
-        ensures followed { OnOk result (spec.Follows self.old self.new) }
+        ensures followed { OnOk result (spec.FollowsApart self.old self.new) }
     {
         self.is_on = false;
         self.judge()?;
-        self.end_files()
-    }
-
-    fn end_files(&mut self) -> Result<(), AllocError>
-        ensures quiet { spec.IsQuiet self.old self.new }
-        ensures due { OnOk result (spec.IsDue self.new) }
-        ensures followed { OnOk result (spec.Follows self.old self.new) }
-    {
         if self.run.features.is_none() {
             return self.print();
         }
@@ -55,7 +47,7 @@ impl Session {
     fn print(&mut self) -> Result<(), AllocError>
         ensures quiet { spec.IsQuiet self.old self.new }
         ensures due { OnOk result (spec.IsDue self.new) }
-        ensures followed { OnOk result (spec.Follows self.old self.new) }
+        ensures followed { OnOk result (spec.FollowsApart self.old self.new) }
     {
         self.text = end_report(self.alloc, &self.client)?;
         self.stage = Stage::Printing;
@@ -96,7 +88,7 @@ impl Session {
         requires { spec.writes self.old.stage ≡ Some spec.Whole }
         ensures quiet { spec.IsQuiet (spec.answered self.old (the_reply answer.entry)) self.new }
         ensures due { OnOk result (spec.IsDue self.new) }
-        ensures followed { OnOk result (spec.Follows self.old self.new) }
+        ensures followed { OnOk result (spec.FollowsApart self.old self.new) }
     {
         self.note_replaced(answer)?;
         match self.stage {
@@ -109,7 +101,7 @@ impl Session {
     /// What comes after the report: the server is left in order if it may still end the last command.
     fn after_report(&self) -> Stage
         ensures plain { spec.wants result ≡ None }
-        ensures paced { spec.pace result ≡ spec.Filed }
+        ensures paced { spec.pace result ≡ spec.Apart }
     {
         if self.broken.is_none() && self.client.state() == State::Halted {
             Stage::Closing
@@ -124,7 +116,7 @@ impl Session {
         requires { self.old.stage ≡ Stage.Printing }
         ensures quiet { spec.IsQuiet (spec.answered self.old (the_reply answer.entry)) self.new }
         ensures due { OnOk result (spec.IsDue self.new) }
-        ensures followed { OnOk result (spec.Follows self.old self.new) }
+        ensures followed { OnOk result (spec.FollowsApart self.old self.new) }
     {
         if let Answer::Done = answer {
             self.is_printed = true;
@@ -142,7 +134,7 @@ impl Session {
     pub(crate) fn close(&mut self) -> Result<(), AllocError>
         ensures quiet { spec.IsQuiet self.old self.new }
         ensures due { OnOk result (spec.IsDue self.new) }
-        ensures followed { OnOk result (spec.Follows self.old self.new) }
+        ensures followed { OnOk result (spec.FollowsApart self.old self.new) }
     {
         if self.is_short {
             self.tell();
@@ -163,7 +155,7 @@ impl Session {
     fn close_contacts(&mut self) -> Result<(), AllocError>
         ensures quiet { spec.IsQuiet self.old self.new }
         ensures due { OnOk result (spec.IsDue self.new) }
-        ensures followed { OnOk result (spec.Follows self.old self.new) }
+        ensures followed { OnOk result (spec.FollowsApart self.old self.new) }
     {
         if self.has_begun && self.run.contacts.is_some() {
             self.stage = Stage::ReplacingContacts;
@@ -177,7 +169,7 @@ impl Session {
     pub(crate) fn has_stood(&mut self, answer: Answer<'_>) -> Result<(), AllocError>
         ensures quiet { spec.IsQuiet self.old self.new }
         ensures due { OnOk result (spec.IsDue self.new) }
-        ensures followed { OnOk result (spec.Follows self.old self.new) }
+        ensures followed { OnOk result (spec.FollowsApart self.old self.new) }
     {
         if let Answer::Done = answer {
             return self.close_contacts();

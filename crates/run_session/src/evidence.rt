@@ -1,16 +1,16 @@
 // What the record notes of the run: who ran it, with what, and when; and its seal.
 
-ghost use Rattle.std.specs.Prelude.{◌≡◌, ◌∷◌, ◌++◌, [], true, false, IfOk, OnOk, map, option_map};
+ghost use Rattle.std.specs.Prelude.{◌≡◌, ◌∷◌, ◌++◌, [], true, false, IfOk, OnOk, map, option_map, string_bytes};
+ghost use Rattle.effects.specs.Effects.{the_reply};
 ghost use Rattle.record_text.specs.Notes.{IsNoteText, is_error};
-ghost use Rattle.record_text.specs.declared.notes.Note.TheVariants.{Sealed};
-ghost use Rattle.run_session.specs.Evidence.{dating, due, has_due, leaving, opening};
+ghost use Rattle.run_session.specs.Evidence as noting;
 ghost use Rattle.run_session.specs.Records as spec;
 
 use crate::Session;
-use client_core::State;
+use client_core::{ClientFault, State};
 use effects::Answer;
 use link_world::PumpFault;
-use record_text::{Note, can_say, seal_of};
+use record_text::{Growth, Note, can_say, seal_of};
 use std::alloc::{AllocError, Global};
 use std::marker::Model;
 
@@ -76,17 +76,17 @@ impl Model for Noting {
 }
 
 impl Noting {
-    /// Nothing was noted, with this many features complete.
-    pub(crate) fn new(given: Option<Vec<Noted>>, complete: usize) -> Noting
+    /// Nothing was noted, with this many features complete; and nothing is, unless there is a record.
+    pub(crate) fn new(keeps: bool, given: Option<Vec<Noted>>, complete: usize) -> Noting
         ensures { result ≡ record {
-          given = option_map (λ notes. notes.items) given;
+          given = noting.given_notes keeps (option_map (λ notes. notes.items) given);
           opened = false;
           left = false;
           dated = complete;
         } }
     {
         Noting {
-            given,
+            given: if keeps { given } else { None },
             has_opened: false,
             has_left: false,
             dated: complete,
@@ -95,46 +95,41 @@ impl Noting {
 
     /// Whether something is to be noted once this many features are complete, and the run on the connection is over or not.
     fn has_due(&self, complete: usize, is_over: bool) -> bool
-        ensures { result ≡ has_due self.now complete is_over }
+        ensures { result ≡ noting.has_due self.now complete is_over }
     {
         self.given.is_some()
             && (!self.has_opened || complete > self.dated || (is_over && !self.has_left))
     }
 
-    /// What is given, and that the connection was made; nothing if that was noted.
-    fn opening(
-        &mut self,
-        alloc: Global,
-        time: &[u8],
-        server: &[u8],
-    ) -> Result<Vec<Noted>, AllocError>
-        ensures notes { IfOk result (λ notes. notes.items
-            ≡ opening self.old time.now server.now) }
-        ensures rest { OnOk result ((self.new.left ≡ self.old.left)
-            × (self.new.dated ≡ self.old.dated)) }
+    /// What is given, unless it was noted.
+    fn given(&self) -> &[Noted]
+        ensures { result.now ≡ noting.given_due self.now }
     {
-        if self.has_opened {
-            return Ok(Vec::new(alloc));
+        match &self.given {
+            Some(given) if !self.has_opened => given.as_slice(),
+            _ => &[],
         }
-        let given = std::mem::replace(&mut self.given, Some(Vec::new(alloc)));
-        let mut notes = given.unwrap_or(Vec::new(alloc));
-        notes.push(Noted::at(alloc, Note::Opened, time, server)?)?;
-        Ok(notes)
     }
 
-    /// All that is due at this time, in order; how the run on the connection has ended, if it is over. Fails only if out of memory.
-    fn due(
-        &mut self,
+    /// What is due at this time besides that, in order; how the run on the connection has ended, if it is over. Fails only if out of memory.
+    fn made(
+        &self,
         alloc: Global,
         time: &[u8],
         server: &[u8],
         complete: usize,
         end: Option<&[u8]>,
     ) -> Result<Vec<Noted>, AllocError>
-        ensures { IfOk result (λ notes. notes.items ≡ due self.old time.now server.now complete
-            (option_map (λ how. how.now) end.entry)) }
+        ensures { IfOk result (λ notes. notes.items ≡ noting.made self.now time.now server.now
+            complete (option_map (λ how. how.now) end.entry)) }
     {
-        let mut notes = self.opening(alloc, time, server)?;
+        let mut notes = Vec::new(alloc);
+        if self.given.is_none() {
+            return Ok(notes);
+        }
+        if !self.has_opened {
+            notes.push(Noted::at(alloc, Note::Opened, time, server)?)?;
+        }
         if complete > self.dated {
             notes.push(Noted::new(alloc, Note::Dated, time)?)?;
         }
@@ -147,119 +142,184 @@ impl Noting {
     }
 
     /// It was noted.
-    fn pass(&mut self, complete: usize, is_over: bool) {
+    fn pass(&mut self, complete: usize, is_over: bool)
+        ensures { self.new ≡ noting.passed self.old complete is_over }
+    {
         self.has_opened = true;
         self.has_left = is_over;
         self.dated = complete;
     }
 }
 
-/// Whether the record can note this: it is no error of the server and no seal, and can be said.
+/// Whether the record can say this.
+fn says(note: Note, text: &[u8]) -> bool
+    ensures can { result ≡ noting.can_say (note, text.now) }
+    ensures said { result ≡ true → IsNoteText note text.now }
+{
+    can_say(note, text)
+}
+
+/// Whether the record can note this: it is no error of its server, and no seal, and can be said.
 fn can_note(note: Note, text: &[u8]) -> bool
+    ensures can { result ≡ noting.can_note (note, text.now) }
     ensures said { result ≡ true → IsNoteText note text.now }
     ensures other { result ≡ true → is_error note ≡ false }
 {
-    !matches!(note, Note::Refused | Note::Sealed) && can_say(note, text)
+    !matches!(note, Note::Refused | Note::Sealed) && says(note, text)
+}
+
+/// A record gets a note, if it can. Fails only if out of memory.
+fn add_note(growth: &mut Growth, note: Note, text: &[u8], can: bool) -> Result<(), AllocError>
+    requires said { can ≡ true → IsNoteText note text.now }
+    requires other { can ≡ true → is_error note ≡ false }
+    ensures exact { OnOk result (growth.new ≡ spec.with_note can (note, text.now) growth.old) }
+    ensures adds { spec.AddsNotes growth.old growth.new }
+{
+    if can {
+        growth.tell_note(note, text)
+    } else {
+        Ok(())
+    }
+}
+
+/// A record gets those of these notes that it can say. Fails only if out of memory.
+fn add_notes(growth: &mut Growth, notes: &[Noted]) -> Result<(), AllocError>
+    ensures exact { OnOk result (growth.new ≡ spec.with_said notes.now growth.old) }
+    ensures adds { spec.AddsNotes growth.old growth.new }
+{
+    let mut left = notes;
+    while let [noted, others @ ..] = left {
+        let text = noted.text.as_slice();
+        add_note(growth, noted.note, text, can_note(noted.note, text))?;
+        left = others;
+    }
+    Ok(())
+}
+
+/// A record is sealed once its run is over, if it has a key. Fails only if out of memory.
+fn add_seal(
+    growth: &mut Growth,
+    alloc: Global,
+    is_over: bool,
+    key: &Option<Vec<u8>>,
+) -> Result<(), AllocError>
+    ensures exact { OnOk result (growth.new ≡ spec.seal_if is_over
+        (option_map (λ key. key.items) key.now) growth.old) }
+    ensures adds { spec.AddsNotes growth.old growth.new }
+{
+    let Some(key) = key else {
+        return Ok(());
+    };
+    if !is_over {
+        return Ok(());
+    }
+    let seal = seal_of(alloc, key.as_slice(), growth.text())?;
+    let text = seal.as_bytes();
+    add_note(growth, Note::Sealed, text, says(Note::Sealed, text))
+}
+
+/// How a connection ended: why it was broken off, or in which state its client was.
+fn how_left(broken: Option<PumpFault<ClientFault>>, is_stopped: bool, state: State) -> &'static [u8]
+    ensures { result.now ≡ noting.how_left broken is_stopped state }
+{
+    match (broken, state) {
+        (Some(PumpFault::Ended), _) => b"closed by the server",
+        (Some(_), _) => b"broken off",
+        (None, State::Done) => b"done",
+        (None, _) if is_stopped => b"stopped",
+        (None, _) => b"failed",
+    }
 }
 
 impl Session {
-    /// Whether there is something to note, with its time.
-    pub(crate) fn has_to_note(&self) -> bool {
-        self.has_begun && self.noting.has_due(self.growth.features(), self.is_over())
-    }
-
-    /// How the run on the connection has ended.
-    fn how_ended(&self) -> &'static [u8] {
-        match self.broken {
-            _ if self.lapse.is_some() => b"no answer in time",
-            Some(PumpFault::Ended) => b"closed by the server",
-            Some(_) => b"broken off",
-            None if self.client.state() == State::Done => b"done",
-            None if self.is_stopped => b"stopped",
-            None => b"failed",
-        }
-    }
-
-    /// The record gets a note, if that can be said. Fails only if out of memory.
-    fn tell_note(&mut self, noted: &Noted) -> Result<(), AllocError>
-        ensures ran { spec.Keeps self.old self.new }
-        ensures book { self.new.book ≡ self.old.book }
-        ensures told { spec.StaysTold self.old self.new }
+    /// Whether there is something to note, with its time, if the run on the connection is over or not.
+    pub(crate) fn has_to_note(&self, is_over: bool) -> bool
+        ensures { result ≡ spec.is_due self.now is_over }
     {
-        let text = noted.text.as_slice();
-        if !can_note(noted.note, text) {
-            return Ok(());
-        }
-        self.growth.tell_note(noted.note, text)
+        self.noting.has_due(self.growth.features(), is_over)
     }
 
-    /// All that is due at this time.
-    fn note_due(&mut self, time: &[u8]) -> Result<(), AllocError>
-        ensures ran { spec.Keeps self.old self.new }
-        ensures book { self.new.book ≡ self.old.book }
-        ensures told { spec.StaysTold self.old self.new }
+    /// How the run on the connection has ended, if it has.
+    fn ended(&self) -> Option<&'static [u8]>
+        ensures { option_map (λ how. how.now) result
+            ≡ noting.ended self.now.course self.now.pair.end.client.state }
+    {
+        if !self.is_over() {
+            return None;
+        }
+        if self.lapse.is_some() {
+            return Some(b"no answer in time");
+        }
+        let state = self.client.state();
+        Some(how_left(self.broken, self.is_stopped, state))
+    }
+
+    /// Its server.
+    #[tactic(auto, unfolding(crate::specs::Evidence::server_text))]
+    fn server(&self) -> Result<String, AllocError>
+        ensures { IfOk result (λ server. string_bytes server ≡ self.now.course.server) }
     {
         let (host, port) = (self.run.host.as_str(), self.run.port);
-        let server = format!(in self.alloc; "{host} {port}")?;
-        let complete = self.growth.features();
-        let end = if self.is_over() {
-            Some(self.how_ended())
-        } else {
-            None
+        format!(in self.alloc; "{host} {port}")
+    }
+
+    /// What is due at this time besides what is given.
+    fn made(&self, time: &[u8]) -> Result<Vec<Noted>, AllocError>
+        ensures { IfOk result (λ notes. notes.items ≡ spec.made_at self.now time.now) }
+    {
+        let server = self.server()?;
+        let (complete, end) = (self.growth.features(), self.ended());
+        self.noting
+            .made(self.alloc, time, server.as_bytes(), complete, end)
+    }
+
+    /// All that is due is noted, if the time is known. Fails only if out of memory.
+    fn note_due(&mut self, answer: Answer<'_>) -> Result<(), AllocError>
+        ensures exact { OnOk result (self.new
+            ≡ spec.with_due self.old (spec.time_of (the_reply answer.entry))) }
+        ensures ran { spec.KeepsNoting self.old self.new }
+        ensures book { self.new.book ≡ self.old.book }
+        ensures told { spec.StaysTold self.old self.new }
+    {
+        let Answer::Bytes(time) = answer else {
+            return Ok(());
         };
-        let notes = self
-            .noting
-            .due(self.alloc, time, server.as_bytes(), complete, end)?;
-        for noted in notes.iter() {
-            self.tell_note(noted)?;
-        }
+        let made = self.made(time)?;
+        add_notes(&mut self.growth, self.noting.given())?;
+        add_notes(&mut self.growth, made.as_slice())
+    }
+
+    /// What was due is noted, or could not be. As the connection ends, the record is sealed. Fails only if out of memory.
+    fn close_notes(&mut self) -> Result<(), AllocError>
+        ensures exact { OnOk result (self.new ≡ spec.closed self.old) }
+        ensures ran { spec.KeepsNoting self.old self.new }
+        ensures book { self.new.book
+            ≡ record (self.old.book) { noted = self.new.book.noted } }
+        ensures told { spec.StaysTold self.old self.new }
+    {
+        let (complete, is_over) = (self.growth.features(), self.is_over());
+        add_seal(&mut self.growth, self.alloc, is_over, &self.run.key)?;
+        self.noting.pass(complete, is_over);
         Ok(())
     }
 
-    /// The record gets this seal, if that can be said. Fails only if out of memory.
-    fn tell_seal(&mut self, seal: &[u8]) -> Result<(), AllocError>
-        ensures ran { spec.Keeps self.old self.new }
-        ensures book { self.new.book ≡ self.old.book }
-        ensures told { spec.StaysTold self.old self.new }
-        ensures sealed { OnOk result (spec.Notes (Sealed, seal.now) self.old self.new) }
-    {
-        if !can_say(Note::Sealed, seal) {
-            return Ok(());
-        }
-        self.growth.tell_note(Note::Sealed, seal)
-    }
-
-    /// The record is sealed, if it has a key: all of its text so far. Fails only if out of memory.
-    fn seal(&mut self) -> Result<(), AllocError>
-        ensures ran { spec.Keeps self.old self.new }
-        ensures book { self.new.book ≡ self.old.book }
-        ensures told { spec.StaysTold self.old self.new }
-        ensures sealed { OnOk result (spec.Seals self.old self.new) }
-    {
-        let Some(key) = &self.run.key else {
-            return Ok(());
-        };
-        let seal = seal_of(self.alloc, key.as_slice(), self.growth.text())?;
-        self.tell_seal(seal.as_bytes())
-    }
-
-    /// The time is known, or not: then it is not noted. As the connection ends, the record is sealed.
+    /// The time is known, or not: then it is not noted.
     pub(crate) fn noted(&mut self, answer: Answer<'_>) -> Result<(), AllocError>
-        ensures ran { spec.Keeps self.old self.new }
-        ensures book { self.new.book ≡ self.old.book }
+        ensures exact { OnOk result (spec.Keeps (spec.noted_now self.old (the_reply answer.entry))
+            self.new) }
+        ensures ran { spec.KeepsNoting self.old self.new }
+        ensures book { self.new.book
+            ≡ record (self.old.book) { noted = self.new.book.noted } }
+        ensures passes { OnOk result (self.new.book.noted
+            ≡ (spec.noted_now self.old (the_reply answer.entry)).book.noted) }
         ensures due { OnOk result (spec.IsDue self.new) }
         ensures followed { OnOk result (spec.FollowsTold self.old self.new) }
     {
-        match answer {
-            Answer::Bytes(time) => self.note_due(time)?,
-            Answer::Short => return Err(AllocError),
-            _ => {}
+        if let Answer::Short = answer {
+            return Err(AllocError);
         }
-        let is_over = self.is_over();
-        if is_over {
-            self.seal()?;
-        }
-        self.noting.pass(self.growth.features(), is_over);
+        self.note_due(answer)?;
+        self.close_notes()?;
         self.record()
     }
 }

@@ -1,19 +1,21 @@
 // Examples: what is asked and what comes of it. Each function has laws for its contract and does nothing.
 
 ghost use Rattle.std.specs.Prelude.{◌≡◌, ℕ, [], ◌∷◌, List, ◌++◌, true, false, length, map, None, Some, codes, decimal};
-ghost use Rattle.record_text.specs.declared.notes.Note.TheVariants.{Operator, Opened, Dated, Left};
-ghost use Rattle.run_session.specs.Evidence.{due, has_due, noted_open};
+ghost use Rattle.record_text.specs.declared.notes.Note.TheVariants.{By, Operator, Opened, Dated, Left, Refused, Sealed};
+ghost use Rattle.record_text.specs.Growths.{Growth, with_notes};
+ghost use Rattle.link_world.specs.declared.connections.pumps.PumpFault.TheVariants.{Ended, ReadFailed};
+ghost use Rattle.run_session.specs.Evidence.{course_of, due, ended, given_notes, has_due, noted_open, passed};
 ghost use Rattle.client_core.specs.Calls.{Abort};
 ghost use Rattle.contact_ledger.specs.declared.acts.Act.{Act};
 ghost use Rattle.protocol_model.specs.Ends.{ClientEnd, end_aborted};
 ghost use Rattle.contact_ledger.specs.ContactTexts.{contacts_text};
 ghost use Rattle.contact_ledger.specs.declared.acts.Act.TheVariants.{Homed, HomedIs};
 ghost use Rattle.record_text.specs.Recordings.{Pair};
-ghost use Rattle.effects.specs.Effects.{Append, Keep, Send, Byte, Receive, Remove, Replace, Print, Exit, Done, Bytes, Short, Found, Missing, End};
+ghost use Rattle.effects.specs.Effects.{Append, Keep, Send, Byte, Receive, Remove, Replace, Print, Exit, Reply, Done, Bytes, Short, Found, Missing, End};
 ghost use Rattle.effects.specs.declared.vocabulary.Peer.TheVariants.{Server};
 ghost use Rattle.protocol_model.specs.declared.states.State.TheVariants.{Running, Failing, Aborting, Halted, Done as Completed};
 ghost use Rattle.effects.specs.declared.vocabulary.Growth.TheVariants.{Record, Features, Contacts};
-ghost use Rattle.run_session.specs.Records.{State, Outside, Marks, AsksAt, IsDue, IsDueBy, Unforced, HasTold, HasFollowed, appended, kept, filed_by, lacking, confirms_pause, Reports, HasReported, reported_text, marked_at, is_stop, stopped, IsFree, IsLater, Ran, Stops};
+ghost use Rattle.run_session.specs.Records.{State, Outside, Marks, AsksAt, IsDue, IsDueBy, Unforced, HasTold, HasFollowed, appended, kept, filed_by, lacking, is_due, confirms_pause, Reports, HasReported, reported_text, marked_at, is_stop, stopped, IsFree, IsLater, Ran, nothing, Stops, Turns, closed, seal_if, with_due, with_said};
 ghost use Rattle.dme_line.specs.declared.commands.Command.TheVariants.{AbortE as Aborts};
 ghost use Rattle.dme_line.specs.declared.commands.Kind.TheVariants.{AbortE, GoTo, PtMeas};
 ghost use Rattle.dme_line.specs.declared.tags.Tag.TheVariants.{Event, Std};
@@ -24,7 +26,7 @@ ghost use Rattle.run_session.specs.Errors.{Hears, Records, Talk, error_kept, err
 ghost use Rattle.run_session.specs.Progress.{cell, clock, full_cells, left, pace_line, paced};
 ghost use Rattle.run_session.specs.declared.progress.Pace.{Pace};
 ghost use Rattle.session_telling.specs.Dialogues.{Reported};
-ghost use Rattle.run_session.specs.declared.stages.Stage.TheVariants.{Checking, Peeking, Recording, Settling, Reporting, ReplacingContacts, Listing, Showing, Sending, Receiving, Awaiting, Returning, Closing, Leaving, Ending, Telling, Exiting};
+ghost use Rattle.run_session.specs.declared.stages.Stage.TheVariants.{Checking, Peeking, Recording, Settling, Reporting, ReplacingContacts, Listing, Showing, Sending, Receiving, Awaiting, Returning, Noting, Printing, Closing, Leaving, Ending, Telling, Exiting};
 
 /// What was added is in the file, and on the device only if it was forced there; of what was not written the file has the first bytes, and
 /// what was safe stays so.
@@ -104,7 +106,11 @@ pub fn follow_rows()
         → lacking s ≡ 7 ∷ [] → HasFollowed s → ⊥ }
     ensures adding { (s : State) → s.stage ≡ Recording → HasTold s → HasFollowed s }
     ensures without { (s : State) → s.stage ≡ Sending → s.book.keeps ≡ false
-        → s.reports.named ≡ false → lacking s ≡ [] → HasFollowed s }
+        → s.reports.named ≡ false → lacking s ≡ [] → is_due s false ≡ false → HasFollowed s }
+    ensures undue { (s : State) → s.stage ≡ Sending → s.book.short ≡ false
+        → is_due s false ≡ true → HasFollowed s → ⊥ }
+    ensures ended { (s : State) → s.stage ≡ Printing → s.book.short ≡ false
+        → s.book.noted.opened ≡ true → is_due s true ≡ true → HasFollowed s → ⊥ }
     ensures last { (s : State) → s.stage ≡ Telling → HasFollowed s }
 {}
 
@@ -146,15 +152,15 @@ pub fn stop_rows()
     ensures calm { (e : ClientEnd) → IsFree false 0 e Abort → ⊥ }
     ensures since { (before : List (ℕ × Act)) (s t : State)
         → HasReported before s.pair s.reports → IsLater s t
-        → Ran false s.pair s.talk t.book.pauses t.pair t.talk }
+        → Ran nothing s.pair s.talk t.book.pauses t.pair t.talk }
     ensures stop { (s t : State) → s.stage ≡ Checking → t.book.spent ≡ false → Stops s Found t
         → IsLater (stopped true s) t }
     ensures unstopped { (s t : State) → s.stage ≡ Sending → t.book.spent ≡ false
         → Stops s Done t → IsLater s t }
 {}
 
-/// What is given is noted with the connection, once; features when they are complete since; the end once it is reached; and nothing if nothing
-/// is given.
+/// What is given is noted with the connection, once; features when they are complete since; the end once it is reached; nothing if nothing is
+/// given, or if it cannot be said; and nothing unless the time of notes was answered.
 pub fn note_rows()
     ensures opened { (time server : List ℕ) → due (record {
       given = Some ((Operator, 65 ∷ []) ∷ []);
@@ -171,6 +177,30 @@ pub fn note_rows()
     ensures ends { has_due noted_open 2 true ≡ true }
     ensures grows { has_due noted_open 3 false ≡ true }
     ensures nothing { has_due (record noted_open { given = None }) 3 true ≡ false }
+    ensures passes { has_due (passed noted_open 3 true) 3 true ≡ false }
+    ensures ungiven { (time server how : List ℕ)
+        → due (record noted_open { given = None; opened = false }) time server 3 (Some how) ≡ [] }
+    ensures unkept { given_notes false (Some []) ≡ None }
+    ensures said { (g : Growth) → with_said ((Dated, codes "2026-11-30T06:00:00.000Z")
+        ∷ (Dated, codes "now") ∷ (Refused, codes "x") ∷ (Sealed, codes "x") ∷ []) g
+        ≡ with_notes ((Dated, codes "2026-11-30T06:00:00.000Z") ∷ []) g }
+    ensures each { (g : Growth) → with_said ((Operator, 65 ∷ []) ∷ (By, 66 ∷ []) ∷ []) g
+        ≡ with_notes ((By, 66 ∷ []) ∷ []) (with_notes ((Operator, 65 ∷ []) ∷ []) g) }
+    ensures unsealed { (g : Growth) (key : List ℕ) → seal_if false (Some key) g ≡ g }
+    ensures runs { ended (course_of None false false) Running ≡ None }
+    ensures stops { ended (course_of None false true) Halted ≡ Some (codes "stopped") }
+    ensures fails { ended (course_of None false false) Halted ≡ Some (codes "failed") }
+    ensures done { ended (course_of None false true) Completed ≡ Some (codes "done") }
+    ensures closes { ended (course_of (Some Ended) false false) Running
+        ≡ Some (codes "closed by the server") }
+    ensures breaks { ended (course_of (Some ReadFailed) false false) Running
+        ≡ Some (codes "broken off") }
+    ensures lapses { ended (course_of (Some ReadFailed) true false) Running
+        ≡ Some (codes "no answer in time") }
+    ensures noted { (s t : State) (time : List ℕ) → s.stage ≡ Noting → t.book.spent ≡ false
+        → Stops s (Bytes time) t → Turns (closed (with_due s (Some time))) t }
+    ensures stays { (s t : State) (reply : Reply) → s.stage ≡ Sending → t.book.spent ≡ false
+        → Stops s reply t → Turns s t }
 {}
 
 /// What is shown of an error: the command that was written last under its tag, with the line of its statement, and with the feature and the touch

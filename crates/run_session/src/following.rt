@@ -110,7 +110,6 @@ impl Session {
                 self.pacing.is_last = false;
                 self.log()
             }
-            (Stage::Noting, _) => self.noted(answer),
             (Stage::Stamping, Answer::Bytes(time)) => {
                 self.text = stamped(self.alloc, time, self.logged.as_str())?;
                 self.stage = Stage::Logging;
@@ -129,14 +128,13 @@ impl Session {
     }
 
     /// The record gets what it lacks; forced, if that completes a feature.
-    #[tactic(auto, using(crate::proofs::Paces::enough_filed))]
     pub(crate) fn record(&mut self) -> Result<(), AllocError>
         ensures ran { spec.Keeps self.old self.new }
         ensures book { self.new.book ≡ self.old.book }
         ensures due { OnOk result (spec.IsDue self.new) }
         ensures followed { OnOk result (spec.FollowsTold self.old self.new) }
     {
-        if self.has_to_note() {
+        if self.has_to_note(self.is_over()) {
             self.stage = Stage::Noting;
             return Ok(());
         }
@@ -165,16 +163,15 @@ impl Session {
     }
 
     /// The record's file has all of its text.
-    #[tactic(auto, using(crate::proofs::Paces::enough_filed))]
     fn file(&mut self)
         ensures pair { self.new.pair ≡ self.old.pair }
         ensures book { self.new.book ≡ spec.filed self.old }
         ensures pauses { self.new.book.pauses ≡ self.old.book.pauses }
         ensures short { self.new.book.short ≡ self.old.book.short }
+        ensures noted { self.new.book.noted ≡ self.old.book.noted }
         ensures talk { self.new.talk ≡ self.old.talk }
         ensures reports { self.new.reports ≡ self.old.reports }
         ensures told { spec.StaysTold self.old self.new }
-        ensures whole { spec.HasFiled self.new }
     {
         self.filed = self.growth.text().len();
         if let Stage::Settling = self.stage {
@@ -189,7 +186,6 @@ impl Session {
         ensures talk { self.new.talk ≡ self.old.talk }
         ensures reports { self.new.reports ≡ self.old.reports }
         ensures told { spec.StaysTold self.old self.new }
-        ensures whole { spec.HasFiled self.new }
     {
         self.is_lost = true;
     }
@@ -201,19 +197,20 @@ impl Session {
         ensures goes { spec.GoesOn self.old (the_reply answer.entry) self.new }
         ensures pauses { self.new.book.pauses ≡ self.old.book.pauses }
         ensures short { self.new.book.short ≡ self.old.book.short }
+        ensures noted { self.new.book.noted ≡ self.old.book.noted }
         ensures due { OnOk result (spec.IsDue self.new) }
         ensures followed { OnOk result (spec.FollowsTold self.old self.new) }
     {
         match answer {
             Answer::Done if !self.is_lost => {
                 self.file();
-                return self.report();
+                return self.record();
             }
             _ => {}
         }
         self.lose_record();
         self.lose(Kept::Record, answer)?;
-        self.report()
+        self.record()
     }
 
     /// The file of contacts gets what it lacks.
@@ -376,7 +373,7 @@ impl Session {
         ensures ran { spec.Keeps self.old self.new }
         ensures book { self.new.book ≡ self.old.book }
         ensures told { spec.StaysTold self.old self.new }
-        ensures filed { spec.HasFiled self.old → spec.HasFiled self.new }
+        ensures opens { spec.open_on self.new ≡ spec.open_on self.old }
         ensures complete { OnOk result (self.new.shown ≡ spec.complete self.new) }
     {
         let count = self.complete();

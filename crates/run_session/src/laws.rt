@@ -10,7 +10,7 @@ ghost use Rattle.record_text.specs.Told.{numbered};
 ghost use Rattle.record_text.specs.declared.opening.Beginning.{Beginning};
 ghost use Rattle.record_text.specs.Recordings.{Pair, AreWritten};
 ghost use Rattle.record_text.specs.Runs.{IsRecordOf, IsKilledRun};
-ghost use Rattle.run_session.specs.Records.{State, Outside, IsKept, HasReported, HasFollowed, HasTold, pace, Filed};
+ghost use Rattle.run_session.specs.Records.{State, Outside, IsKept, HasReported, HasFollowed, HasTold, is_filed, pace};
 ghost use Rattle.run_session.specs.Killed.{IsBegun, IsLeft};
 
 /// A run that begins as `begin_record` gives it (`IsBegun`):
@@ -36,6 +36,7 @@ pub fn runs_keep_their_records()
       short = s.book.short;
       spent = s.book.spent;
       key = s.book.key;
+      noted = s.book.noted;
     }
         → HasReported before s.pair s.reports → IsKept s.pair before s (record {
           file = s.pair.recording.text;
@@ -47,7 +48,7 @@ pub fn runs_keep_their_records()
         (o : Outside) → IsProgram program → IsPartGiven part → AreAsked program.features
         → IsBegun program part bytes b window first → IsKept first before s o
         → AreWritten (numbered b.connection s.pair.end.client.table.tally.counted)
-        → HasFollowed s → s.book.short ≡ false → pace s.stage ≡ Filed
+        → HasFollowed s → s.book.short ≡ false → is_filed (pace s.stage) ≡ true
         → s.book.keeps ≡ true → s.book.lost ≡ false
         → IsRecordOf part program.features s.pair.end.client.table.tally.features
         (b.told ++ numbered b.connection s.pair.end.client.table.tally.counted) o.file }
@@ -56,7 +57,7 @@ pub fn runs_keep_their_records()
         → IsBegun program part bytes b window s.pair → s.reports.told ≡ 0 → HasTold s }
     ensures contacts { (before : List (ℕ × Act)) (s : State)
         → HasReported before s.pair s.reports → HasFollowed s → s.book.short ≡ false
-        → pace s.stage ≡ Filed → s.reports.named ≡ true → s.reports.text ≡ contacts_text
+        → is_filed (pace s.stage) ≡ true → s.reports.named ≡ true → s.reports.text ≡ contacts_text
         (before ++ numbered s.reports.number s.pair.end.client.table.tally.counted) }
     ensures killed { (program : Meaning) (part : Option (List ℕ)) (bytes : List ℕ)
         (b : Beginning) (window : ℕ) (first : Pair) (before : List (ℕ × Act)) (s : State)

@@ -15,7 +15,7 @@ impl Session {
     fn after_drained(&mut self, answer: Answer<'_>) -> Stage
         ensures same { self.new ≡ self.old }
         ensures plain { spec.wants result ≡ None }
-        ensures paced { spec.pace result ≡ spec.Filed }
+        ensures paced { spec.pace result ≡ spec.Apart }
     {
         self.looks = self.looks.saturating_add(1);
         match answer {
@@ -29,7 +29,7 @@ impl Session {
     pub(crate) fn leave_on(&mut self, answer: Answer<'_>) -> Result<(), AllocError>
         ensures quiet { spec.IsQuiet self.old self.new }
         ensures due { OnOk result (spec.IsDue self.new) }
-        ensures followed { OnOk result (spec.Follows self.old self.new) }
+        ensures followed { OnOk result (spec.FollowsApart self.old self.new) }
     {
         self.stage = match (self.stage, answer) {
             (Stage::Closing, Answer::Done) => Stage::Parting,

@@ -92,7 +92,7 @@ impl Session {
         ensures book { spec.of_file self.new.book ≡ spec.of_file self.old.book }
         ensures short { self.new.book.short ≡ self.old.book.short }
         ensures told { spec.StaysTold self.old self.new }
-        ensures lacks { spec.lacking self.new ≡ spec.lacking self.old }
+        ensures opens { spec.open_on self.new ≡ spec.open_on self.old }
         ensures ends { spec.IsPaused self.old
             → self.new.book.pauses ≡ drop 1 self.old.book.pauses }
     {

@@ -45,22 +45,6 @@ pub struct Run {
     pub key: Option<Vec<u8>>,
 }
 
-/// The name of a file, or nothing.
-fn name_of(file: &Option<Output>) -> &str {
-    match file {
-        Some(file) => file.name.as_str(),
-        None => "",
-    }
-}
-
-/// The name of the file next to it, or nothing.
-fn beside_of(file: &Option<Output>) -> &str {
-    match file {
-        Some(file) => file.beside.as_str(),
-        None => "",
-    }
-}
-
 /// Whether a file grows.
 fn grows(file: &Option<Output>) -> bool
     ensures { result ≡ option_map_or (λ file. file.grows) file.now false }
@@ -90,11 +74,17 @@ impl Run {
     }
 
     pub(crate) fn name(&self, kept: Kept) -> &str {
-        name_of(self.file(kept))
+        match self.file(kept) {
+            Some(file) => file.name.as_str(),
+            None => "",
+        }
     }
 
     pub(crate) fn beside(&self, kept: Kept) -> &str {
-        beside_of(self.file(kept))
+        match self.file(kept) {
+            Some(file) => file.beside.as_str(),
+            None => "",
+        }
     }
 
     pub(crate) fn lists(&self) -> bool

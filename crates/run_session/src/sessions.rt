@@ -7,6 +7,7 @@ ghost use Rattle.protocol_model.specs.Ends.{end_connected};
 ghost use Rattle.order_parts.specs.Pauses.{pauses_of, place_seen};
 ghost use Rattle.record_text.specs.Growths.{begun};
 ghost use Rattle.client_core.specs.Clients.{may_connect};
+ghost use Rattle.run_session.specs.Evidence.{given_notes};
 ghost use Rattle.run_session.specs.Records as spec;
 
 use crate::calling::NOT_DONE;
@@ -50,6 +51,7 @@ pub struct Begun {
 
 impl Model for Begun {
     ghost use Rattle.run_session.specs.Records.{Start};
+    ghost use Rattle.run_session.specs.Evidence.{given_notes};
 
     ghost Value = { Start };
 
@@ -75,6 +77,8 @@ impl Model for Begun {
       };
       talk = b.errors;
       key = option_map (λ key. key.items) b.run.key;
+      notes = given_notes (is_some b.run.record)
+          (option_map (λ notes. notes.items) b.run.notes);
     } };
 }
 
@@ -103,6 +107,8 @@ impl Begun {
             (option_map_or (λ file. file.grows) run.features false) number told.now) }
         ensures talk { IfOk result (λ b. b.talk ≡ errors) }
         ensures key { IfOk result (λ b. b.key ≡ option_map (λ key. key.items) run.key) }
+        ensures notes { IfOk result (λ b. b.notes ≡ given_notes (is_some run.record)
+            (option_map (λ notes. notes.items) run.notes)) }
     {
         let pauses = pauses(alloc, places.as_slice())?;
         let reported = Reported::new(alloc, told)?;
@@ -205,7 +211,8 @@ pub struct Session {
 
 impl Model for Session {
     ghost use Rattle.run_session.specs.Records.{State as OneState};
-    ghost use Rattle.std.specs.Prelude.{is_some, option_map};
+    ghost use Rattle.run_session.specs.Evidence.{server_text};
+    ghost use Rattle.std.specs.Prelude.{is_some, option_map, string_bytes};
 
     ghost Value = { OneState };
 
@@ -221,6 +228,7 @@ impl Model for Session {
         short = s.is_short;
         spent = s.is_spent;
         key = option_map (λ key. key.items) s.run.key;
+        noted = s.noting;
       };
       reports = record {
         named = is_some s.run.contacts;
@@ -237,6 +245,12 @@ impl Model for Session {
         };
       };
       talk = s.errors;
+      course = record {
+        server = server_text (string_bytes s.run.host) s.run.port;
+        broken = s.broken;
+        lapsed = is_some s.lapse;
+        stopped = s.is_stopped;
+      };
       text = s.text.items;
       list = s.listed.text.items;
       held = s.listed.held;
@@ -246,7 +260,7 @@ impl Model for Session {
 
 impl Session {
     /// A session of this client, with what it begins with.
-    #[tactic(auto, using(crate::proofs::Paces::enough_filed))]
+    #[tactic(auto, using(crate::proofs::Paces::unopened))]
     pub fn new(client: Client, begun: Begun) -> Session
         ensures pair { result.pair ≡ record { end = client; recording = begun.growth } }
         ensures book { result.book ≡ record {
@@ -258,6 +272,12 @@ impl Session {
           short = false;
           spent = false;
           key = begun.key;
+          noted = record {
+            given = begun.notes;
+            opened = false;
+            left = false;
+            dated = begun.growth.telling.counted.features;
+          };
         } }
         ensures reports { result.reports ≡ begun.reports }
         ensures talk { result.talk ≡ begun.talk }
@@ -282,12 +302,7 @@ impl Session {
         let settled = growth.features();
         let left = u64::from(run.wait.unwrap_or(0)) * 1000;
         let is_logged = run.log.is_some();
-        let given = if run.record.is_some() {
-            run.notes.take()
-        } else {
-            None
-        };
-        let noting = Noting::new(given, settled);
+        let noting = Noting::new(run.record.is_some(), run.notes.take(), settled);
         let mut session = Session {
             alloc,
             run,
@@ -531,9 +546,8 @@ impl Session {
             Stage::Sending => self.sent(answer),
             Stage::Awaiting => self.typed(true, answer),
             Stage::Returning => self.typed(false, answer),
-            Stage::Tracing | Stage::Stamping | Stage::Logging | Stage::Noting => {
-                self.show_on(answer)
-            }
+            Stage::Tracing | Stage::Stamping | Stage::Logging => self.show_on(answer),
+            Stage::Noting => self.noted(answer),
             Stage::Recording | Stage::Settling => self.recorded(answer),
             Stage::Reporting => self.has_reported(answer),
             Stage::Listing => self.has_listed(answer),

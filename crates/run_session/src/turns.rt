@@ -31,7 +31,9 @@ fn add_shown(shown: &mut Vec<u8>, line: &[u8]) -> Result<(), AllocError> {
 
 impl Session {
     /// Whether the run is over: its plan is counted, or nothing is open after a failure or an abort; or its connection was broken off.
-    pub(crate) fn is_over(&self) -> bool {
+    pub(crate) fn is_over(&self) -> bool
+        ensures { result ≡ spec.over self.now }
+    {
         self.broken.is_some() || matches!(self.client.state(), State::Done | State::Halted)
     }
 
@@ -42,7 +44,7 @@ impl Session {
         ensures ran { spec.Keeps self.old self.new }
         ensures book { self.new.book ≡ self.old.book }
         ensures told { spec.StaysTold self.old self.new }
-        ensures lacks { spec.lacking self.new ≡ spec.lacking self.old }
+        ensures opens { spec.open_on self.new ≡ spec.open_on self.old }
     {
         let Some(command) = self.client.due() else {
             return Err(ClientFault::NotNow);
@@ -76,7 +78,7 @@ impl Session {
         ensures spent { OnErr result (spec.IsShort true self.old self.new) }
         ensures book { self.new.book ≡ self.old.book }
         ensures told { spec.StaysTold self.old self.new }
-        ensures lacks { spec.lacking self.new ≡ spec.lacking self.old }
+        ensures opens { spec.open_on self.new ≡ spec.open_on self.old }
     {
         let before = self.client.out().len();
         match self.client.abort() {
@@ -114,7 +116,7 @@ impl Session {
         ensures ran { spec.Keeps self.old self.new }
         ensures book { self.new.book ≡ self.old.book }
         ensures told { spec.StaysTold self.old self.new }
-        ensures lacks { spec.lacking self.new ≡ spec.lacking self.old }
+        ensures opens { spec.open_on self.new ≡ spec.open_on self.old }
     {
         let count = self.client.out().len();
         self.client.sent(count);
@@ -122,11 +124,12 @@ impl Session {
 
     /// The connection is broken off: the client leaves it.
     pub(crate) fn break_off(&mut self, why: PumpFault<ClientFault>)
-        ensures left { self.new ≡ spec.left self.old }
+        ensures left { self.new
+            ≡ record (spec.left self.old) { course = self.new.course } }
         ensures ran { spec.Keeps self.old self.new }
         ensures book { self.new.book ≡ self.old.book }
         ensures told { spec.StaysTold self.old self.new }
-        ensures lacks { spec.lacking self.new ≡ spec.lacking self.old }
+        ensures opens { spec.open_on self.new ≡ spec.open_on self.old }
     {
         self.client.leave();
         self.broken = Some(why);
@@ -136,7 +139,7 @@ impl Session {
         ensures ran { spec.Keeps self.old self.new }
         ensures book { self.new.book ≡ self.old.book }
         ensures told { spec.StaysTold self.old self.new }
-        ensures lacks { spec.lacking self.new ≡ spec.lacking self.old }
+        ensures opens { spec.open_on self.new ≡ spec.open_on self.old }
     {
         if let ClientFault::Memory = fault {
             return Err(AllocError);
@@ -150,7 +153,7 @@ impl Session {
         ensures ran { spec.Keeps self.old self.new }
         ensures book { self.new.book ≡ self.old.book }
         ensures told { spec.StaysTold self.old self.new }
-        ensures lacks { spec.lacking self.new ≡ spec.lacking self.old }
+        ensures opens { spec.open_on self.new ≡ spec.open_on self.old }
     {
         for _command in 0..u64::MAX {
             if self.is_over() || self.client.due().is_none() {

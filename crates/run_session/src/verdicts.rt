@@ -49,7 +49,7 @@ impl Session {
     pub(crate) fn say_last(&mut self) -> Result<(), AllocError>
         ensures quiet { spec.IsQuiet self.old self.new }
         ensures due { OnOk result (spec.IsDue self.new) }
-        ensures followed { OnOk result (spec.Follows self.old self.new) }
+        ensures followed { OnOk result (spec.FollowsApart self.old self.new) }
     {
         let how = match (self.early, self.client.state()) {
             (Some(how), _) => how,

@@ -1,4 +1,4 @@
-use Rattle.run_session.proofs.Names.{◌≤◌, arith, held as held_of, length, refl, State, subst, sym}
+use Rattle.run_session.proofs.Names.{◌≤◌, arith, held as held_of, length, State, subst, sym}
 use Rattle.run_session.proofs.Pauses.{pause_ends}
 use Rattle.run_session.proofs.Reporting.{keeps_by}
 use Rattle.run_session.proofs.sessions.Session.end_pause.Goals as goal

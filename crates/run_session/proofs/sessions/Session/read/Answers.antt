@@ -1,4 +1,3 @@
-use Rattle.run_session.proofs.Names.{refl}
 use Rattle.run_session.proofs.ClientCalls.{reads_keeps}
 use Rattle.run_session.proofs.Reporting.{keeps_by}
 use Rattle.run_session.proofs.sessions.Session.read.Goals as goal

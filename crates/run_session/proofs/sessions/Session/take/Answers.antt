@@ -1,6 +1,6 @@
 use Rattle.effects.specs.Effects.{the_reply}
 use Rattle.run_session.proofs.Filing.{goes_further}
-use Rattle.std.proofs.Common.{◌≡◌, false, rules}
+use Rattle.std.proofs.Common.{◌≡◌, false, rules, true}
 use Rattle.std.specs.Prelude.{is_err}
 use Rattle.run_session.proofs.Stops.{keeps_left, left_stops, ok_stops}
 use Rattle.run_session.proofs.sessions.Session.take.Goals as goal
@@ -10,7 +10,9 @@ returns-then-is_err-clause-goes c = goes_further c.args.self.now c.step.new.self
     c.step.ensures.goes (keeps_left c.step.new.self c.run_short.new.self c.run_short.ensures.ran) c.run_short.ensures.book
 
 pub returns-then-is_err-clause-stops : goal.returns-then-is_err-clause-stops
-returns-then-is_err-clause-stops c = left_stops c.step.result c.args.self.now c.step.new.self c.run_short.new.self (the_reply c.args.answer)
+returns-then-is_err-clause-stops c =
+    let short : is_err c.step.result ≡ true = search rules in
+    left_stops c.step.result c.args.self.now c.step.new.self c.run_short.new.self (the_reply c.args.answer) short
     c.step.ensures.stops c.run_short.ensures.ran c.run_short.ensures.spent
 
 pub returns-else-is_err-clause-stops : goal.returns-else-is_err-clause-stops

@@ -1,4 +1,3 @@
-use Rattle.run_session.proofs.Names.{refl}
 use Rattle.run_session.proofs.Filing.{told_acts_keep}
 use Rattle.run_session.proofs.Reporting.{keeps_by}
 use Rattle.run_session.proofs.sessions.Session.tell_acts.Goals as goal

@@ -1,6 +1,5 @@
 use Rattle.run_session.proofs.Names.{ap}
 use Rattle.run_session.proofs.Reporting.{tells_reports}
-use Rattle.run_session.specs.Records.{Marks}
 use Rattle.run_session.specs.declared.reported.Reported.{Reported}
 use Rattle.run_session.proofs.sessions.Session.tell_contacts.Goals as goal
 
