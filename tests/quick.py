@@ -1,10 +1,11 @@
-"""Tries rows of tests/program/ without any proof: each fourth of those that read standard input alone, and `loop` over TCP. `rt try` builds the
-program with checks and runs it once for each; two of them share the rows. Printed text and status are compared, what is said on standard error is
+"""Tries rows of tests/program/ without any proof: those that read standard input alone, and `loop` over TCP. `rt try` builds the
+program with checks and runs it once for each; three of them share the rows. Printed text and status are compared, what is said on standard error is
 not.
 
 `tests/run quick` calls this.
 """
 
+import contextlib
 import pathlib
 import re
 import subprocess
@@ -27,7 +28,7 @@ def loop_row():
 
 def is_quick(row):
     """Whether a row needs nothing but its words, one a line, and standard input, and takes little time."""
-    if row.words[:1] in (["run"], ["serve"], ["watch"]) or row.name in SLOW or not all(it and it.isprintable() for it in row.words):
+    if row.words[:1] in (["run"], ["serve"], ["watch"]) or row.name in SLOW or not all(it and "\\" not in it for it in row.words):
         return False
     return not (row.further or row.given or row.left or row.links or set(row.lines) - {"status"} or set(row.texts) - {"stdin", "stdout", "stderr"})
 
@@ -44,10 +45,11 @@ def begun(rows, folder):
 
 def check_quick():
     """How many rows are as expected, and how many are not."""
-    rows = [loop_row()] + [it for it in program_rows().values() if is_quick(it)][::4]
+    rows = [loop_row()] + [it for it in program_rows().values() if is_quick(it)]
     expected = {(it.name, it.lines.get("status", "0")) for it in rows}
-    with tempfile.TemporaryDirectory() as first, tempfile.TemporaryDirectory() as second:
-        tries = [begun(rows[0::2], pathlib.Path(first)), begun(rows[1::2], pathlib.Path(second))]
+    with contextlib.ExitStack() as rooms:
+        folders = [pathlib.Path(rooms.enter_context(tempfile.TemporaryDirectory())) for _ in range(3)]
+        tries = [begun(rows[at::3], it) for at, it in enumerate(folders)]
         said = [it.communicate()[1] for it in tries]
     found = {it for text in said for it in ENDED.findall(text)}
     for name, _ in sorted(expected - found):
