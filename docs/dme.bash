@@ -20,7 +20,7 @@ _dme()
         --host | --listen)
             mapfile -t COMPREPLY < <(compgen -A hostname -- "$word")
             return ;;
-        --port | --window | --connections | --connection | --part | --operator | --timeout | --wait)
+        --port | --window | --connections | --connection | --part | --operator | --timeout | --wait | --value)
             return ;;
     esac
     case ${COMP_WORDS[1]} in
@@ -34,7 +34,7 @@ _dme()
         report) options="--record --setup --limits --seal-key --explain" ;;
         summary) options="--as --setup --limits --seal-key --program" ;;
         review) options="--as --setup" ;;
-        lower) options="--setup --no-clearing --compensated --skip-manual --stored-frames --even-touches --explain" ;;
+        lower) options="--setup --no-clearing --compensated --skip-manual --stored-frames --even-touches --value --explain" ;;
         ledger) options="--up --down --connection" ;;
         judge) options="--up --down" ;;
         watch) options="--listen --host --port --told --record-bytes --connections --endless --trace --log --timeout" ;;

@@ -150,6 +150,7 @@ fn lower(rt: HostRuntime, order: Lower) -> Result<u8, AllocError> {
         stored_frames: order.stored_frames,
         even_touches: order.even_touches,
     };
+    let answers = order.answers;
     let order = order.subject;
     let (name, setup_name) = (order.program.clone()?, order.setup.clone()?);
     let names = SourceNames {
@@ -161,7 +162,15 @@ fn lower(rt: HostRuntime, order: Lower) -> Result<u8, AllocError> {
     let mut program = sources.file(order.program);
     let mut sink = Writing::new(io::writer(&rt));
     let alloc = rt.alloc();
-    let lowered = lower_program(alloc, names, choices, &mut setup, &mut program, &mut sink);
+    let lowered = lower_program(
+        alloc,
+        names,
+        choices,
+        answers.as_slice(),
+        &mut setup,
+        &mut program,
+        &mut sink,
+    );
     let files = program_files(rt, setup, program);
     match lowered {
         Ok(flat) => {

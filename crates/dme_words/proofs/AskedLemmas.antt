@@ -45,67 +45,67 @@ Finds line = (words : List Text) → level_fault (leaf line) [] nothing_held wor
 
 checked : Finds check_line
 checked words none = level_has (leaf check_line) words refl
-    ((refl, inl (refl, refl)), ((refl, inr (inl (refl, omega arith))), ((refl, inl (refl, refl)), ((refl, inr (inr refl)), tt))))
+    ((refl, inl (refl, refl)), ((refl, inr (inl (refl, omega arith))), ((refl, inl (refl, refl)), ((refl, inr (inr (inl refl))), tt))))
     none
 
 simulation : Finds simulate_line
 simulation words none = level_has (leaf simulate_line) words refl
-    ((refl, inl (refl, refl)), ((refl, inl (refl, refl)), ((refl, inl (refl, refl)), ((refl, inr (inl (refl, omega arith))), ((refl, inr (inl (refl, omega arith))), ((refl, inl (refl, refl)), ((refl, inr (inr refl)), tt)))))))
+    ((refl, inl (refl, refl)), ((refl, inl (refl, refl)), ((refl, inl (refl, refl)), ((refl, inr (inl (refl, omega arith))), ((refl, inr (inl (refl, omega arith))), ((refl, inl (refl, refl)), ((refl, inr (inr (inl refl))), tt)))))))
     none
 
 audit : Finds audit_line
 audit words none = level_has (leaf audit_line) words refl
-    ((refl, inl (refl, refl)), ((refl, inl (refl, refl)), ((refl, inl (refl, refl)), ((refl, inl (refl, refl)), ((refl, inl (refl, refl)), ((refl, inr (inl (refl, omega arith))), ((refl, inl (refl, refl)), ((refl, inr (inr refl)), tt))))))))
+    ((refl, inl (refl, refl)), ((refl, inl (refl, refl)), ((refl, inl (refl, refl)), ((refl, inl (refl, refl)), ((refl, inl (refl, refl)), ((refl, inr (inl (refl, omega arith))), ((refl, inl (refl, refl)), ((refl, inr (inr (inl refl))), tt))))))))
     none
 
 loop : Finds loop_line
 loop words none = level_has (leaf loop_line) words refl
-    ((refl, inl (refl, refl)), ((refl, inl (refl, refl)), ((refl, inr (inl (refl, omega arith))), ((refl, inr (inl (refl, omega arith))), ((refl, inr (inl (refl, omega arith))), ((refl, inl (refl, refl)), ((refl, inr (inr refl)), tt)))))))
+    ((refl, inl (refl, refl)), ((refl, inl (refl, refl)), ((refl, inr (inl (refl, omega arith))), ((refl, inr (inl (refl, omega arith))), ((refl, inr (inl (refl, omega arith))), ((refl, inl (refl, refl)), ((refl, inr (inr (inl refl))), tt)))))))
     none
 
 service : Finds serve_line
 service words none = level_has (leaf serve_line) words refl
-    ((refl, inl (refl, refl)), ((refl, inl (refl, refl)), ((refl, inl (refl, refl)), ((refl, inl (refl, refl)), ((refl, inr (inl (refl, omega arith))), ((refl, inl (refl, refl)), ((refl, inr (inl (refl, omega arith))), ((refl, inr (inl (refl, omega arith))), ((refl, inl (refl, refl)), ((refl, inl (refl, refl)), ((refl, inl (refl, refl)), ((refl, inr (inl (refl, omega arith))), ((refl, inr (inr refl)), tt)))))))))))))
+    ((refl, inl (refl, refl)), ((refl, inl (refl, refl)), ((refl, inl (refl, refl)), ((refl, inl (refl, refl)), ((refl, inr (inl (refl, omega arith))), ((refl, inl (refl, refl)), ((refl, inr (inl (refl, omega arith))), ((refl, inr (inl (refl, omega arith))), ((refl, inl (refl, refl)), ((refl, inl (refl, refl)), ((refl, inl (refl, refl)), ((refl, inr (inl (refl, omega arith))), ((refl, inr (inr (inl refl))), tt)))))))))))))
     none
 
 driven : Finds run_line
 driven words none = level_has (leaf run_line) words refl
-    ((refl, inl (refl, refl)), ((refl, inl (refl, refl)), ((refl, inl (refl, refl)), ((refl, inl (refl, refl)), ((refl, inl (refl, refl)), ((refl, inl (refl, refl)), ((refl, inl (refl, refl)), ((refl, inl (refl, refl)), ((refl, inl (refl, refl)), ((refl, inl (refl, refl)), ((refl, inl (refl, refl)), ((refl, inl (refl, refl)), ((refl, inr (inl (refl, omega arith))), ((refl, inr (inl (refl, omega arith))), ((refl, inl (refl, refl)), ((refl, inl (refl, refl)), ((refl, inl (refl, refl)), ((refl, inl (refl, refl)), ((refl, inr (inl (refl, omega arith))), ((refl, inr (inl (refl, omega arith))), ((refl, inr (inl (refl, omega arith))), ((refl, inl (refl, refl)), ((refl, inr (inr refl)), tt)))))))))))))))))))))))
+    ((refl, inl (refl, refl)), ((refl, inl (refl, refl)), ((refl, inl (refl, refl)), ((refl, inl (refl, refl)), ((refl, inl (refl, refl)), ((refl, inl (refl, refl)), ((refl, inl (refl, refl)), ((refl, inl (refl, refl)), ((refl, inl (refl, refl)), ((refl, inl (refl, refl)), ((refl, inl (refl, refl)), ((refl, inl (refl, refl)), ((refl, inr (inl (refl, omega arith))), ((refl, inr (inl (refl, omega arith))), ((refl, inl (refl, refl)), ((refl, inl (refl, refl)), ((refl, inl (refl, refl)), ((refl, inl (refl, refl)), ((refl, inr (inl (refl, omega arith))), ((refl, inr (inl (refl, omega arith))), ((refl, inr (inl (refl, omega arith))), ((refl, inl (refl, refl)), ((refl, inr (inr (inl refl))), tt)))))))))))))))))))))))
     none
 
 explained : Finds explain_line
 explained words none = level_has (leaf explain_line) words refl
-    ((refl, inl (refl, refl)), ((refl, inr (inr refl)), tt))
+    ((refl, inl (refl, refl)), ((refl, inr (inr (inl refl))), tt))
     none
 
 export : Finds export_line
 export words none = level_has (leaf export_line) words refl
-    ((refl, inl (refl, refl)), ((refl, inl (refl, refl)), ((refl, inl (refl, refl)), ((refl, inl (refl, refl)), ((refl, inl (refl, refl)), ((refl, inl (refl, refl)), ((refl, inl (refl, refl)), ((refl, inr (inl (refl, omega arith))), ((refl, inr (inl (refl, omega arith))), ((refl, inl (refl, refl)), ((refl, inr (inr refl)), tt)))))))))))
+    ((refl, inl (refl, refl)), ((refl, inl (refl, refl)), ((refl, inl (refl, refl)), ((refl, inl (refl, refl)), ((refl, inl (refl, refl)), ((refl, inl (refl, refl)), ((refl, inl (refl, refl)), ((refl, inr (inl (refl, omega arith))), ((refl, inr (inl (refl, omega arith))), ((refl, inl (refl, refl)), ((refl, inr (inr (inl refl))), tt)))))))))))
     none
 
 witnessed : Finds ledger_line
 witnessed words none = level_has (leaf ledger_line) words refl
-    ((refl, inl (refl, refl)), ((refl, inl (refl, refl)), ((refl, inl (refl, refl)), ((refl, inr (inr refl)), tt))))
+    ((refl, inl (refl, refl)), ((refl, inl (refl, refl)), ((refl, inl (refl, refl)), ((refl, inr (inr (inl refl))), tt))))
     none
 
 judged : Finds judge_line
 judged words none = level_has (leaf judge_line) words refl
-    ((refl, inl (refl, refl)), ((refl, inl (refl, refl)), ((refl, inr (inr refl)), tt)))
+    ((refl, inl (refl, refl)), ((refl, inl (refl, refl)), ((refl, inr (inr (inl refl))), tt)))
     none
 
 relayed : Finds watch_line
 relayed words none = level_has (leaf watch_line) words refl
-    ((refl, inl (refl, refl)), ((refl, inl (refl, refl)), ((refl, inl (refl, refl)), ((refl, inl (refl, refl)), ((refl, inl (refl, refl)), ((refl, inl (refl, refl)), ((refl, inr (inl (refl, omega arith))), ((refl, inr (inl (refl, omega arith))), ((refl, inl (refl, refl)), ((refl, inl (refl, refl)), ((refl, inr (inr refl)), tt)))))))))))
+    ((refl, inl (refl, refl)), ((refl, inl (refl, refl)), ((refl, inl (refl, refl)), ((refl, inl (refl, refl)), ((refl, inl (refl, refl)), ((refl, inl (refl, refl)), ((refl, inr (inl (refl, omega arith))), ((refl, inr (inl (refl, omega arith))), ((refl, inl (refl, refl)), ((refl, inl (refl, refl)), ((refl, inr (inr (inl refl))), tt)))))))))))
     none
 
 lowered : Finds lower_line
 lowered words none = level_has (leaf lower_line) words refl
-    ((refl, inl (refl, refl)), ((refl, inr (inl (refl, omega arith))), ((refl, inr (inl (refl, omega arith))), ((refl, inr (inl (refl, omega arith))), ((refl, inr (inl (refl, omega arith))), ((refl, inr (inl (refl, omega arith))), ((refl, inr (inl (refl, omega arith))), ((refl, inl (refl, refl)), ((refl, inr (inr refl)), tt)))))))))
+    ((refl, inl (refl, refl)), ((refl, inr (inl (refl, omega arith))), ((refl, inr (inl (refl, omega arith))), ((refl, inr (inl (refl, omega arith))), ((refl, inr (inl (refl, omega arith))), ((refl, inr (inl (refl, omega arith))), ((refl, inr (inr (inr (refl, refl)))), ((refl, inr (inl (refl, omega arith))), ((refl, inl (refl, refl)), ((refl, inr (inr (inl refl))), tt))))))))))
     none
 
 reported : Finds report_line
 reported words none = level_has (leaf report_line) words refl
-    ((refl, inl (refl, refl)), ((refl, inl (refl, refl)), ((refl, inl (refl, refl)), ((refl, inl (refl, refl)), ((refl, inr (inl (refl, omega arith))), ((refl, inl (refl, refl)), ((refl, inr (inr refl)), tt)))))))
+    ((refl, inl (refl, refl)), ((refl, inl (refl, refl)), ((refl, inl (refl, refl)), ((refl, inl (refl, refl)), ((refl, inr (inl (refl, omega arith))), ((refl, inl (refl, refl)), ((refl, inr (inr (inl refl))), tt)))))))
     none
 
 -- each subcommand of `dme` may be asked for, and `help` was not met

@@ -14,16 +14,17 @@ use Rattle.dme_words.proofs.Names.{Waiting, waits, Walk, walked_from, with_value
 use Rattle.clap.specs.Walk.{Names, bundle_met, walked}
 use Rattle.clap.specs.Faults.{flags_fault, walk_fault}
 use Rattle.clap.specs.declared.builder.action.ArgAction.{ArgAction}
-use Rattle.clap.specs.declared.builder.action.ArgAction.TheVariants.{Help, Set, SetTrue}
+use Rattle.clap.specs.declared.builder.action.ArgAction.TheVariants.{Append, Help, Set, SetTrue}
 use Rattle.clap.specs.declared.builder.range.ValueRange.{ValueRange}
 use Rattle.clap.specs.declared.parser.matches.ValueSource.{ValueSource}
 use Rattle.dme_words.proofs.HelpLemmas.{first_none, second_none, not_empty}
 
--- an argument that the rules know by its id, and that has one value, or is a flag, or asks for help
+-- an argument that the rules know by its id, and that has one value, or one at each use, or is a flag, or asks for help
 abbrev pub Known : List Rule → Rule → Type 0
 Known c a = (arg_by_id c a.id ≡ Some a)
     × (((action_of a ≡ Set) × (a.range ≡ Some (record { start_inclusive = 1; end_inclusive = 1 })))
-    ⊎ ((action_of a ≡ SetTrue) × (0 < length a.missing)) ⊎ (action_of a ≡ Help))
+    ⊎ ((action_of a ≡ SetTrue) × (0 < length a.missing)) ⊎ (action_of a ≡ Help)
+    ⊎ ((action_of a ≡ Append) × (a.range ≡ Some (record { start_inclusive = 1; end_inclusive = 1 }))))
 
 abbrev pub Knows : List Rule → List Rule → Type 0
 Knows c [] = Unit {0}
@@ -101,8 +102,11 @@ module _ (c : List Rule) where
     | inl one ↦ set values one.0 one.1 none
     | inr other ↦ elim other [
       | inl flag ↦ raised values flag.0 flag.1 none
-      | inr help ↦ absurd (not_empty _ _ (subst (λ (x : ArgAction). action_fault x again a (values_or_missing a values) rows ≡ []) help
-          (second_none (range_kinds (unwrap_or_range a.range).start_inclusive (most_values a) (length values)) _ none)))
+      | inr rest ↦ elim rest [
+        | inl help ↦ absurd (not_empty _ _ (subst (λ (x : ArgAction). action_fault x again a (values_or_missing a values) rows ≡ []) help
+            (second_none (range_kinds (unwrap_or_range a.range).start_inclusive (most_values a) (length values)) _ none)))
+        | inr more ↦ appended values more.0 more.1 none
+      ]
     ]
   ]
     where
@@ -134,6 +138,15 @@ module _ (c : List Rule) where
       set (v ∷ vs) is one none = subst (λ (x : ArgAction). AllFit c (used_as x a.id (reading_by a) (v ∷ vs) rows)) (sym is)
           (fit_with a CommandLine (v ∷ vs) (without a.id rows) known.0
           (passes (v ∷ vs) (as_set (v ∷ vs) Set is) none) (omega arith) (fit_without a.id rows fit))
+
+      appended : (values : List Text) → action_of a ≡ Append → a.range ≡ Some (record { start_inclusive = 1; end_inclusive = 1 })
+          → use_fault again a values rows ≡ [] → AllFit c (used a values rows)
+      appended [] is one none = absurd (not_empty _ _ (subst (λ (o : Option ValueRange).
+          range_kinds (unwrap_or_range o).start_inclusive (unwrap_or_range o).end_inclusive 0 ≡ []) one (first_none _ _ none)))
+      appended (v ∷ vs) is one none = subst (λ (x : ArgAction). AllFit c (used_as x a.id (reading_by a) (v ∷ vs) rows)) (sym is)
+          (fit_with a CommandLine (v ∷ vs) rows known.0
+          (subst (λ (x : ArgAction). action_fault x again a (v ∷ vs) rows ≡ []) is
+          (second_none (range_kinds (unwrap_or_range a.range).start_inclusive (most_values a) (length (v ∷ vs))) _ none)) (omega arith) fit)
 
   module _ (again : Bool) (all : Knows c c) where
     pub settle_fits : (h : Held) → settle_fault c again h ≡ [] → AllFit c h.rows → AllFit c (settled c h).rows

@@ -4,6 +4,7 @@ pub mod NumberLemmas
 pub mod HelpLemmas
 pub mod LevelLemmas
 pub mod FoundLemmas
+pub mod AnswerLemmas
 pub mod AskedLemmas
 pub mod LaterLemmas
 pub mod FolderLemmas

@@ -58,7 +58,8 @@ no_line p told (inr (inr (inr (inr (inr (inl (is, inr (inl none)))))))) = none
 no_line p told (inr (inr (inr (inr (inr (inl (is, inr (inr none)))))))) = none
 no_line p told (inr (inr (inr (inr (inr (inr (inl (is, none)))))))) = none
 no_line p told (inr (inr (inr (inr (inr (inr (inr (inl (is, none))))))))) = none
-no_line p told (inr (inr (inr (inr (inr (inr (inr (inr (is, none))))))))) = none
+no_line p told (inr (inr (inr (inr (inr (inr (inr (inr (inl (is, none)))))))))) = none
+no_line p told (inr (inr (inr (inr (inr (inr (inr (inr (inr (is, none)))))))))) = none
 
 no_control : (p : Text × List Row) (shown : String Global) → IsRefusedOf p (Control shown) → ⊥
 no_control p shown (inl none) = none
@@ -75,7 +76,8 @@ no_control p shown (inr (inr (inr (inr (inr (inl (is, inr (inl none)))))))) = no
 no_control p shown (inr (inr (inr (inr (inr (inl (is, inr (inr none)))))))) = none
 no_control p shown (inr (inr (inr (inr (inr (inr (inl (is, none)))))))) = none
 no_control p shown (inr (inr (inr (inr (inr (inr (inr (inl (is, none))))))))) = none
-no_control p shown (inr (inr (inr (inr (inr (inr (inr (inr (is, none))))))))) = none
+no_control p shown (inr (inr (inr (inr (inr (inr (inr (inr (inl (is, none)))))))))) = none
+no_control p shown (inr (inr (inr (inr (inr (inr (inr (inr (inr (is, none)))))))))) = none
 
 none_called : (found : Option (Text × List Row)) (told : Error) → AsksForNothing found (Line told) → ⊥
 none_called None told asks = asks

@@ -2,14 +2,15 @@
 use Rattle.std.specs.Prelude.{◌∷◌, [], fold, Some}
 use Rattle.clap.specs.declared.builder.action.ArgAction.TheVariants.{Append}
 use Rattle.clap.specs.Words.{App, Rule, new_app, new_rule, with_rule, with_subcommand}
-use Rattle.dme_words.specs.CommandLine.{text_rule, needed_rule, needed_number_rule, usual_number_rule, flag_rule, word_rule}
+use Rattle.dme_words.specs.CommandLine.{text_rule, texts_rule, needed_rule, needed_number_rule, usual_number_rule, flag_rule, word_rule}
 use Rattle.dme_words.specs.declared.line.Argument.{Argument}
-use Rattle.dme_words.specs.declared.line.Argument.TheVariants.{Flag, Needed, Number, NumberOr, Text, Word, WordOr, Words}
+use Rattle.dme_words.specs.declared.line.Argument.TheVariants.{Flag, Needed, Number, NumberOr, Text, Texts, Word, WordOr, Words}
 use Rattle.dme_words.specs.declared.line.Line.{Line}
 
 -- what `clap` is given of an argument
 abbrev pub argument_rule : Argument → Rule
 argument_rule (Text name value help) = text_rule name.now
+argument_rule (Texts name value help) = texts_rule name.now
 argument_rule (Needed name value help) = needed_rule name.now
 argument_rule (Number name value most help) = needed_number_rule name.now most
 argument_rule (NumberOr name value most usual help) = usual_number_rule name.now most usual.now

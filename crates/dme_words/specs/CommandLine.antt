@@ -8,6 +8,10 @@ use Rattle.clap.specs.declared.builder.value_parser.ValueParser.TheVariants.{Sig
 abbrev pub text_rule : Text → Rule
 text_rule name = record (new_rule name) { long = Some name; value_names = 1 }
 
+-- likewise, which may be there several times
+abbrev pub texts_rule : Text → Rule
+texts_rule name = record (text_rule name) { action = Some Append }
+
 -- the option `--NAME TEXT`, which must be named
 abbrev pub needed_rule : Text → Rule
 needed_rule name = record (text_rule name) { required = true }
@@ -113,11 +117,11 @@ watch_line = line_of (codes "watch") (needed_number_rule (codes "listen") 65535 
     ∷ text_rule (codes "record-bytes") ∷ connections_rule (codes "4000000000") ∷ flag_rule (codes "endless") ∷ flag_rule (codes "trace") ∷ text_rule (codes "log")
     ∷ text_rule (codes "timeout") ∷ [])
 
--- `lower [--setup FILE] [--no-clearing] [--compensated] [--skip-manual] [--stored-frames] [--even-touches] [--explain] [PROGRAM]`
+-- `lower [--setup FILE] [--no-clearing] [--compensated] [--skip-manual] [--stored-frames] [--even-touches] [--value NAME=TEXT ..] [--explain] [PROGRAM]`
 abbrev pub lower_line : App
 lower_line = line_of (codes "lower") (text_rule (codes "setup") ∷ flag_rule (codes "no-clearing") ∷ flag_rule (codes "compensated")
-    ∷ flag_rule (codes "skip-manual") ∷ flag_rule (codes "stored-frames") ∷ flag_rule (codes "even-touches") ∷ flag_rule (codes "explain")
-    ∷ program_rule ∷ [])
+    ∷ flag_rule (codes "skip-manual") ∷ flag_rule (codes "stored-frames") ∷ flag_rule (codes "even-touches") ∷ texts_rule (codes "value")
+    ∷ flag_rule (codes "explain") ∷ program_rule ∷ [])
 
 -- `report --record FILE [--setup FILE] [--limits FILE] [--seal-key FILE] [--explain] [PROGRAM]`
 abbrev pub report_line : App

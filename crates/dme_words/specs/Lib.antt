@@ -1,4 +1,5 @@
 pub mod CommandLine
 pub mod Folders
+pub mod Answers
 pub mod Ordered
 pub mod Arguments

@@ -1,5 +1,5 @@
 -- What the words of a command line ask for.
-use Rattle.std.specs.Prelude.{◌≡◌, ◌≢◌, ◌⊎◌, ◌≤◌, ◌||◌, not, ℕ, ℤ, Bool, List, [], ◌∷◌, Option, Some, None, IsSomeAnd, codes, is_some, map, pos, true, false, unwrap_or}
+use Rattle.std.specs.Prelude.{◌≡◌, ◌≢◌, ◌⊎◌, ◌≤◌, ◌||◌, not, ℕ, ℤ, Bool, List, [], ◌∷◌, Option, Some, None, Ok, IsSomeAnd, codes, is_some, map, pos, true, false, unwrap_or}
 use Rattle.std.specs.Prelude.{string_bytes, nat_le, ◌==◌, ◌&&◌, if◌then◌else◌}
 use Rattle.std.specs.List.{flat_map, list_all}
 use Rattle.session_telling.specs.Visible.{visible}
@@ -20,6 +20,7 @@ use Rattle.program_review.specs.Codes.{is_code_of}
 use Rattle.record_text.specs.Heads.{IsPart, IsPartGiven}
 use Rattle.program_review.specs.declared.topics.Topic.{Topic}
 use Rattle.deviations.specs.declared.forms.Form.TheVariants.{Csv, Json, Svg}
+use Rattle.dme_words.specs.Answers.{HasNoAnswer, named_answers}
 use Rattle.dme_words.specs.Folders.{part_record}
 use Rattle.dme_words.specs.CommandLine.{audit_line, check_line, explain_line, export_line, judge_line, ledger_line, loop_line, lower_line, report_line, run_line, serve_line, simulate_line, watch_line, whole_line}
 use Rattle.dme_words.specs.declared.orders.Audit.{Audit}
@@ -298,12 +299,12 @@ IsWatchOf rows o =
     × IsConnectionsOf rows o.connections × IsFlagOf (codes "trace") rows o.trace
     × IsMaybeOf (codes "log") rows (option_map string_bytes o.log) × IsSecondsOf (codes "timeout") rows o.timeout
 
--- the flat program of the program, with these choices
+-- the flat program of the program, with these choices and answers
 abbrev pub IsLowerOf : List Row → Lower → Type 0
 IsLowerOf rows o =
     IsFlagOf (codes "no-clearing") rows o.no_clearing × IsFlagOf (codes "compensated") rows o.compensated
     × IsFlagOf (codes "skip-manual") rows o.skip_manual × IsFlagOf (codes "stored-frames") rows o.stored_frames
-    × IsFlagOf (codes "even-touches") rows o.even_touches × IsSubjectOf rows o.subject
+    × IsFlagOf (codes "even-touches") rows o.even_touches × (named_answers rows ≡ Ok o.answers.items) × IsSubjectOf rows o.subject
 
 -- the page of the named record, under the named limits, if they are named
 abbrev pub IsReportOf : List Row → PartReport → Type 0
@@ -585,6 +586,7 @@ IsRefusedOf p fault = IsShort fault
     ⊎ ((p.0 ≡ codes "export") × HasNoExport p.1 fault)
     ⊎ ((p.0 ≡ codes "review") × HasNoReview p.1 fault)
     ⊎ ((p.0 ≡ codes "watch") × HasNoSeconds (codes "timeout") p.1 fault)
+    ⊎ ((p.0 ≡ codes "lower") × HasNoAnswer (named_answers p.1) fault)
     ⊎ ((p.0 ≡ codes "summary") × HasNoSummary p.1 fault)
 
 -- likewise of the subcommand that was found

@@ -1,7 +1,9 @@
 // Examples: which words are refused before all else, and the files of parts in a folder. Each function has laws for its contract and does nothing.
 
-ghost use Rattle.std.specs.Prelude.{◌≡◌, ℕ, List, [], ◌∷◌, true, false, Some, None, codes};
+ghost use Rattle.std.specs.Prelude.{◌≡◌, ℕ, List, [], ◌∷◌, true, false, Some, None, Ok, Err, codes};
+ghost use Rattle.program_lowering.specs.Prompts.{answer_of};
 ghost use Rattle.record_text.specs.Heads.{IsPart};
+ghost use Rattle.dme_words.specs.Answers.{answer_in, answers_in};
 ghost use Rattle.dme_words.specs.Folders.{part_record, record_in};
 ghost use Rattle.dme_words.specs.Ordered.{controlled, is_plain};
 
@@ -13,6 +15,17 @@ pub fn control_rows()
     ensures delete { is_plain (127 ∷ []) ≡ false }
     ensures first { controlled (codes "dme" ∷ (97 ∷ 10 ∷ []) ∷ (9 ∷ []) ∷ []) ≡ Some (97 ∷ 10 ∷ []) }
     ensures none { controlled (codes "dme" ∷ codes "check" ∷ []) ≡ None }
+{}
+
+/// An answer is cut at its first `=`, and has a name; the first word that is none is refused.
+pub fn answer_rows()
+    ensures cut { answer_in (codes "n=a=B") ≡ Some (answer_of (codes "N") (codes "a=B")) }
+    ensures empty { answer_in (codes "N=") ≡ Some (answer_of (codes "N") []) }
+    ensures nameless { answer_in (codes "=3") ≡ None }
+    ensures textless { answer_in (codes "N3") ≡ None }
+    ensures all { answers_in (codes "N=1" ∷ codes "N=2" ∷ [])
+        ≡ Ok (answer_of (codes "N") (codes "1") ∷ answer_of (codes "N") (codes "2") ∷ []) }
+    ensures first { answers_in (codes "N=1" ∷ codes "M" ∷ codes "=" ∷ []) ≡ Err (codes "M") }
 {}
 
 /// Letters, digits, `-`, `_` and `.` stay; each file ends in `.record`. Without a folder or a part there is none.

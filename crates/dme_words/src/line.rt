@@ -6,7 +6,7 @@ ghost use Rattle.clap.specs.Words.{app_of, rule_of};
 ghost use Rattle.dme_words.specs.CommandLine.{bare_line, first_line, text_rule, whole_line};
 ghost use Rattle.dme_words.specs.Arguments.{argument_rule, with_argument, with_line};
 
-use Argument::{Flag, Needed, Number, NumberOr, Text, Word, WordOr, Words};
+use Argument::{Flag, Needed, Number, NumberOr, Text, Texts, Word, WordOr, Words};
 use clap::builder::ValueParser;
 use clap::{Arg, ArgAction, Command};
 use std::alloc::{AllocError, Global};
@@ -50,6 +50,8 @@ Options:
 enum Argument {
     /// `--NAME TEXT`.
     Text(&'static str, &'static str, &'static str),
+    /// `--NAME TEXT`, which may be there several times.
+    Texts(&'static str, &'static str, &'static str),
     /// `--NAME TEXT`, which must be named.
     Needed(&'static str, &'static str, &'static str),
     /// `--NAME N`, which must be named: a number from 1 to this.
@@ -238,6 +240,7 @@ const LATER_LINES: [Line; 9] = lines! {
         Flag("skip-manual", "Leaves out what the operator would measure, from MODE/MAN on");
         Flag("stored-frames", "Takes the frames of the setup for the alignments of their names");
         Flag("even-touches", "Gives inner circles without touches even ones, each from the centre");
+        Texts("value", "NAME=TEXT", "Answers NAME=PROMPT/.. with TEXT; one for each name");
         EXPLAIN; PROGRAM;
     }
     "report": "Prints a page of a part, for a browser or a printer" {
@@ -274,6 +277,9 @@ fn made_argument<'a>(alloc: Global, argument: Argument) -> Arg<'a>
 {
     match argument {
         Text(name, value, help) => text_argument(alloc, name, value, help),
+        Texts(name, value, help) => {
+            text_argument(alloc, name, value, help).action(ArgAction::Append)
+        }
         Needed(name, value, help) => text_argument(alloc, name, value, help).required(true),
         Number(name, value, most, help) => text_argument(alloc, name, value, help)
             .value_parser(ValueParser::signed(1, i64::from(most)))

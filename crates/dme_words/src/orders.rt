@@ -1,6 +1,7 @@
 // What the words of a command line ask for.
 
 use deviations::{Form, TableOptions};
+use program_lowering::Answer;
 use program_review::Topic;
 
 /// What the words of a command line ask for, with its values.
@@ -283,6 +284,8 @@ pub struct Lower {
     pub stored_frames: bool,
     /// Whether inner circles without touches are given even ones.
     pub even_touches: bool,
+    /// The answers to what the program asks for.
+    pub answers: Vec<Answer>,
     /// The program.
     pub subject: Subject,
 }

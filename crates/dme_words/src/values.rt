@@ -1,13 +1,16 @@
 // The values of a command's arguments, as `clap` has found them.
 
-ghost use Rattle.std.specs.Prelude.{◌≡◌, ◌≤◌, [], IfOk, IfErr, MatchOption, map, true, codes, string_bytes, unwrap_or};
+ghost use Rattle.std.specs.Prelude.{◌≡◌, ◌≤◌, ◌<◌, ◌==◌, IfSome, length, [], IfOk, OnOk, Ok, IfErr, MatchOption, map, true, codes, string_bytes, unwrap_or};
+ghost use Rattle.std.specs.List.{position};
 ghost use Rattle.std.specs.Option.{option_map};
 ghost use Rattle.clap.specs.Words.{all_of, first_of};
 ghost use Rattle.client_core.specs.Clients.{is_window};
+ghost use Rattle.dme_words.specs.Answers.{AddsAnswers, HasNoAnswer, answer_in, answers_in, named_answers};
 ghost use Rattle.dme_words.specs.Ordered.{HasFlag, HasNoName, HasNoSeconds, HasNumber, HasValue, IsConnectionsOf, IsFlagOf, IsGivenOf, IsMaybeOf, IsNoSeconds, IsNumber, IsNumberOf, IsSecondsOf, IsValueOf, IsValueOrInput, IsWindowOf, is_lacking, rows_in};
 
 use crate::words::{Wanted, WordsFault};
 use clap::ArgMatches;
+use program_lowering::Answer;
 use record_text::is_part;
 use std::alloc::{AllocError, Global};
 
@@ -194,4 +197,59 @@ pub(crate) fn all_values(
         Some(texts) => copied_texts(alloc, texts),
         None => Ok(Vec::new(alloc)),
     }
+}
+
+/// Where the first `=` of a word is.
+fn first_equals(word: &[u8]) -> Option<usize>
+    ensures value { result ≡ position (λ b. b == 61) word.now }
+    ensures within { IfSome result (λ i. i < length word.now) }
+{
+    word.iter().position(|byte| *byte == b'=')
+}
+
+/// The answer that a word gives, cut at its first `=`; none, if nothing is before it.
+fn answer_in(alloc: Global, word: &[u8]) -> Result<Option<Answer>, AllocError>
+    ensures { IfOk result (λ answer. answer ≡ answer_in word.now) }
+{
+    let Some(at) = first_equals(word) else {
+        return Ok(None);
+    };
+    if at == 0 {
+        return Ok(None);
+    }
+    let (name, _) = word.split_at(at);
+    let (_, text) = word.split_at(at + 1);
+    Ok(Some(Answer::new(alloc, name, text)?))
+}
+
+/// Appends the answers that words give.
+#[tactic(auto, using(crate::proofs::AnswerLemmas::added))]
+fn push_answers(alloc: Global, answers: &mut Vec<Answer>, words: &[&str]) -> Result<(), WordsFault>
+    ensures named { OnOk result (AddsAnswers answers.old.items answers.new.items
+        (answers_in (map (λ word. word.now) words.now))) }
+    ensures none { IfErr result (HasNoAnswer (answers_in (map (λ word. word.now) words.now))) }
+{
+    let [word, others @ ..] = words else {
+        return Ok(());
+    };
+    let Some(answer) = answer_in(alloc, word.as_bytes())? else {
+        return Err(WordsFault::NoValue(Wanted::Answer, String::from_str(alloc, word)?));
+    };
+    if answers.push(answer).is_err() {
+        return Err(WordsFault::Memory);
+    }
+    push_answers(alloc, answers, others)
+}
+
+/// The answers that are given.
+#[tactic(auto, using(crate::proofs::AnswerLemmas::all_added))]
+pub(crate) fn answers_of(alloc: Global, values: &ArgMatches) -> Result<Vec<Answer>, WordsFault>
+    ensures named { IfOk result (λ answers. named_answers (rows_in values.now) ≡ Ok answers.items) }
+    ensures none { IfErr result (HasNoAnswer (named_answers (rows_in values.now))) }
+{
+    let mut answers = Vec::new(alloc);
+    if let Some(words) = values_of(values, "value") {
+        push_answers(alloc, &mut answers, words)?;
+    }
+    Ok(answers)
 }

@@ -4,6 +4,7 @@ ghost use Rattle.std.specs.Prelude.{◌≡◌, ◌≤◌, IfOk, IfErr, IfSome, O
 ghost use Rattle.std.specs.Option.{option_map};
 ghost use Rattle.clap.specs.Words.{found_of, rows_of, subcommand_rows_of};
 ghost use Rattle.client_core.specs.Clients.{is_window};
+ghost use Rattle.dme_words.specs.Answers.{HasNoAnswer, named_answers};
 ghost use Rattle.dme_words.specs.Ordered as spec;
 ghost use Rattle.dme_words.specs.CommandLine.{audit_line, check_line, explain_line, export_line, judge_line, ledger_line, loop_line, lower_line, report_line, run_line, serve_line, simulate_line, watch_line};
 ghost use Rattle.dme_words.specs.Ordered.{Asks, AsksForNothing, AuditMisfits, ExportMisfits, FitsAudit, FitsRun, Has, HasFlag, HasNoAudit, HasNoExport, HasNoReview, HasNoForm, HasNoRun, HasNoRunValue, HasNoSeconds, HasNoSummary, HasNoTable, HasNoTopic, HasValue, IsAnyAuditOf, IsAskable, IsCalled, IsExplainOf, IsExportOf, IsFindingFormOf, IsJudgeOf, IsLaterAskable, IsLedgerOf, IsLoopOf, IsLowerOf, IsMeasuredOf, IsOrderOf, IsReady, IsRecordOf, IsRecordedOf, IsRefusal, IsRefusedOf, IsReportOf, IsReviewOf, IsRunOf, IsSeparatorOf, IsServeOf, IsSignOf, IsSimulateOf, IsSubjectOf, IsSummaryFormOf, IsSummaryOf, IsTableOf, IsValueOf, IsWatchOf, KeepsItsTable, NamesOneFile, RunMisfits, form_in, form_word, rows_in};
@@ -16,8 +17,8 @@ use crate::orders::{
     RecordForm, Recorded, Review, Run, Service, Simulation, Subject, SummaryForm, Watch,
 };
 use crate::values::{
-    all_values, connections_of, flag_of, is_lacking, maybe, name_of, needed, number_of, or_input,
-    port_of, seconds_of, value_of, window_of,
+    all_values, answers_of, connections_of, flag_of, is_lacking, maybe, name_of, needed, number_of,
+    or_input, port_of, seconds_of, value_of, window_of,
 };
 use clap::error::ErrorKind;
 use clap::parser::ValueSource;
@@ -47,6 +48,8 @@ pub enum Wanted {
     Seconds(&'static str),
     /// The name of a part or of an operator; of this option.
     Name(&'static str),
+    /// An answer to what a program asks for.
+    Answer,
 }
 
 /// Shown as `clap` shows the argument, and why it does not take a value.
@@ -60,6 +63,7 @@ impl fmt::Display for Wanted {
             Wanted::FindingForm => "'--as <FORM>'\n  [possible values: json]",
             Wanted::SummaryForm => "'--as <FORM>'\n  [possible values: text, csv, html]",
             Wanted::Separator => "'--separator <SIGN>'\n  [possible values: ',', ';', tab]",
+            Wanted::Answer => "'--value <NAME=TEXT>': a name, then = and a text",
             Wanted::Sign => "'--decimal <SIGN>'\n  [possible values: point, comma]",
             Wanted::Seconds(option) => {
                 return write!(f, "'--{option} <SECONDS>': a number from 1 to 86400");
@@ -532,9 +536,10 @@ fn watch_order(alloc: Global, values: &ArgMatches) -> Result<Watch, WordsFault>
     })
 }
 
-fn lower_order(alloc: Global, values: &ArgMatches) -> Result<Lower, AllocError>
+fn lower_order(alloc: Global, values: &ArgMatches) -> Result<Lower, WordsFault>
     requires { Has lower_line (rows_in values.now) }
-    ensures { IfOk result (IsLowerOf (rows_in values.now)) }
+    ensures named { IfOk result (IsLowerOf (rows_in values.now)) }
+    ensures none { IfErr result (HasNoAnswer (named_answers (rows_in values.now))) }
 {
     Ok(Lower {
         no_clearing: flag_of(values, "no-clearing"),
@@ -542,6 +547,7 @@ fn lower_order(alloc: Global, values: &ArgMatches) -> Result<Lower, AllocError>
         skip_manual: flag_of(values, "skip-manual"),
         stored_frames: flag_of(values, "stored-frames"),
         even_touches: flag_of(values, "even-touches"),
+        answers: answers_of(alloc, values)?,
         subject: subject_of(alloc, values)?,
     })
 }

@@ -14,6 +14,7 @@ use Rattle.program_lowering.proofs.RunLemmas.{run_from_start, with_texts}
 use Rattle.program_lowering.proofs.Runs.{Written, run, steps_up_to}
 use Rattle.program_lowering.specs.declared.lowering.Lowered.{Lowered}
 use Rattle.program_lowering.specs.Inches.{all_stated}
+use Rattle.program_lowering.specs.Prompts.{Answer}
 use Rattle.program_lowering.proofs.Names.{◌++◌, ◌∷◌, Bool}
 use Rattle.program_lowering.specs.Carried.{Knows, Seen, all_steps, frames_closed, seen_by, touches_due}
 use Rattle.program_lowering.specs.Cartesian.{all_cartesian, cartesian, reference_after}
@@ -27,8 +28,8 @@ use Rattle.program_lowering.specs.Lowering.{kept_passes, prepared}
 use Rattle.program_lowering.specs.StoredFrames.{frame_notes, if_stored}
 
 -- all of a text
-abbrev pub run_of : List (List ℕ × Point) → Choices → List ℕ → Result Written (Refusal × ℕ)
-run_of frames choices text = run frames choices (text_reading text).fault (length (lines text)) (prepared choices text) nothing_carried
+abbrev pub run_of : List (List ℕ × Point) → Choices → List Answer → List ℕ → Result Written (Refusal × ℕ)
+run_of frames choices answers text = run frames choices (text_reading text).fault (length (lines text)) (prepared choices answers text) nothing_carried
 
 record HasTexts (r : Result (List Step) (Refusal × ℕ)) (text notes about : List ℕ) (w : Written) : Type 0 where
   steps : List Step
@@ -55,11 +56,11 @@ has_refusal : (r : Result (List Step) (Refusal × ℕ)) (text notes about : List
 has_refusal (Ok steps) text notes about e h = absurd cc
 has_refusal (Err refusal) text notes about e h = cc
 
-pub written_of : (frames : List (List ℕ × Point)) (choices : Choices) (text : List ℕ) (w : Written) → run_of frames choices text ≡ Ok w
-    → AreLines frames choices text w.text (w.notes ++ if_stored choices w.frames)
+pub written_of : (frames : List (List ℕ × Point)) (choices : Choices) (answers : List Answer) (text : List ℕ) (w : Written) → run_of frames choices answers text ≡ Ok w
+    → AreLines frames choices answers text w.text (w.notes ++ if_stored choices w.frames)
 unfolding meaning_of
-written_of frames choices text w h =
-    let statements = prepared choices text in
+written_of frames choices answers text w h =
+    let statements = prepared choices answers text in
     let t = has_texts (steps_up_to frames (text_reading text).fault (length (lines text)) [] (all_stated [] (kept choices statements)))
     (ended_lines (flat_lines (kept_passes choices statements) (all_stated [] (kept choices statements)))) (notes_from choices [] statements)
     (frame_notes (all_stated [] (kept choices statements))) w
@@ -71,11 +72,11 @@ written_of frames choices text w h =
       notes_are = rw (t.notes_are, t.frames_are) refl;
     }
 
-pub refused_of : (frames : List (List ℕ × Point)) (choices : Choices) (text : List ℕ) (e : Refusal × ℕ) → run_of frames choices text ≡ Err e
-    → lowered_meaning frames choices text ≡ Err e
+pub refused_of : (frames : List (List ℕ × Point)) (choices : Choices) (answers : List Answer) (text : List ℕ) (e : Refusal × ℕ) → run_of frames choices answers text ≡ Err e
+    → lowered_meaning frames choices answers text ≡ Err e
 unfolding meaning_of
-refused_of frames choices text e h =
-    let statements = prepared choices text in
+refused_of frames choices answers text e h =
+    let statements = prepared choices answers text in
     has_refusal (steps_up_to frames (text_reading text).fault (length (lines text)) [] (all_stated [] (kept choices statements)))
     (ended_lines (flat_lines (kept_passes choices statements) (all_stated [] (kept choices statements)))) (notes_from choices [] statements)
     (frame_notes (all_stated [] (kept choices statements))) e
@@ -114,48 +115,48 @@ split_next choices told above left rest ref seen t sees is =
     (cartesian ref (valued above t)) sees
 
 -- what is known below it
-pub goes_round : (frames : List (List ℕ × Point)) (choices : Choices) (text : List ℕ) (told above left : List Statement)
+pub goes_round : (frames : List (List ℕ × Point)) (choices : Choices) (answers : List Answer) (text : List ℕ) (told above left : List Statement)
     (below : List Statement → List Statement) (ref after : Reference) (seen now : Seen) (c d : Carried) (t : Statement) (entries : List Entry)
     (declared : Bool) → Sees choices told seen → left ≡ t ∷ below (carried above t)
     → all_steps frames choices c (touches_due choices seen (cartesian ref (valued above t)) ++ cartesian ref (valued above t) ∷ []) ≡ Ok (false, d)
     → after ≡ reference_after ref (cartesian ref (valued above t)) → now ≡ seen_by choices seen (cartesian ref (valued above t))
     → Knows (carried above t) entries declared → run frames choices (text_reading text).fault (length (lines text))
-    (touched_from choices told (all_cartesian ref (all_valued above left))) c ≡ run_of frames choices text
+    (touched_from choices told (all_cartesian ref (all_valued above left))) c ≡ run_of frames choices answers text
     → (next : List Statement) × Knows next entries declared × ((more : List Statement) × Sees choices more now
     × (run frames choices (text_reading text).fault (length (lines text)) (touched_from choices more (all_cartesian after (all_valued next (below next)))) d
-    ≡ run_of frames choices text))
-goes_round frames choices text told above left below ref after seen now c d t entries declared sees is steps refers looks knows same =
+    ≡ run_of frames choices answers text))
+goes_round frames choices answers text told above left below ref after seen now c d t entries declared sees is steps refers looks knows same =
     let s = cartesian ref (valued above t) in
     let past = goes_past frames choices (text_reading text).fault (length (lines text)) s.line _ _ _ c d
     (split_next choices told above left (below (carried above t)) ref seen t sees is) (due_on choices seen s) steps in
     (carried above t, knows, (s ∷ told, rw looks (sees_after choices told seen s sees), rw refers (past ∙ same)))
 
 -- what is answered where a statement is refused
-pub at_statement : (frames : List (List ℕ × Point)) (choices : Choices) (text : List ℕ) (refused : StatementFault) (fault : Option TextFault) (n line : ℕ)
+pub at_statement : (frames : List (List ℕ × Point)) (choices : Choices) (answers : List Answer) (text : List ℕ) (refused : StatementFault) (fault : Option TextFault) (n line : ℕ)
     (xs all left : List Statement) (c d : Carried) → all ≡ xs ++ left → AllOn line xs → GivesStep (Err refused) d (all_steps frames choices c xs)
-    → run frames choices fault n all c ≡ run_of frames choices text → GivesLines frames choices text (Err (fault_at refused line))
-at_statement frames choices text (faults.Refused refusal) fault n line xs all left c d split on given same =
-    refused_of frames choices text (refusal, line)
+    → run frames choices fault n all c ≡ run_of frames choices answers text → GivesLines frames choices answers text (Err (fault_at refused line))
+at_statement frames choices answers text (faults.Refused refusal) fault n line xs all left c d split on given same =
+    refused_of frames choices answers text (refusal, line)
     (sym same ∙ refused_at_statement frames choices fault n line xs all left c refusal split on given)
-at_statement frames choices text faults.Memory fault n line xs all left c d split on given same = tt
+at_statement frames choices answers text faults.Memory fault n line xs all left c d split on given same = tt
 
 -- where nothing is left
-pub at_end : (frames : List (List ℕ × Point)) (choices : Choices) (text : List ℕ) (all : List Statement) (c : Carried) → all ≡ []
-    → run frames choices (text_reading text).fault (length (lines text)) all c ≡ run_of frames choices text
-    → GivesLines frames choices text (Err (refused_at (ended (text_reading text).fault c.above.number (length (lines text)))))
-at_end frames choices text all c none same =
-    refused_of frames choices text (ended (text_reading text).fault c.above.number (length (lines text)))
+pub at_end : (frames : List (List ℕ × Point)) (choices : Choices) (answers : List Answer) (text : List ℕ) (all : List Statement) (c : Carried) → all ≡ []
+    → run frames choices (text_reading text).fault (length (lines text)) all c ≡ run_of frames choices answers text
+    → GivesLines frames choices answers text (Err (refused_at (ended (text_reading text).fault c.above.number (length (lines text)))))
+at_end frames choices answers text all c none same =
+    refused_of frames choices answers text (ended (text_reading text).fault c.above.number (length (lines text)))
     (sym same ∙ ends_at frames choices (text_reading text).fault (length (lines text)) all c none)
 
 -- where the program ends
-pub finished : (frames : List (List ℕ × Point)) (choices : Choices) (source text notes : List ℕ) (r : Result Lowered ProgramFault)
-    → AreLines frames choices source text notes → IfOk r (λ (lowered : Lowered). lowered.text.items ≡ text)
+pub finished : (frames : List (List ℕ × Point)) (choices : Choices) (answers : List Answer) (source text notes : List ℕ) (r : Result Lowered ProgramFault)
+    → AreLines frames choices answers source text notes → IfOk r (λ (lowered : Lowered). lowered.text.items ≡ text)
     → IfOk r (λ (lowered : Lowered). lowered.notes.items ≡ notes) → IfErr r (λ (fault : ProgramFault). fault ≡ program.Memory)
-    → GivesLines frames choices source r
-finished frames choices source text notes (Ok lowered) h t n e = record {
+    → GivesLines frames choices answers source r
+finished frames choices answers source text notes (Ok lowered) h t n e = record {
   meaning = h.meaning;
   accepted = h.accepted;
   flat = t ∙ h.flat;
   notes_are = n ∙ h.notes_are;
 }
-finished frames choices source text notes (Err fault) h t n e = rw e tt
+finished frames choices answers source text notes (Err fault) h t n e = rw e tt

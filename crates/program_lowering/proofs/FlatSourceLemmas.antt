@@ -46,6 +46,8 @@ use Rattle.program_lowering.specs.declared.cartesian.Reference.{Reference}
 use Rattle.program_lowering.proofs.CartesianLemmas.{accepted_already}
 use Rattle.program_lowering.proofs.EvenLemmas.{accepted_as_it_is}
 use Rattle.program_lowering.specs.EvenTouches.{all_touched, touched_from}
+use Rattle.program_lowering.specs.Prompts.{Answer, answered}
+use Rattle.program_lowering.proofs.Names.{map}
 use Rattle.program_lowering.specs.Valued.{all_valued, assigned_params, commanding, has_variables, held_or_none, valued, valued_params, with_params}
 
 -- the steps of some statements, of which one line can hold each text for the operator up to the statement that closes the program
@@ -332,6 +334,25 @@ valued_alike frames fault lines aboves above (s ∷ below) steps none h =
       behind = λ more g. valued_alike frames fault lines (s ∷ aboves) (carried above s) below more (none_then above s plain none) g;
     }) h
 
+-- nor is a value asked for in it
+prompt_word : is_unknown (keyword_of (codes "PROMPT")) ≡ true
+unfolding keyword_of
+prompt_word = refl
+
+unasked : (answers : List Answer) (s : Statement) → is_unknown (keyword_of s.word) ≡ false → answered answers s ≡ s
+unasked answers s known = rw (other_word s.word (codes "PROMPT") prompt_word known) refl
+
+answered_alike : (frames : List (List ℕ × Point)) (fault : Option TextFault) (lines : ℕ) (answers : List Answer) (aboves below : List Statement)
+    (steps : List Step) → Alike frames fault lines aboves below steps → Alike frames fault lines aboves (map (answered answers) below) steps
+answered_alike frames fault lines answers aboves [] steps h = h
+answered_alike frames fault lines answers aboves (s ∷ below) steps h =
+    alike_next frames fault lines aboves s below (map (answered answers) (s ∷ below)) steps (λ m e.
+    let known = accepted_known frames (context_at frames aboves) s m (accepted_if frames (context_at frames aboves) s m e) in record {
+      other = map (answered answers) below;
+      is = ap (λ (t : Statement). t ∷ map (answered answers) below) (unasked answers s known);
+      behind = λ more g. answered_alike frames fault lines answers (s ∷ aboves) below more g;
+    }) h
+
 -- and its coordinates are Cartesian
 cartesian_alike : (frames : List (List ℕ × Point)) (fault : Option TextFault) (lines : ℕ) (ref : Reference) (aboves below : List Statement)
     (steps : List Step) → Alike frames fault lines aboves below steps → Alike frames fault lines aboves (all_cartesian ref below) steps
@@ -489,17 +510,19 @@ flow_alike frames fault lines aboves above text all n place (s ∷ below) steps 
     flow_next frames fault lines aboves above text all n place s below m e d few
     (λ more p is rest g. flow_alike frames fault lines (s ∷ aboves) (carried above s) text all p (place + 1) below more rest (omega (arith, few, is)) g)) h
 
-pub valued_source : (frames : List (List ℕ × Point)) (choices : Choices) (fault : Option TextFault) (lines : ℕ) (statements : List Statement)
+pub valued_source : (frames : List (List ℕ × Point)) (choices : Choices) (answers : List Answer) (fault : Option TextFault) (lines : ℕ) (statements : List Statement)
     (m : Meaning) → AllByRecursion (λ (s : Statement). text_refusal s ≡ None) statements → meant (steps_from frames fault lines [] statements) ≡ Ok m
-    → meant (steps_up_to frames fault lines [] (all_stated [] (kept choices (touched_from choices [] (all_cartesian no_reference (all_valued [] (carried_out statements))))))) ≡ Ok m
-valued_source frames choices fault lines statements m fit h =
+    → meant (steps_up_to frames fault lines [] (all_stated [] (kept choices (touched_from choices [] (all_cartesian no_reference (all_valued [] (carried_out (map (answered answers) statements)))))))) ≡ Ok m
+valued_source frames choices answers fault lines statements m fit h =
     let found = meant_steps m (steps_from frames fault lines [] statements) h in
     let source : Alike frames fault lines [] statements found.0 = record { steps_are = found.1; fits = all_fit_to frames [] statements fit } in
-    let flows = flow_alike frames fault lines [] [] statements (outside statements) 1000000 0 statements found.0 refl (omega arith) source in
-    let values = valued_alike frames fault lines [] [] (carried_out statements) found.0 refl flows in
-    let all = touched_from choices [] (all_cartesian no_reference (all_valued [] (carried_out statements))) in
-    let places = cartesian_alike frames fault lines no_reference [] (all_valued [] (carried_out statements)) found.0 values in
-    let touches = chosen_alike frames choices fault lines (all_cartesian no_reference (all_valued [] (carried_out statements))) found.0 places in
+    let asked = answered_alike frames fault lines answers [] statements found.0 source in
+    let text = map (answered answers) statements in
+    let flows = flow_alike frames fault lines [] [] text (outside text) 1000000 0 text found.0 refl (omega arith) asked in
+    let values = valued_alike frames fault lines [] [] (carried_out text) found.0 refl flows in
+    let all = touched_from choices [] (all_cartesian no_reference (all_valued [] (carried_out text))) in
+    let places = cartesian_alike frames fault lines no_reference [] (all_valued [] (carried_out text)) found.0 values in
+    let touches = chosen_alike frames choices fault lines (all_cartesian no_reference (all_valued [] (carried_out text))) found.0 places in
     let counts = all_kept frames choices fault lines [] all found.0 refl touches in
     ap meant (up_to_end frames fault lines [] (all_stated [] (kept choices all)) found.0
     (stated_alike frames fault lines [] [] (kept choices all) found.0 refl counts))

@@ -3,7 +3,8 @@ use Rattle.program_lowering.proofs.Names.{[], ◌%◌, ◌++◌, ◌/◌, ◌<�
 use Rattle.program_lowering.proofs.Names.{codes, cond, encode_lower, false, head_lines, IsComment, length, length-append, List, list_all}
 use Rattle.program_lowering.proofs.Names.{list_all-append, list_all_at, lower_digits, ltb-true, map, may_stand, Names, nat_lt, nat_tests}
 use Rattle.program_lowering.proofs.Names.{options_text, refl, setup_name, shown_byte, shown_name, slice_index, suc, sym, take, true, zero, ℕ}
-use Rattle.program_lowering.specs.Heads.{option_text, or_none}
+use Rattle.program_lowering.specs.Prompts.{Answer}
+use Rattle.program_lowering.specs.Heads.{option_text, or_none, value_line}
 use Rattle.std.specs.Int.{byte_at, bytes_high_first, to_be_bytes, w32}
 use Rattle.sha2.specs.Sha256.{digest_bytes, sha256}
 use Rattle.sha2.proofs.Facts256.{length-sha256}
@@ -122,8 +123,16 @@ comment front rest h g k p = record {
   short = omega (arith, length-append front rest, g, p);
 }
 
-pub are_comments : (names : Names) (choices : Choices) (text : List ℕ) → AllByRecursion IsComment (head_lines names choices text)
-are_comments names choices text = (
+values_are : (answers : List Answer) → AllByRecursion IsComment (map value_line answers)
+values_are [] = tt
+values_are (a ∷ answers) = (
+  comment (codes " value: ") (shown_name (a.name ++ 61 ∷ a.text)) refl (omega arith) (name_clean 1000 (a.name ++ 61 ∷ a.text))
+      (name_short 1000 (a.name ++ 61 ∷ a.text)),
+  values_are answers,
+)
+
+pub are_comments : (names : Names) (choices : Choices) (answers : List Answer) (text : List ℕ) → AllByRecursion IsComment (head_lines names choices answers text)
+are_comments names choices answers text = (
   comment (codes " flat program, written by dme lower") [] refl (omega arith) refl (omega arith),
   (
     comment (codes " source: ") (shown_name names.program) refl (omega arith) (name_clean 1000 names.program) (name_short 1000 names.program),
@@ -136,7 +145,7 @@ are_comments names choices text = (
         (
           comment (codes " options:") (options_text choices) refl (omega arith) (options_clean choices).0
               (omega (arith, (options_clean choices).1)),
-          tt,
+          values_are answers,
         ),
       ),
     ),

@@ -11,6 +11,9 @@ use Rattle.program_lowering.proofs.LineCounts.{lines_few}
 use Rattle.program_lowering.proofs.ReadBackLemmas.{HasShortLine, acts_back, reads_back}
 use Rattle.program_lowering.proofs.RunLemmas.{ended_append}
 use Rattle.program_lowering.specs.Inches.{all_stated}
+use Rattle.program_lowering.specs.Prompts.{Answer, answered}
+use Rattle.program_lowering.proofs.AnswerLemmas.{answered_short}
+use Rattle.program_lowering.proofs.Names.{map}
 use Rattle.program_lowering.proofs.EvenLemmas.{AllOn, before_on}
 use Rattle.program_lowering.proofs.ValuedLemmas.{same_place}
 use Rattle.program_lowering.specs.EvenTouches.{all_touched, touched_from, touches_before}
@@ -84,39 +87,40 @@ flow_short : (statements : List Statement) → AllByRecursion HasShortLine state
 flow_short statements h = all_carried_out HasShortLine (λ s a short is line. subst (λ (n : ℕ). n < 2 ^ 64) (sym line) short)
     (λ s a short line. subst (λ (n : ℕ). n < 2 ^ 64) (sym line) short) statements h
 
-text_short : (choices : Choices) (text : List ℕ) → length text < 2 ^ 64
-    → AllByRecursion HasShortLine (all_stated [] (kept choices (prepared choices text)))
-text_short choices text few =
+text_short : (choices : Choices) (answers : List Answer) (text : List ℕ) → length text < 2 ^ 64
+    → AllByRecursion HasShortLine (all_stated [] (kept choices (prepared choices answers text)))
+text_short choices answers text few =
     let short = numbers_short 1 (1 + length (lines text)) (text_reading text).statements (omega (arith, few, lines_few text)) (numbered_is 1 (lines text)).0 in
-    let valued = valued_short [] (carried_out (text_reading text).statements) (flow_short (text_reading text).statements short) in
-    let all = all_cartesian no_reference (all_valued [] (carried_out (text_reading text).statements)) in
-    stated_short [] (kept choices (prepared choices text)) (kept_short choices [] (prepared choices text)
-    (chosen_short choices all (cartesian_short no_reference (all_valued [] (carried_out (text_reading text).statements)) valued)))
+    let asked = map (answered answers) (text_reading text).statements in
+    let valued = valued_short [] (carried_out asked) (flow_short asked (answered_short answers (text_reading text).statements short)) in
+    let all = all_cartesian no_reference (all_valued [] (carried_out asked)) in
+    stated_short [] (kept choices (prepared choices answers text)) (kept_short choices [] (prepared choices answers text)
+    (chosen_short choices all (cartesian_short no_reference (all_valued [] (carried_out asked)) valued)))
 
-pub programs_read_back : (frames : List (List ℕ × Point)) (choices : Choices) (text : List ℕ) (heads : List (List ℕ)) (m : Meaning)
-    → length text < 2 ^ 64 → AllByRecursion IsComment heads → lowered_meaning frames choices text ≡ Ok m
-    → program_of frames (ended_lines heads ++ flat_program choices text) ≡ Ok m
+pub programs_read_back : (frames : List (List ℕ × Point)) (choices : Choices) (answers : List Answer) (text : List ℕ) (heads : List (List ℕ)) (m : Meaning)
+    → length text < 2 ^ 64 → AllByRecursion IsComment heads → lowered_meaning frames choices answers text ≡ Ok m
+    → program_of frames (ended_lines heads ++ flat_program choices answers text) ≡ Ok m
 unfolding meaning_of
-programs_read_back frames choices text heads m few comments h =
-    ap (λ (t : List ℕ). program_of frames t) (sym (ended_append heads (flat_lines (kept_passes choices (prepared choices text)) (all_stated [] (kept choices (prepared choices text))))))
-    ∙ reads_back frames (text_reading text).fault (length (lines text)) (kept_passes choices (prepared choices text)) (all_stated [] (kept choices (prepared choices text))) heads m
-    (text_short choices text few) comments h
+programs_read_back frames choices answers text heads m few comments h =
+    ap (λ (t : List ℕ). program_of frames t) (sym (ended_append heads (flat_lines (kept_passes choices (prepared choices answers text)) (all_stated [] (kept choices (prepared choices answers text))))))
+    ∙ reads_back frames (text_reading text).fault (length (lines text)) (kept_passes choices (prepared choices answers text)) (all_stated [] (kept choices (prepared choices answers text))) heads m
+    (text_short choices answers text few) comments h
 
-pub texts_stay : (frames : List (List ℕ × Point)) (choices : Choices) (text : List ℕ) (heads : List (List ℕ)) (m : Meaning)
-    → length text < 2 ^ 64 → AllByRecursion IsComment heads → lowered_meaning frames choices text ≡ Ok m
-    → acts_of frames (text_reading (ended_lines heads ++ flat_program choices text)).statements
-    ≡ acts_of frames (all_stated [] (kept choices (prepared choices text)))
+pub texts_stay : (frames : List (List ℕ × Point)) (choices : Choices) (answers : List Answer) (text : List ℕ) (heads : List (List ℕ)) (m : Meaning)
+    → length text < 2 ^ 64 → AllByRecursion IsComment heads → lowered_meaning frames choices answers text ≡ Ok m
+    → acts_of frames (text_reading (ended_lines heads ++ flat_program choices answers text)).statements
+    ≡ acts_of frames (all_stated [] (kept choices (prepared choices answers text)))
 unfolding meaning_of
-texts_stay frames choices text heads m few comments h =
-    ap (λ (t : List ℕ). acts_of frames (text_reading t).statements) (sym (ended_append heads (flat_lines (kept_passes choices (prepared choices text)) (all_stated [] (kept choices (prepared choices text))))))
-    ∙ acts_back frames (text_reading text).fault (length (lines text)) (kept_passes choices (prepared choices text)) (all_stated [] (kept choices (prepared choices text))) heads m
-    (text_short choices text few) comments h
+texts_stay frames choices answers text heads m few comments h =
+    ap (λ (t : List ℕ). acts_of frames (text_reading t).statements) (sym (ended_append heads (flat_lines (kept_passes choices (prepared choices answers text)) (all_stated [] (kept choices (prepared choices answers text))))))
+    ∙ acts_back frames (text_reading text).fault (length (lines text)) (kept_passes choices (prepared choices answers text)) (all_stated [] (kept choices (prepared choices answers text))) heads m
+    (text_short choices answers text few) comments h
 
-pub sources_keep : (frames : List (List ℕ × Point)) (choices : Choices) (text : List ℕ) (m : Meaning) → TextsFit text → program_of frames text ≡ Ok m
-    → lowered_meaning frames choices text ≡ Ok m
+pub sources_keep : (frames : List (List ℕ × Point)) (choices : Choices) (answers : List Answer) (text : List ℕ) (m : Meaning) → TextsFit text → program_of frames text ≡ Ok m
+    → lowered_meaning frames choices answers text ≡ Ok m
 unfolding meaning_of
-sources_keep frames choices text m fit h =
-    valued_source frames choices (text_reading text).fault (length (lines text)) (text_reading text).statements m fit h
+sources_keep frames choices answers text m fit h =
+    valued_source frames choices answers (text_reading text).fault (length (lines text)) (text_reading text).statements m fit h
 
 -- manual blocks
 pub touches_skipped : (choices : Choices) (t s : Statement) (above : List Statement) → choices.skip_manual ≡ true

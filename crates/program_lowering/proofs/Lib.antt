@@ -1,5 +1,6 @@
 pub mod Names
 pub mod AboveLemmas
+pub mod AnswerLemmas
 pub mod Runs
 pub mod PassLemmas
 pub mod RunLemmas

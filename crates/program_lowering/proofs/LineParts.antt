@@ -3,7 +3,9 @@ use Rattle.program_lowering.proofs.Names.{[], ◌++◌, ◌∙◌, ◌∷◌, �
 use Rattle.program_lowering.proofs.Names.{encode_lower, ended_lines, false, Flat, flat_line, flat_text, head_lines}
 use Rattle.program_lowering.proofs.Names.{is_some, line_for, List, marked, Names, None, note_for, note_start}
 use Rattle.program_lowering.proofs.Names.{Option, options_text, Reason, refl, setup_name, shown_name, Some, Statement}
-use Rattle.program_lowering.proofs.Names.{sym, text_for, true, with_commas, ℕ}
+use Rattle.program_lowering.proofs.Names.{map, sym, text_for, true, with_commas, ℕ}
+use Rattle.program_lowering.specs.Heads.{value_line}
+use Rattle.program_lowering.specs.Prompts.{Answer}
 use Rattle.program_lowering.specs.Flats.{with_pass}
 use Rattle.sha2.specs.Sha256.{sha256}
 use Rattle.program_lowering.specs.Lowering.{ended}
@@ -44,20 +46,23 @@ note_is s reason old start mark shown told new a b c d e =
     refl
 
 -- the head
-five : (a b c d e : List ℕ) → ((((a ++ b) ++ c) ++ d) ++ e) ≡ (a ++ (b ++ (c ++ (d ++ (e ++ [])))))
-five a b c d e =
+six : (a b c d e f : List ℕ) → (((((a ++ b) ++ c) ++ d) ++ e) ++ f) ≡ (a ++ (b ++ (c ++ (d ++ (e ++ f)))))
+six a b c d e f =
     rw (
-      append-nil e,
       append_assoc a b c,
       append_assoc a (b ++ c) d,
       append_assoc b c d,
       append_assoc a (b ++ (c ++ d)) e,
       append_assoc b (c ++ d) e,
       append_assoc c d e,
+      append_assoc a (b ++ (c ++ (d ++ e))) f,
+      append_assoc b (c ++ (d ++ e)) f,
+      append_assoc c (d ++ e) f,
+      append_assoc d e f,
     )
     refl
 
-pub head_is : (names : Names) (choices : Choices) (source none one two three four last program digest setup options : List ℕ)
+pub head_is : (names : Names) (choices : Choices) (answers : List Answer) (source none one two three four last whole program digest setup options : List ℕ)
     → none ≡ [] → program ≡ shown_name names.program → digest ≡ encode_lower (sha256 source)
     → setup ≡ shown_name (setup_name names.setup) → options ≡ options_text choices
     → one ≡ none ++ ended (codes "$$ flat program, written by dme lower")
@@ -65,11 +70,12 @@ pub head_is : (names : Names) (choices : Choices) (source none one two three fou
     → three ≡ two ++ ended (codes "$$ SHA-256 of the source: " ++ digest)
     → four ≡ three ++ ended (codes "$$ setup: " ++ setup)
     → last ≡ four ++ ended (codes "$$ options:" ++ options)
-    → last ≡ ended_lines (head_lines names choices source)
-head_is names choices source none one two three four last program digest setup options is p d s o a b c e f =
-    rw (f, e, c, b, a, is, p, d, s, o) (five (ended (codes "$$ flat program, written by dme lower")) (ended (codes "$$ source: " ++ shown_name names.program))
+    → whole ≡ last ++ ended_lines (map value_line answers)
+    → whole ≡ ended_lines (head_lines names choices answers source)
+head_is names choices answers source none one two three four last whole program digest setup options is p d s o a b c e f g =
+    rw (g, f, e, c, b, a, is, p, d, s, o) (six (ended (codes "$$ flat program, written by dme lower")) (ended (codes "$$ source: " ++ shown_name names.program))
     (ended (codes "$$ SHA-256 of the source: " ++ encode_lower (sha256 source))) (ended (codes "$$ setup: " ++ shown_name (setup_name names.setup)))
-    (ended (codes "$$ options:" ++ options_text choices)))
+    (ended (codes "$$ options:" ++ options_text choices)) (ended_lines (map value_line answers)))
 
 -- parameters, each after its mark
 commas_are : (mark : ℕ) (p : List ℕ) (ps : List (List ℕ)) → mark ∷ with_commas p ps ≡ marked mark (p ∷ ps)

@@ -26,6 +26,7 @@ use Rattle.program_flow.specs.Numbers.{Fraction, and_then, numeral}
 use Rattle.program_flow.specs.Variables.{Entry}
 use Rattle.program_flow.specs.declared.faults.ValueFault.{ValueFault}
 use Rattle.program_flow.specs.declared.faults.ValueFault.TheVariants as value
+use Rattle.program_lowering.specs.Prompts.{Answer}
 use Rattle.program_lowering.specs.Flats.{flat, flat_line}
 use Rattle.program_flow.specs.Flow.{carried}
 use Rattle.program_lowering.specs.Cartesian.{Triple, cartesian, reference_after}
@@ -322,12 +323,12 @@ TakesValued result new before after now entries declared above s due seen =
     TakesCartesian result new before after now (valued above s) due seen × OnOk result (Knows (carried above s) entries declared)
 
 -- the lines of the flat program of a text, and what was decided; or why there are none
-pub record AreLines (frames : List (List ℕ × Point)) (choices : Choices) (source text notes : List ℕ) : Type 0 where
+pub record AreLines (frames : List (List ℕ × Point)) (choices : Choices) (answers : List Answer) (source text notes : List ℕ) : Type 0 where
   pub meaning : Meaning
-  pub accepted : lowered_meaning frames choices source ≡ Ok meaning
-  pub flat : text ≡ flat_program choices source
-  pub notes_are : notes ≡ notes_of choices source
+  pub accepted : lowered_meaning frames choices answers source ≡ Ok meaning
+  pub flat : text ≡ flat_program choices answers source
+  pub notes_are : notes ≡ notes_of choices answers source
 
-abbrev pub GivesLines : List (List ℕ × Point) → Choices → List ℕ → Result Lowered ProgramFault → Type 0
-GivesLines frames choices source (Ok lines) = AreLines frames choices source lines.text.items lines.notes.items
-GivesLines frames choices source (Err fault) = Refuses frames choices source fault
+abbrev pub GivesLines : List (List ℕ × Point) → Choices → List Answer → List ℕ → Result Lowered ProgramFault → Type 0
+GivesLines frames choices answers source (Ok lines) = AreLines frames choices answers source lines.text.items lines.notes.items
+GivesLines frames choices answers source (Err fault) = Refuses frames choices answers source fault

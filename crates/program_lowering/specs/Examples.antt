@@ -4,6 +4,7 @@ use Rattle.dmis_text.specs.declared.elements.Statement.{Statement}
 use Rattle.program_flow.specs.declared.faults.ValueFault.{ValueFault}
 use Rattle.program_lowering.specs.Cartesian.{no_reference, reference_after}
 use Rattle.program_lowering.specs.EvenTouches.{touches_before}
+use Rattle.program_lowering.specs.Prompts.{Answer, answer_of}
 use Rattle.program_lowering.specs.StoredFrames.{by_frame, is_used}
 use Rattle.program_lowering.specs.declared.cartesian.Reference.{Reference}
 use Rattle.program_lowering.specs.declared.words.Choices.{Choices}
@@ -174,3 +175,13 @@ no_blocks = (block_a (codes "CIRCLE") (codes "2") ∷ []) ∷ (block_a (codes "C
     ∷ (a_touch ∷ three_of_a ∷ []) ∷ (end_of_block ∷ three_of_a ∷ []) ∷ (three_of_a ∷ mode_man ∷ []) ∷ (three_of_a ∷ bare (codes "UNITS") [] ∷ [])
     ∷ (three_of_a ∷ bare (codes "RECALL") (codes "D(B)" ∷ []) ∷ []) ∷ (three_of_a ∷ bare (codes "RECALL") (codes "DA(B)" ∷ []) ∷ [])
     ∷ (three_of_a ∷ bare (codes "TRANS") [] ∷ []) ∷ []
+
+-- a question for N, and answers
+abbrev pub ask_n : Statement
+ask_n = record { line = 7; label = Some (codes "N"); word = codes "PROMPT"; params = codes "'How many?'" ∷ [] }
+
+abbrev pub only_m : List Answer
+only_m = answer_of (codes "M") (codes "1") ∷ []
+
+abbrev pub answers_n : List Answer
+answers_n = only_m ++ answer_of (codes "n") (codes "x+2") ∷ answer_of (codes "N") (codes "4") ∷ []

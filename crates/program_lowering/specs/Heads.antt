@@ -3,6 +3,7 @@ use Rattle.std.specs.Prelude.{◌≡◌, ℕ, ◌≤◌, true, List, [], ◌∷�
 use Rattle.std.specs.List.{list_all}
 use Rattle.record_text.specs.Seals.{digest_of}
 use Rattle.dmis_text.specs.Texts.{may_stand}
+use Rattle.program_lowering.specs.Prompts.{Answer}
 use Rattle.program_lowering.specs.Lowering.{ended_lines, flat_program}
 use Rattle.program_lowering.specs.declared.words.Choices.{Choices}
 
@@ -48,15 +49,19 @@ or_none (c ∷ cs) = c ∷ cs
 abbrev pub options_text : Choices → List ℕ
 options_text choices = or_none (given_options choices)
 
-abbrev pub head_lines : Names → Choices → List ℕ → List (List ℕ)
-head_lines names choices text =
+-- an answer, with a `=` (61) after the name
+abbrev pub value_line : Answer → List ℕ
+value_line answer = codes "$$ value: " ++ shown_name (answer.name ++ 61 ∷ answer.text)
+
+abbrev pub head_lines : Names → Choices → List Answer → List ℕ → List (List ℕ)
+head_lines names choices answers text =
     codes "$$ flat program, written by dme lower"
     ∷ (codes "$$ source: " ++ shown_name names.program)
     ∷ (codes "$$ SHA-256 of the source: " ++ digest_of text)
     ∷ (codes "$$ setup: " ++ shown_name (setup_name names.setup))
     ∷ (codes "$$ options:" ++ options_text choices)
-    ∷ []
+    ∷ map value_line answers
 
 -- the flat program with its head
-abbrev pub whole_text : Names → Choices → List ℕ → List ℕ
-whole_text names choices text = ended_lines (head_lines names choices text) ++ flat_program choices text
+abbrev pub whole_text : Names → Choices → List Answer → List ℕ → List ℕ
+whole_text names choices answers text = ended_lines (head_lines names choices answers text) ++ flat_program choices answers text

@@ -6,6 +6,7 @@ pub mod StoredFrames
 pub mod Flats
 pub mod OperatorTexts
 pub mod Inches
+pub mod Prompts
 pub mod Valued
 pub mod Cartesian
 pub mod PolarNearness

@@ -1,5 +1,5 @@
 -- The flat program that a program stands for, and what was decided about it (this profile).
-use Rattle.std.specs.Prelude.{ℕ, ◌+◌, ◌==◌, Bool, false, true, not, List, [], ◌∷◌, ◌++◌, length, codes, flat_map, Option, Some, None}
+use Rattle.std.specs.Prelude.{ℕ, ◌+◌, ◌==◌, Bool, false, true, not, List, [], ◌∷◌, ◌++◌, length, codes, flat_map, map, Option, Some, None}
 use Rattle.std.specs.Prelude.{Result, Ok, Err, ◌&&◌, if◌then◌else◌}
 use Rattle.std.specs.Str.Lines.{lines}
 use Rattle.dmis_text.specs.Reading.{text_reading}
@@ -11,6 +11,7 @@ use Rattle.dmis_program.specs.Meaning.{Meaning, closes, meaning_of}
 use Rattle.dmis_program.specs.declared.faults.Refusal.{Refusal}
 use Rattle.dmis_program.specs.declared.sayings.StatementMeaning.{StatementMeaning}
 use Rattle.dmis_program.specs.declared.sayings.StatementMeaning.TheVariants as said
+use Rattle.program_lowering.specs.Prompts.{Answer, answered}
 use Rattle.program_lowering.specs.Words.{left_out, passed_reason}
 use Rattle.program_lowering.specs.Manual.{in_manual, is_skipped}
 use Rattle.program_lowering.specs.Flats.{Flat, flat_line, note_line, with_pass}
@@ -80,18 +81,18 @@ passes_below choices above (s ∷ statements) =
 abbrev pub kept_passes : Choices → List Statement → List ℕ
 kept_passes choices statements = passes_below choices [] statements
 
--- the statements of a text as they are carried out, with their values and in Cartesian coordinates
-abbrev pub valued_statements : List ℕ → List Statement
-valued_statements text = all_cartesian no_reference (all_valued [] (carried_out (text_reading text).statements))
+-- the statements of a text with answers as they are carried out, with their values and in Cartesian coordinates
+abbrev pub valued_statements : List Answer → List ℕ → List Statement
+valued_statements answers text = all_cartesian no_reference (all_valued [] (carried_out (map (answered answers) (text_reading text).statements)))
 
 -- and with the touches that blocks are given
-abbrev pub prepared : Choices → List ℕ → List Statement
-prepared choices text = touched_from choices [] (valued_statements text)
+abbrev pub prepared : Choices → List Answer → List ℕ → List Statement
+prepared choices answers text = touched_from choices [] (valued_statements answers text)
 
 -- what those that count mean in millimetres, up to a text for the operator that one line cannot hold, or the first refusal with its line
-abbrev pub lowered_meaning : List (List ℕ × Point) → Choices → List ℕ → Result Meaning (Refusal × ℕ)
-lowered_meaning frames choices text =
-    meaning_of frames (up_to_refused (text_reading text).fault (all_stated [] (kept choices (prepared choices text)))) (length (lines text))
+abbrev pub lowered_meaning : List (List ℕ × Point) → Choices → List Answer → List ℕ → Result Meaning (Refusal × ℕ)
+lowered_meaning frames choices answers text =
+    meaning_of frames (up_to_refused (text_reading text).fault (all_stated [] (kept choices (prepared choices answers text)))) (length (lines text))
 
 -- a statement that closes the program
 abbrev pub is_closing : Result StatementMeaning Refusal → Bool
@@ -130,8 +131,8 @@ abbrev pub ended_lines : List (List ℕ) → List ℕ
 ended_lines written = flat_map ended written
 
 -- the flat program of a text, but for its head
-abbrev pub flat_program : Choices → List ℕ → List ℕ
-flat_program choices text = ended_lines (flat_lines (kept_passes choices (prepared choices text)) (all_stated [] (kept choices (prepared choices text))))
+abbrev pub flat_program : Choices → List Answer → List ℕ → List ℕ
+flat_program choices answers text = ended_lines (flat_lines (kept_passes choices (prepared choices answers text)) (all_stated [] (kept choices (prepared choices answers text))))
 
 -- why nothing is written of a statement: it is left out, or commands nothing
 abbrev pub passed_over : Statement → Result StatementMeaning Refusal → Option Reason
@@ -156,6 +157,6 @@ notes_from choices above [] = []
 notes_from choices above (s ∷ statements) = note_at (left_out_at choices above s) s (counted_at choices above s)
     ++ (if is_closing (saying (counted_at choices above s)) then [] else notes_from choices (s ∷ above) statements)
 
-abbrev pub notes_of : Choices → List ℕ → List ℕ
-notes_of choices text = notes_from choices [] (prepared choices text)
-    ++ if_stored choices (frame_notes (all_stated [] (kept choices (prepared choices text))))
+abbrev pub notes_of : Choices → List Answer → List ℕ → List ℕ
+notes_of choices answers text = notes_from choices [] (prepared choices answers text)
+    ++ if_stored choices (frame_notes (all_stated [] (kept choices (prepared choices answers text))))

@@ -78,7 +78,7 @@ pub(crate) fn push_between(
 }
 
 /// Appends letters as capitals.
-fn push_capitals(out: &mut Vec<u8>, letters: &[u8]) -> Result<(), AllocError>
+pub(crate) fn push_capitals(out: &mut Vec<u8>, letters: &[u8]) -> Result<(), AllocError>
     ensures { OnOk result (out.new.items ≡ out.old.items ++ map to_ascii_uppercase letters.now) }
 {
     for letter in letters {

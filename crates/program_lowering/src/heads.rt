@@ -1,10 +1,11 @@
 // The comments before a flat program.
 
-ghost use Rattle.std.specs.Prelude.{◌≡◌, ◌++◌, IfOk, OnOk, string_bytes};
-ghost use Rattle.program_lowering.specs.Heads.{given_options, head_lines, names_of, option_text, or_none, setup_name, shown_byte, shown_name};
+ghost use Rattle.std.specs.Prelude.{◌≡◌, ◌++◌, ◌∷◌, IfOk, OnOk, map, string_bytes};
+ghost use Rattle.program_lowering.specs.Heads.{given_options, head_lines, names_of, option_text, or_none, setup_name, shown_byte, shown_name, value_line};
 ghost use Rattle.program_lowering.specs.Lowering.{ended_lines};
 
 use crate::flats::{front, push_named};
+use crate::prompts::Answer;
 use crate::words::Choices;
 use record_text::digest_of;
 use std::alloc::{AllocError, Global};
@@ -82,16 +83,42 @@ fn or_none(options: &[u8]) -> &[u8]
     }
 }
 
-/// The lines of a flat program after its head: the name of its source with the digest of that text, the name of the setup, and the options.
+/// An answer in a comment.
+fn value_text(alloc: Global, answer: &Answer) -> Result<Vec<u8>, AllocError>
+    ensures { IfOk result (λ text. text.items
+        ≡ shown_name (answer.now.name ++ 61 ∷ answer.now.text)) }
+{
+    let mut text = Vec::from_slice(alloc, answer.name())?;
+    text.push(b'=')?;
+    text.extend_from_slice(answer.text())?;
+    shown_name(alloc, text.as_slice())
+}
+
+/// Appends a line for each answer.
+fn push_values(out: &mut Vec<u8>, answers: &[Answer]) -> Result<(), AllocError>
+    ensures { OnOk result (out.new.items
+        ≡ out.old.items ++ ended_lines (map value_line answers.now)) }
+{
+    let [answer, others @ ..] = answers else {
+        return Ok(());
+    };
+    let text = value_text(*out.allocator(), answer)?;
+    push_named(out, b"$$ value: ", text.as_slice())?;
+    push_values(out, others)
+}
+
+/// The lines of a flat program after its head: the name of its source with the digest of that text, the name of the setup, the options,
+/// and the answers.
 pub(crate) fn with_head(
     alloc: Global,
     names: SourceNames<'_>,
     choices: Choices,
+    answers: &[Answer],
     source: &[u8],
     lines: &[u8],
 ) -> Result<Vec<u8>, AllocError>
     ensures { IfOk result (λ text. text.items ≡ ended_lines (head_lines
-        (names_of names.entry.program.now names.entry.setup.now) choices source.now)
+        (names_of names.entry.program.now names.entry.setup.now) choices answers.now source.now)
         ++ lines.now) }
 {
     let program = shown_name(alloc, names.program.as_bytes())?;
@@ -104,6 +131,7 @@ pub(crate) fn with_head(
     push_named(&mut head, b"$$ SHA-256 of the source: ", digest.as_bytes())?;
     push_named(&mut head, b"$$ setup: ", setup.as_slice())?;
     push_named(&mut head, b"$$ options:", or_none(options.as_slice()))?;
+    push_values(&mut head, answers)?;
     head.extend_from_slice(lines)?;
     Ok(head)
 }

@@ -22,16 +22,17 @@ ghost use Rattle.program_lowering.specs.declared.cartesian.AngleUnit.TheVariants
 ghost use Rattle.program_lowering.specs.declared.cartesian.Plane.TheVariants.{Xy, Yz, Zx};
 ghost use Rattle.program_lowering.specs.declared.cartesian.Reference.{Reference};
 ghost use Rattle.program_lowering.specs.Acts.{acts_of};
-ghost use Rattle.program_lowering.specs.Examples.{all_choices, assign, bare, declare_x, first_by_hand, manual_front, measured, mode_man, mode_prog, plain_choices, start, to_operator, a_touch, make_a, make_a_on_7, make_b, recall_a, naming_a, naming_none, of_setup, saving, two_frames, labelled, x_is_five, a_move, around, below, by_ten, placed, bore_a, block_a, end_of_block, given_below, minus, moves_on, no_blocks, no_bores, on_line, on_wall, three_of_a, to_five, told_of, two_rounds, upright, from_five};
+ghost use Rattle.program_lowering.specs.Examples.{all_choices, assign, bare, declare_x, first_by_hand, manual_front, measured, mode_man, mode_prog, plain_choices, start, to_operator, a_touch, make_a, make_a_on_7, make_b, recall_a, naming_a, naming_none, of_setup, saving, two_frames, labelled, x_is_five, a_move, around, below, by_ten, placed, bore_a, block_a, end_of_block, given_below, minus, moves_on, no_blocks, no_bores, on_line, on_wall, three_of_a, to_five, told_of, two_rounds, upright, from_five, answers_n, ask_n, only_m};
 ghost use Rattle.program_lowering.specs.EvenTouches.{EachBelow, all_touched, bore_named, is_touch, last_of, to_centre, touches_before, waiting};
 ghost use Rattle.program_lowering.specs.declared.even.Bore.{Bore};
 ghost use Rattle.program_lowering.specs.declared.even.Wanted.{Wanted};
 ghost use Rattle.program_lowering.specs.Flats.{flat, flat_text, with_pass};
-ghost use Rattle.program_lowering.specs.Heads.{IsComment, Names, head_lines};
+ghost use Rattle.program_lowering.specs.Heads.{IsComment, Names, head_lines, value_line};
 ghost use Rattle.program_lowering.specs.Inches.{all_stated, in_inches, in_millimetres, inch_length, stated};
 ghost use Rattle.program_lowering.specs.Lowering.{are_apart, counted_at, ended_lines, flat_program, is_on, kept, kept_passes, left_out_at, lowered_meaning, passed_over, passes_over, prepared, valued_statements};
 ghost use Rattle.program_lowering.specs.Manual.{in_manual, is_skipped};
 ghost use Rattle.program_lowering.specs.OperatorTexts.{TextsFit, flat_meant, text_refusal};
+ghost use Rattle.program_lowering.specs.Prompts.{Answer, answer_of, answered, asked};
 ghost use Rattle.program_lowering.specs.StoredFrames.{by_frame, frame_note, frame_notes, is_used, stored_frame};
 ghost use Rattle.program_lowering.specs.Reasons.{detail};
 ghost use Rattle.program_flow.specs.Flow.{carried};
@@ -44,19 +45,20 @@ ghost use Rattle.program_lowering.specs.declared.words.Reason.TheVariants as rea
 /// A flat program is accepted as it is written, and has the features and steps of the program that it was written of, whatever comments
 /// are before it.
 pub fn flat_programs_read_back()
-    ensures { (frames : List (List ℕ × Point)) (choices : Choices) (text : List ℕ)
-        (heads : List (List ℕ)) (m : Meaning) → length text < 2 ^ 64
-        → AllByRecursion IsComment heads → lowered_meaning frames choices text ≡ Ok m
-        → program_of frames (ended_lines heads ++ flat_program choices text) ≡ Ok m }
+    ensures { (frames : List (List ℕ × Point)) (choices : Choices) (answers : List Answer)
+        (text : List ℕ) (heads : List (List ℕ)) (m : Meaning) → length text < 2 ^ 64
+        → AllByRecursion IsComment heads → lowered_meaning frames choices answers text ≡ Ok m
+        → program_of frames (ended_lines heads ++ flat_program choices answers text) ≡ Ok m }
 {}
 
 /// A flat program shows the texts for the operator of its source, unchanged and in their places between the steps.
 pub fn texts_stay_in_their_places()
-    ensures { (frames : List (List ℕ × Point)) (choices : Choices) (text : List ℕ)
-        (heads : List (List ℕ)) (m : Meaning) → length text < 2 ^ 64
-        → AllByRecursion IsComment heads → lowered_meaning frames choices text ≡ Ok m
-        → acts_of frames (text_reading (ended_lines heads ++ flat_program choices text)).statements
-        ≡ acts_of frames (all_stated [] (kept choices (prepared choices text))) }
+    ensures { (frames : List (List ℕ × Point)) (choices : Choices) (answers : List Answer)
+        (text : List ℕ) (heads : List (List ℕ)) (m : Meaning) → length text < 2 ^ 64
+        → AllByRecursion IsComment heads → lowered_meaning frames choices answers text ≡ Ok m
+        → acts_of frames
+        (text_reading (ended_lines heads ++ flat_program choices answers text)).statements
+        ≡ acts_of frames (all_stated [] (kept choices (prepared choices answers text))) }
 {}
 
 /// An inch is exactly 25.4 millimetres: a length in inches, read to a millionth, is written as the whole micrometre nearest to it.
@@ -202,8 +204,9 @@ pub fn examples_of_references()
 
 /// Unless it is chosen, no block is given touches.
 pub fn nothing_is_given_unasked()
-    ensures { (choices : Choices) (text : List ℕ) → choices.even_touches ≡ false
-        → prepared choices text ≡ valued_statements text }
+    ensures { (choices : Choices) (answers : List Answer) (text : List ℕ)
+        → choices.even_touches ≡ false
+        → prepared choices answers text ≡ valued_statements answers text }
 {}
 
 /// A block with a touch is given nothing.
@@ -370,17 +373,41 @@ pub fn examples_of_frames()
         ++ (frame_note 1 (Ok (Recalls (codes "B"))) 1 ++ []) }
 {}
 
-/// The head of a flat program is comments alone.
-pub fn heads_are_comments()
-    ensures { (names : Names) (choices : Choices) (text : List ℕ)
-        → AllByRecursion IsComment (head_lines names choices text) }
+/// A statement that asks for no value stays, whatever is answered; and without answers each stays.
+pub fn what_is_not_answered_stays()
+    ensures others { (answers : List Answer) (s : Statement) → asked s ≡ None
+        → answered answers s ≡ s }
+    ensures unanswered { (statements : List Statement) → map (answered []) statements ≡ statements }
 {}
 
-/// A program that is flat already keeps its features and steps, whatever is chosen, if one line can hold each of its texts for the operator.
+/// Examples: a question is answered by the first answer of its name, which is read as `ASSIGN` would be on its line; and what is not answered.
+#[tactic(auto, unfolding(program_flow::specs::Macros::said_by))]
+pub fn examples_of_answers()
+    ensures first { answered answers_n ask_n ≡ on_line 7 (assign (codes "N") (codes "X+2")) }
+    ensures text { (answered (answer_of (codes "N") (codes "'a, b'") ∷ []) ask_n).params
+        ≡ codes "'a, b'" ∷ [] }
+    ensures another { answered only_m ask_n ≡ ask_n }
+    ensures several { answered (answer_of (codes "N") (49 ∷ (10 ∷ (50 ∷ []))) ∷ []) ask_n ≡ ask_n }
+    ensures damaged { answered (answer_of (codes "N") (49 ∷ (7 ∷ [])) ∷ []) ask_n ≡ ask_n }
+    ensures assigned { answered answers_n (assign (codes "N") (codes "5"))
+        ≡ assign (codes "N") (codes "5") }
+    ensures unlabelled { answered answers_n (record ask_n { label = None })
+        ≡ record ask_n { label = None } }
+    ensures shown { map value_line answers_n ≡ codes "$$ value: M=1"
+        ∷ (codes "$$ value: N=x+2" ∷ (codes "$$ value: N=4" ∷ [])) }
+{}
+
+/// The head of a flat program is comments alone.
+pub fn heads_are_comments()
+    ensures { (names : Names) (choices : Choices) (answers : List Answer) (text : List ℕ)
+        → AllByRecursion IsComment (head_lines names choices answers text) }
+{}
+
+/// A program that is flat already keeps its features and steps, whatever is chosen and answered, if one line can hold each of its texts for the operator.
 pub fn flat_sources_keep_their_meaning()
-    ensures { (frames : List (List ℕ × Point)) (choices : Choices) (text : List ℕ) (m : Meaning)
-        → TextsFit text → program_of frames text ≡ Ok m
-        → lowered_meaning frames choices text ≡ Ok m }
+    ensures { (frames : List (List ℕ × Point)) (choices : Choices) (answers : List Answer)
+        (text : List ℕ) (m : Meaning) → TextsFit text → program_of frames text ≡ Ok m
+        → lowered_meaning frames choices answers text ≡ Ok m }
 {}
 
 /// Examples: a text for the operator is written as it is read, and refused if it has a mark outside its texts; other texts are not written.

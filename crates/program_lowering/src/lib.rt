@@ -7,6 +7,7 @@
 //! - `inches`: what a statement says whose lengths are in inches
 //! - `manual`: what is left to the operator
 //! - `stored`: frames of the setup in place of alignments
+//! - `prompts`: answers to what a program asks for
 //! - `values`: statements with the values of variables; `cartesian`: and with Cartesian coordinates
 //! - `even`: the touches that a block is given
 //! - `heads`: the comments before a flat program
@@ -28,6 +29,7 @@ mod lowering;
 mod manual;
 pub mod near_laws;
 mod passes;
+mod prompts;
 mod stored;
 mod texts;
 mod values;
@@ -36,6 +38,7 @@ mod words;
 pub use heads::SourceNames;
 pub use lowering::{Lowered, lower};
 pub use manual::{is_skipped, manual_after};
+pub use prompts::{Answer, asked};
 pub use stored::selects_frame;
 pub use texts::{begins_with, is_among, is_operator_text, without_cart};
 pub use words::{Choices, Reason, left_out};

@@ -1,6 +1,6 @@
 // The flat program of a text.
 
-ghost use Rattle.std.specs.Prelude.{◌≡◌, ◌≤◌, ◌<◌, ◌++◌, ◌∷◌, [], OnOk, IfOk, IfErr, List, Ok, Option, Some, true};
+ghost use Rattle.std.specs.Prelude.{◌≡◌, ◌≤◌, ◌<◌, ◌++◌, ◌∷◌, [], OnOk, IfOk, IfErr, List, Ok, Option, Some, map, true};
 ghost use Rattle.dmis_program.specs.Keywords.{is_among, keyword_of};
 ghost use Rattle.dmis_program.specs.Meaning.{closes, ended};
 ghost use Rattle.dmis_program.specs.Outcomes.{fault_at, refused_at, Gives};
@@ -12,6 +12,7 @@ ghost use Rattle.program_lowering.specs.Heads.{names_of};
 ghost use Rattle.program_lowering.specs.declared.words.Reason.TheVariants.{Touched};
 ghost use Rattle.program_lowering.specs.Lowered.{GivesLowered};
 ghost use Rattle.program_lowering.specs.Lowering.{note_for, note_start, passed_over};
+ghost use Rattle.program_lowering.specs.Prompts.{answered};
 ghost use Rattle.program_lowering.specs.StoredFrames.{by_frame, if_stored};
 ghost use Rattle.program_lowering.specs.Carried.{Carried};
 ghost use Rattle.tool_rack.specs.Setups.{has_name};
@@ -25,6 +26,7 @@ use crate::inches::inches_after;
 use crate::lines::{push_line, text_refusal};
 use crate::manual::{is_skipped, manual_after};
 use crate::passes::PassTable;
+use crate::prompts::{Answer, answered};
 use crate::stored::{FrameNotes, FrameUses, stored_frame};
 use crate::texts::is_operator_text;
 use crate::values::{Values, read_back};
@@ -150,19 +152,20 @@ fn fault_at(fault: StatementFault, line: u64) -> ProgramFault
     }
 }
 
-/// The statements of a text up to its end, or up to a line that cannot be read, with the refusal of that.
+/// The statements of a text with these answers up to its end, or up to a line that cannot be read, with the refusal of that.
 fn read_all<'a>(
     alloc: Global,
+    answers: &'a [Answer],
     statements: &mut Statements<'a>,
 ) -> Result<(Vec<Statement<'a>>, Option<TextFault>), AllocError>
-    ensures all { IfOk result (λ r. r.0.items ≡ statements.old.left) }
+    ensures all { IfOk result (λ r. r.0.items ≡ map (answered answers.now) statements.old.left) }
     ensures end { IfOk result (λ r. r.1 ≡ statements.old.fault) }
     ensures lines { statements.new.lines ≡ statements.old.lines }
 {
     let mut all = Vec::new(alloc);
     loop {
         match statements.next() {
-            Ok(Some(statement)) => all.push(statement)?,
+            Ok(Some(statement)) => all.push(answered(alloc, answers, statement)?)?,
             Ok(None) => return Ok((all, None)),
             Err(TextFault::Memory) => return Err(AllocError),
             Err(fault) => return Ok((all, Some(fault))),
@@ -535,11 +538,12 @@ fn lines_of(
     bytes: &[u8],
     frames: &Frames,
     choices: Choices,
+    answers: &[Answer],
 ) -> Result<Lowered, ProgramFault>
-    ensures { GivesLines frames.now choices bytes.now result }
+    ensures { GivesLines frames.now choices answers.now bytes.now result }
 {
     let mut statements = Statements::new(alloc, bytes);
-    let Ok((all, end)) = read_all(alloc, &mut statements) else {
+    let Ok((all, end)) = read_all(alloc, answers, &mut statements) else {
         return Err(ProgramFault::Memory);
     };
     let Ok(mut flow) = Flow::new(alloc, all) else {
@@ -575,7 +579,7 @@ fn lines_of(
 }
 
 /// The flat program that a text stands for, up to its `ENDFIL`, with a head and with what was decided; `frames` are those that it may
-/// recall.
+/// recall, and `answers` those to its `NAME=PROMPT/..`, of which the first of a name counts.
 ///
 /// Statements that measure and move nothing, and those that the choices name, are left out. What else a flat program cannot have is
 /// refused. The first refusal is answered with its line, as `Program::read` refuses the text without the statements that are left out.
@@ -585,14 +589,15 @@ pub fn lower(
     alloc: Global,
     names: SourceNames<'_>,
     choices: Choices,
+    answers: &[Answer],
     frames: &Frames,
     source: &[u8],
 ) -> Result<Lowered, ProgramFault>
     ensures { GivesLowered (names_of names.entry.program.now names.entry.setup.now) choices
-        frames.now source.now result }
+        answers.now frames.now source.now result }
 {
-    let Lowered { text, notes } = lines_of(alloc, source, frames, choices)?;
-    match with_head(alloc, names, choices, source, text.as_slice()) {
+    let Lowered { text, notes } = lines_of(alloc, source, frames, choices, answers)?;
+    match with_head(alloc, names, choices, answers, source, text.as_slice()) {
         Ok(text) => Ok(Lowered { text, notes }),
         Err(_) => Err(ProgramFault::Memory),
     }

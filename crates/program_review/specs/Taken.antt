@@ -10,6 +10,7 @@ use Rattle.dmis_program.specs.declared.keywords.Keyword.TheVariants as word
 use Rattle.program_flow.specs.Calls.{is_of_flow}
 use Rattle.program_flow.specs.LookBack.{target}
 use Rattle.program_lowering.specs.Manual.{is_skipped, manual_after}
+use Rattle.program_lowering.specs.Prompts.{asked}
 use Rattle.program_lowering.specs.StoredFrames.{selects_frame}
 use Rattle.program_lowering.specs.Texts.{begins_with}
 use Rattle.program_lowering.specs.Words.{every, left_out}
@@ -57,7 +58,8 @@ taken_for (Some reason.Touched) = taken.No
 taken_for (Some _) = taken.LeftOut
 
 abbrev pub taken_unread : Statement → Taken
-taken_unread s = if is_written s then taken.Written else if selects_frame s then taken.With choice.StoredFrames else taken_for (left_out every s)
+taken_unread s = if is_written s then taken.Written else if selects_frame s then taken.With choice.StoredFrames else
+    if is_some (asked s) then taken.With choice.Value else taken_for (left_out every s)
 
 -- by the refusal; a move that is computed has its values
 abbrev pub taken_with : Around → (computed : Bool) → Refusal → Statement → Taken

@@ -18,7 +18,7 @@ ghost use Rattle.fixed_um.specs.declared.numerals.NumeralFault.TheVariants.{TooM
 ghost use Rattle.dmis_program.specs.declared.faults.Refusal.TheVariants.{NotDmis, NotMillimetres, NoProgMode, TooFewPoints, Unsupported};
 ghost use Rattle.program_review.specs.Examples.{alone, at, at_fault, beginning, said, going, labelled, ending, named, one_of_two, moving, gap, measuring, taking, takes, touching, unlabelled};
 ghost use Rattle.program_review.specs.Taken.{around_after, nothing_around, taken_by};
-ghost use Rattle.program_review.specs.declared.taking.Choice.TheVariants.{NoClearing, Compensated, SkipManual, StoredFrames, EvenTouches};
+ghost use Rattle.program_review.specs.declared.taking.Choice.TheVariants.{NoClearing, Compensated, SkipManual, StoredFrames, EvenTouches, Value};
 ghost use Rattle.program_review.specs.declared.taking.Taken.TheVariants as taken;
 
 /// A text is shown from the line of a number on, from its last line on if it has fewer.
@@ -202,6 +202,9 @@ pub fn refused_statements_that_options_take()
     ensures alignment { taking Unsupported (named (codes "D(A)") (codes "DATSET"))
         ≡ taken.With StoredFrames }
     ensures recall { takes Unsupported (codes "RECALL") (codes "DA(A)") ≡ taken.With StoredFrames }
+    ensures question { taking Unsupported (named (codes "X") (codes "PROMPT"))
+        ≡ taken.With Value }
+    ensures nameless { takes Unsupported (codes "PROMPT") (codes "'X'") ≡ taken.No }
     ensures mode { takes NoProgMode (codes "MODE") (codes "MAN") ≡ taken.With SkipManual }
     ensures other_mode { takes NoProgMode (codes "MODE") (codes "AUTO") ≡ taken.No }
     ensures manual { taken_by (around_after nothing_around (alone (codes "MODE") (codes "MAN")))

@@ -78,6 +78,7 @@ pub(crate) fn taken_end(taken: Taken) -> &'static str {
             " dme lower --stored-frames takes a frame of the setup in its place."
         }
         Taken::With(Choice::EvenTouches) => " dme lower --even-touches gives its block touches.",
+        Taken::With(Choice::Value) => " dme lower --value NAME=TEXT answers it.",
     }
 }
 

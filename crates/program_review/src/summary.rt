@@ -210,6 +210,7 @@ fn call_text(alloc: Global, found: &[Remark]) -> Result<String, AllocError> {
         (Choice::SkipManual, " --skip-manual"),
         (Choice::StoredFrames, " --stored-frames"),
         (Choice::EvenTouches, " --even-touches"),
+        (Choice::Value, " --value NAME=TEXT"),
     ];
     let mut call = String::from_str(alloc, "dme lower")?;
     for option in options.as_slice() {

@@ -9,7 +9,7 @@ use dmis_program::{Keyword, Refusal};
 use dmis_text::{Statement, Text};
 use program_flow::{is_of_flow, is_text};
 use program_lowering::{
-    Choices, Reason, begins_with, is_skipped, left_out, manual_after, selects_frame,
+    Choices, Reason, asked, begins_with, is_skipped, left_out, manual_after, selects_frame,
 };
 use std::alloc::{AllocError, Global};
 
@@ -21,6 +21,8 @@ pub enum Choice {
     SkipManual,
     StoredFrames,
     EvenTouches,
+    /// `--value NAME=TEXT`.
+    Value,
 }
 
 /// How `dme lower` takes a refused statement, looked at alone.
@@ -122,6 +124,8 @@ fn taken_unread(alloc: Global, keyword: Keyword, statement: &Statement) -> Resul
         Ok(Taken::Written)
     } else if selects_frame(alloc, keyword, statement)? {
         Ok(Taken::With(Choice::StoredFrames))
+    } else if asked(statement).is_some() {
+        Ok(Taken::With(Choice::Value))
     } else {
         Ok(taken_for(left_out(Choices::every(), keyword, statement)))
     }

@@ -16,7 +16,7 @@ returns-in_default-next-2 c =
     let end = c.in-Ok.ensures.end ∙ c.new-statements.ensures.fault in
     let count = c.lines.ensures ∙ (c.in-Ok.ensures.lines ∙ c.new-statements.ensures.lines) in
     let rest = λ (ss : List Statement). touched_from c.args.choices known.2.0 (all_cartesian c.loop-next.reference (all_valued known.0 ss)) in
-    rw (c.missing_end.ensures, end, count) (at_end c.args.frames.now c.args.choices c.args.bytes.now
+    rw (c.missing_end.ensures, end, count) (at_end c.args.frames.now c.args.choices c.args.answers.now c.args.bytes.now
     (rest (left_of c.loop-next.flow known.0)) c.loop-next.lowering (ap rest none ∙ no_more c.args.choices known.2.0) known.2.2)
 
 pub take_given-requires : goal.take_given-requires
@@ -43,8 +43,8 @@ returns-in-Ok-true c =
     let due = rw c.in-Ok-true.field-0-test at (c.in-Ok-true.ensures known.0 next.0 of known.1).0.0 in
     let closed = closes_at c.args.frames.now c.args.choices (text_reading c.args.bytes.now).fault (length (lines c.args.bytes.now)) s.line _ _ _
     c.loop-next.lowering c.take_given.new.lowering split on due in
-    let w = written_of c.args.frames.now c.args.choices c.args.bytes.now _ (sym known.2.2 ∙ closed) in
-    finished c.args.frames.now c.args.choices c.args.bytes.now _ _ c.finish.result w c.finish.ensures.text c.finish.ensures.notes c.finish.ensures.err
+    let w = written_of c.args.frames.now c.args.choices c.args.answers.now c.args.bytes.now _ (sym known.2.2 ∙ closed) in
+    finished c.args.frames.now c.args.choices c.args.answers.now c.args.bytes.now _ _ c.finish.result w c.finish.ensures.text c.finish.ensures.notes c.finish.ensures.err
 
 pub returns-in-Err : goal.returns-in-Err
 returns-in-Err c =
@@ -57,8 +57,8 @@ returns-in-Err c =
     let on = due_on c.args.choices c.loop-next.even s in
     let v = valued known.0 next.0 in
     let line = same_place v (made_cartesian c.loop-next.reference v) ∙ same_place next.0 (new_params known.0 next.0) in
-    rw c.fault_at.ensures (subst (λ (n : ℕ). GivesLines c.args.frames.now c.args.choices c.args.bytes.now (Err (fault_at c.in-Err.fault n)))
-    (line ∙ sym (c.line_of.ensures next.0 of)) (at_statement c.args.frames.now c.args.choices c.args.bytes.now c.in-Err.fault
+    rw c.fault_at.ensures (subst (λ (n : ℕ). GivesLines c.args.frames.now c.args.choices c.args.answers.now c.args.bytes.now (Err (fault_at c.in-Err.fault n)))
+    (line ∙ sym (c.line_of.ensures next.0 of)) (at_statement c.args.frames.now c.args.choices c.args.answers.now c.args.bytes.now c.in-Err.fault
     (text_reading c.args.bytes.now).fault (length (lines c.args.bytes.now)) s.line _ _ _ c.loop-next.lowering c.take_given.new.lowering split on
     (c.in-Err.ensures known.0 next.0 of known.1).0.0 known.2.2))
 
@@ -68,7 +68,7 @@ loop-next-preserved-in-Ok-false c =
     let next = rw c.in-Some.is at (c.in-Ok-next.ensures.given known.0 known.1.holds) in
     let of = subst (λ (ss : List Statement). IsGiven ss c.in-Some.given next.0) (sym (c.outside-outside.ensures ∙ c.next.ensures.outside)) next.1 in
     let taken = c.in-Ok-false.ensures known.0 next.0 of known.1 in
-    goes_round c.args.frames.now c.args.choices c.args.bytes.now known.2.0 known.0 (left_of c.loop-next.flow known.0) (left_of c.next.new.self)
+    goes_round c.args.frames.now c.args.choices c.args.answers.now c.args.bytes.now known.2.0 known.0 (left_of c.loop-next.flow known.0) (left_of c.next.new.self)
     c.loop-next.reference c.take_given.new.reference c.loop-next.even c.take_given.new.even c.loop-next.lowering c.take_given.new.lowering next.0
     c.take_given.new.values.variables c.take_given.new.values.declared known.2.1 next.2 (rw c.in-Ok-false.field-0-test at taken.0.0) taken.0.1.0
     taken.0.1.1 taken.1 known.2.2
@@ -79,7 +79,7 @@ loop-next-preserved c =
     let next = rw c.in-Some.is at (c.in-Ok-next.ensures.given known.0 known.1.holds) in
     let of = subst (λ (ss : List Statement). IsGiven ss c.in-Some.given next.0) (sym (c.outside-outside.ensures ∙ c.next.ensures.outside)) next.1 in
     let taken = c.in-Ok-false.ensures known.0 next.0 of known.1 in
-    goes_round c.args.frames.now c.args.choices c.args.bytes.now known.2.0 known.0 (left_of c.loop-next.flow known.0) (left_of c.next.new.self)
+    goes_round c.args.frames.now c.args.choices c.args.answers.now c.args.bytes.now known.2.0 known.0 (left_of c.loop-next.flow known.0) (left_of c.next.new.self)
     c.loop-next.reference c.take_given.new.reference c.loop-next.even c.take_given.new.even c.loop-next.lowering c.take_given.new.lowering next.0
     c.take_given.new.values.variables c.take_given.new.values.declared known.2.1 next.2 (rw c.in-Ok-false.field-0-test at taken.0.0) taken.0.1.0
     taken.0.1.1 taken.1 known.2.2

@@ -14,7 +14,7 @@ abbrev pub invariant-loop-next : goal.invariant-loop-next
 invariant-loop-next l = (above : List Statement) × Knows above l.values.variables l.values.declared × ((told : List Statement) × Sees l.choices told l.even
     × (run l.frames l.choices (text_reading l.bytes).fault (length (lines l.bytes))
     (touched_from l.choices told (all_cartesian l.reference (all_valued above (left_of l.flow above)))) l.lowering
-    ≡ run l.frames l.choices (text_reading l.bytes).fault (length (lines l.bytes)) (prepared l.choices l.bytes) nothing_carried))
+    ≡ run l.frames l.choices (text_reading l.bytes).fault (length (lines l.bytes)) (prepared l.choices l.answers l.bytes) nothing_carried))
 
 abbrev pub decreases-loop-next : goal.decreases-loop-next
 decreases-loop-next l = size l.flow
