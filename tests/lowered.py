@@ -1,4 +1,4 @@
-"""Programs with variables, branches, selections, loops, jumps and macros, made at random and lowered.
+"""Programs with numbers and texts in variables, branches, selections, loops, jumps and macros, made at random and lowered.
 
 Each is carried out here, too, by a second reading: of the tree that its text is written from, with exact fractions, and with power series for
 the functions. The moves, in Cartesian coordinates, the touches that bores are given, their lines and passes, their order and where each decision
@@ -18,7 +18,9 @@ import tempfile
 
 from growths import PROGRAM, Wrong, must
 
-WHOLE, REAL = ("I", "J", "K"), ("X", "Y")
+WHOLE, REAL, TEXTS = ("I", "J", "K"), ("X", "Y"), ("S", "T")
+MOST_LETTERS = 5
+QUOTED = "'A'"
 COMPARISONS = {".LT.": "__lt__", ".LE.": "__le__", ".EQ.": "__eq__", ".NE.": "__ne__", ".GE.": "__ge__", ".GT.": "__gt__"}
 MOST = 3_000
 
@@ -97,6 +99,10 @@ FUNCTIONS = {
 }
 
 
+class Minutes(fractions.Fraction):
+    """An angle in degrees that is written with minutes."""
+
+
 class Refused(Exception):
     """The statement of this line cannot be carried out."""
 
@@ -138,7 +144,7 @@ class Made:
     """A program: its lines, and what they mean, as a list of parts, each with its line."""
 
     def __init__(self, seed):
-        self.random, self.lines, self.loops, self.labels = random.Random(seed), [], [], {}
+        self.random, self.lines, self.loops, self.labels, self.answers = random.Random(seed), [], [], {}, []
         # A macro calls those before it; now and then itself, one that is not there, or one with an argument too many.
         self.macros = [Macro(f"A{n}", self.random.sample(WHOLE + ("X", "N"), self.random.randint(0, 2))) for n in range(self.random.randint(0, 3))]
         self.called, self.params = list(self.macros), []
@@ -146,6 +152,11 @@ class Made:
     def add(self, text):
         self.lines.append(text)
         return len(self.lines)
+
+    def asks(self, name, value):
+        """A question to the operator, with its answer on the command line."""
+        self.answers += ["--value", f"{name}={value}"]
+        return f"PROMPT/'{name}?'"
 
     # An expression is its text, how strongly it binds (0 a sum, 1 a product, 2 an operand), and what it gives for values of names.
     def operand(self, names):
@@ -171,7 +182,10 @@ class Made:
 
     def condition(self, depth=2):
         """Likewise: an alternative binds least, then what holds together, then an opposite or a comparison."""
-        kind = self.random.choice(("compare", "compare", "or", "and", "not")) if depth else "compare"
+        kind = self.random.choice(("compare", "compare", "texts", "or", "and", "not")) if depth else "compare"
+        if kind == "texts":
+            one, other, mark = self.piece(), self.piece(), self.random.choice((".EQ.", ".NE."))
+            return f"{one[0]} {mark} {other[0]}", 2, lambda values: (one[2](values) == other[2](values)) == (mark == ".EQ.")
         if kind == "compare":
             one, other, mark = self.expression(WHOLE, 1), self.expression(WHOLE, 1), self.random.choice(list(COMPARISONS))
             return f"{one[0]} {mark} {other[0]}", 2, lambda values: getattr(one[2](values), COMPARISONS[mark])(other[2](values))
@@ -204,8 +218,22 @@ class Made:
         line = self.add(f"GOTO/{self.random.choice(('', 'CART,'))}{','.join(it[0] for it in texts)}")
         return lambda flow: flow.move(line, flow.decimals(line, texts))
 
-    def move_around(self):
+    def around(self):
+        """Polar coordinates; some angles are in degrees and minutes, some also in seconds."""
         texts = [self.number() for _ in range(3)]
+        if self.random.random() < 0.2:
+            sign, parts = self.random.choice(("", "", "-")), [self.random.randint(0, 399), self.random.randint(0, 59), self.random.randint(0, 599)]
+            text = f"{sign}{parts[0]}:{parts[1]:{self.random.choice(('', '02'))}}"
+            if self.random.random() < 0.5:
+                text += f":{parts[2] // 10}.{parts[2] % 10}"
+            else:
+                parts[2] = 0
+            value = parts[0] + fractions.Fraction(parts[1], 60) + fractions.Fraction(parts[2], 36_000)
+            texts[1] = text, lambda values: Minutes(-value if sign else value)
+        return texts
+
+    def move_around(self):
+        texts = self.around()
         line = self.add(f"GOTO/POL,{','.join(it[0] for it in texts)}")
         return lambda flow: flow.move(line, flow.around(line, texts))
 
@@ -215,9 +243,9 @@ class Made:
         return lambda flow: flow.move(line, flow.moved(line, distance, [fractions.Fraction(it) for it in direction]))
 
     def touch(self):
-        """A block of one touch, whose label ends with a whole number."""
-        name, texts = self.random.choice([it for it in WHOLE if it not in self.params]), [self.number() for _ in range(3)]
-        form = self.random.choice(("CART", "CART", "POL"))
+        """A block of one touch, whose label ends with a whole number or with a text."""
+        name, form = self.random.choice([it for it in WHOLE + TEXTS if it not in self.params]), self.random.choice(("CART", "CART", "POL"))
+        texts = self.around() if form == "POL" else [self.number() for _ in range(3)]
         first = self.add(f"MEAS/POINT,F(P@{name}),1")
         line = self.add(f"PTMEAS/{form},{','.join(it[0] for it in texts)},0,0,1")
         last = self.add("ENDMES")
@@ -236,25 +264,38 @@ class Made:
         return carry_out
 
     def bore(self):
-        """A block that is given its touches, but for a circle of two."""
-        plane, count = self.random.choice(list(PLANES)[:3]), self.random.choice((2, 3, 3, 4, 4, 5, 7, 12))
+        """A block that is given its touches, but for a circle of two, or a cylinder of two or of no length. Its label and its place may have values."""
+        plane, count, kind = self.random.choice(list(PLANES)[:3]), self.random.choice((2, 3, 3, 4, 4, 5, 7, 12)), self.random.choice(("CIRCLE", "CYLNDR"))
         centre = [fractions.Fraction(self.random.randint(-400, 400), 8) for _ in range(3)]
-        diameter, axis = fractions.Fraction(self.random.randint(1, 200), 4), ["0", "0", "0"]
-        axis[PLANES[plane][2]] = self.random.choice(("1", "-1"))
-        self.add(f"F(B)=FEAT/CIRCLE,INNER,CART,{','.join(str(float(it)) for it in centre)},{','.join(axis)},{float(diameter)}")
-        first = self.add(f"MEAS/CIRCLE,F(B),{count}")
+        diameter, axis, depth = fractions.Fraction(self.random.randint(1, 200), 4), [0, 0, 0], fractions.Fraction(self.random.randint(0, 90), 2)
+        axis[PLANES[plane][2]] = self.random.choice((1, -1))
+        numbers = [*map(float, centre), *axis, float(diameter)] + [float(depth)] * (kind == "CYLNDR")
+        names, text = [it for it in WHOLE if it not in self.params], None
+        name = self.random.choice(names) if names and self.random.random() < 0.5 else None
+        if name:
+            text = self.number()
+            numbers[0] = text[0]
+        label = f"F(B@{name})" if name else "F(B)"
+        self.add(f"{label}=FEAT/{kind},INNER,CART,{','.join(map(str, numbers))}")
+        count += 4 * (kind == "CYLNDR" and count > 2)
+        first = self.add(f"MEAS/{kind},{label},{count}")
         last = self.add("ENDMES")
+        levels = [(count, 0)] if kind == "CIRCLE" else [((count + 1) // 2, depth / 4), (count // 2, depth * 3 / 4)]
 
         def carry_out(flow):
-            if count == 2:
+            if count == 2 or kind == "CYLNDR" and depth == 0:
                 raise Refused(last)
+            if text:
+                centre[0] = flow.decimals(last, [text])[0]
             flow.comes_to(first)
-            flow.write(first, f"MEAS/CIRCLE,F(B),{count}")
+            flow.write(first, f"MEAS/{kind},F(B{flow.values[name] if name else ''}),{count}")
             flow.comes_to(last)
-            for it in range(count):
-                flow.write_move(last, centre)
-                flow.touch_outwards(last, centre, diameter / 2, turned(fractions.Fraction(360 * it, count), PI / 180), PLANES[plane])
-            flow.write_move(last, centre)
+            for most, way in levels:
+                middle = [at + rounded(way * it, 6) for at, it in zip(centre, axis)]
+                for it in range(most):
+                    flow.write_move(last, middle)
+                    flow.touch_outwards(last, middle, diameter / 2, turned(fractions.Fraction(360 * it, most), PI / 180), PLANES[plane])
+            flow.write_move(last, middle)
             flow.write(last, "ENDMES")
             flow.place = None
 
@@ -271,13 +312,13 @@ class Made:
 
     def unit(self):
         """From here on there is no place that a distance is from."""
-        name = self.random.choices(("ANGDEC", "ANGRAD", "ANGDMS"), (4, 4, 1))[0]
+        name = self.random.choices(("ANGDEC", "ANGRAD", "ANGDMS"), (4, 4, 3))[0]
         line = self.add(f"UNITS/MM,{name}")
 
         def carry_out(flow):
             flow.comes_to(line)
             flow.write(line, "UNITS/MM")
-            flow.unit, flow.place = {"ANGDEC": PI / 180, "ANGRAD": 1, "ANGDMS": None}[name], None
+            flow.unit, flow.place = name, None
 
         return carry_out
 
@@ -290,6 +331,27 @@ class Made:
 
         def carry_out(flow):
             flow.assign(line, name, value[2](flow.values))
+
+        return carry_out
+
+    def piece(self):
+        """A text, or the variable of one."""
+        if self.random.random() < 0.5:
+            name = self.random.choice(TEXTS)
+            return name, 2, lambda values: values[name]
+        text = "".join(self.random.choice("AB") for _ in range(self.random.randint(0, 2)))
+        return f"'{text}'", 2, lambda values: text
+
+    def assignment_of_text(self):
+        name, pieces = self.random.choice(TEXTS), [self.piece() for _ in range(self.random.choice((1, 1, 2, 3)))]
+        texts = ",".join(it[0] for it in pieces)
+        line = self.add(f"{name}=ASSIGN/{texts if len(pieces) == 1 else f'CONCAT({texts})'}")
+
+        def carry_out(flow):
+            text = "".join(it[2](flow.values) for it in pieces)
+            if len(text) > MOST_LETTERS:
+                raise Refused(line)
+            flow.values.variables[name] = text
 
         return carry_out
 
@@ -313,11 +375,12 @@ class Made:
     def selection(self, depth, targets):
         """Branches by the value of an expression: each has a list of texts, or none if it is for all other values. Some programs have a
         move between two branches, which refuses the selection if it comes before the branch that is wanted."""
-        wanted = self.expression(WHOLE, 1)
+        value = self.piece if self.random.random() < 0.3 else lambda: self.expression(WHOLE, 1)
+        wanted = value()
         line = self.add(f"SELECT/{wanted[0]}")
         kinds = self.random.choices(("case", "other", "move"), (14, 1, 1), k=self.random.randint(0, 3))
         kinds += ["other"] * (self.random.random() < 0.5)
-        branches = [getattr(self, f"branch_of_{it}")(depth, targets, wanted) for it in kinds]
+        branches = [getattr(self, f"branch_of_{it}")(depth, targets, wanted, value) for it in kinds]
         end = self.add("ENDSEL")
 
         def carry_out(flow):
@@ -333,10 +396,10 @@ class Made:
 
         return carry_out
 
-    def branch_of_case(self, depth, targets, wanted):
+    def branch_of_case(self, depth, targets, wanted, value):
         """Some texts of it are the wanted one, written in another way."""
-        texts = [self.expression(WHOLE, 1) for _ in range(self.random.randint(1, 3))]
-        if self.random.random() < 0.3:
+        texts = [value() for _ in range(self.random.randint(1, 3))]
+        if value != self.piece and self.random.random() < 0.3:
             number = self.random.randint(2, 7)
             same = f"({wanted[0]})*{number}/{number}", 1, wanted[2]
             texts.insert(self.random.randint(0, len(texts)), same)
@@ -345,13 +408,13 @@ class Made:
         self.add("ENDCAS")
         return texts, inner, head
 
-    def branch_of_other(self, depth, targets, _wanted):
+    def branch_of_other(self, depth, targets, *_):
         head = self.add("DFTCAS")
         inner = self.block(depth - 1, targets)
         self.add("ENDCAS")
         return None, inner, head
 
-    def branch_of_move(self, _depth, _targets, _wanted):
+    def branch_of_move(self, *_):
         self.move()
         return None, None, None
 
@@ -415,7 +478,7 @@ class Made:
         return carry_out
 
     def part(self, depth, targets):
-        kinds = ["move"] * 6 + ["touch"] * 3 + ["assignment"] * 3 + ["bore", "plane", "unit"]
+        kinds = ["move"] * 6 + ["touch"] * 3 + ["assignment"] * 3 + ["assignment_of_text", "bore", "plane", "unit"]
         kinds += 3 * ((["branch", "selection", "loop", "jump"] if depth else []) + ["call"] * bool(self.called))
         kind = self.random.choice(kinds)
         if kind in ("branch", "selection", "loop"):
@@ -440,7 +503,7 @@ class Flow:
 
     def __init__(self, lines):
         self.lines, self.values, self.out, self.leads, self.open, self.calls, self.turns = lines, Scope({}, {}), [], [], [], [], 0
-        self.plane, self.unit, self.place, self.passes = PLANES["XYPLAN"], PI / 180, None, collections.Counter()
+        self.plane, self.unit, self.place, self.passes = PLANES["XYPLAN"], "ANGDEC", None, collections.Counter()
 
     def comes_to(self, line):
         self.passes[line] += 1
@@ -474,16 +537,17 @@ class Flow:
     def decimals(self, line, texts):
         """Values of coordinates: one that is not whole is written with six decimals."""
         try:
-            return [rounded(it[1](self.values), 6) for it in texts]
+            values = [it[1](self.values) for it in texts]
+            return [it if isinstance(it, Minutes) else rounded(it, 6) for it in values]
         except NoValue:
             raise Refused(line) from None
 
     def around(self, line, texts):
         radius, angle, height = self.decimals(line, texts)
-        if self.plane is None or self.unit is None:
+        if self.plane is None or isinstance(angle, Minutes) and self.unit != "ANGDMS":
             raise Refused(line)
         try:
-            turn = angle if self.unit == 1 else turned(angle, self.unit)
+            turn = angle if self.unit == "ANGRAD" else turned(angle, PI / 180)
             values = radius * wave(turn, 0), radius * wave(turn, 1), height
         except NoValue:
             raise Refused(line) from None
@@ -550,10 +614,14 @@ def made(seed, again=0):
     else:
         program.add("DECL/GLOBAL,INTGR,I,J,K")
         program.add("DECL/GLOBAL,REAL,X,Y")
+        program.add(f"DECL/GLOBAL,CHAR,{MOST_LETTERS},S,T")
         for name in WHOLE + REAL:
             number = program.random.randint(0, 9)
-            program.add(f"{name}=ASSIGN/{number}")
+            program.add(f"{name}={f'ASSIGN/{number}' if program.random.random() < 0.8 else program.asks(name, number)}")
             flow.values[name] = fractions.Fraction(number)
+        for name in TEXTS:
+            program.add(f"{name}={'ASSIGN/' if name == 'T' else program.asks(name, QUOTED)}" + QUOTED * (name == "T"))
+            flow.values.variables[name] = "A"
         below = [it for it in enumerate(program.macros) if program.random.random() < 0.3]
         for index, macro in enumerate(program.macros):
             if (index, macro) not in below:
@@ -566,10 +634,10 @@ def made(seed, again=0):
     try:
         flow.block(parts)
     except Refused as refused:
-        return text, refused.args[0]
+        return text, program.answers, refused.args[0]
     except TooMuch:
         return made(seed, again + 1)
-    return text, (["DMISMN $$ line 1", f"SNSLCT/S(P1) $$ line {selected}", *flow.out, f"ENDFIL $$ line {last}"], flow.leads)
+    return text, program.answers, (["DMISMN $$ line 1", f"SNSLCT/S(P1) $$ line {selected}", *flow.out, f"ENDFIL $$ line {last}"], flow.leads)
 
 
 def flat_move(program):
@@ -578,8 +646,8 @@ def flat_move(program):
     return lambda flow: flow.move(line, [fractions.Fraction(it, 1000) for it in values])
 
 
-def lowered(text):
-    it = subprocess.run([str(PROGRAM), "lower", "--even-touches"], input=text, capture_output=True, text=True, check=False)
+def lowered(text, answers):
+    it = subprocess.run([str(PROGRAM), "lower", "--even-touches", *answers], input=text, capture_output=True, text=True, check=False)
     return it.returncode, it.stdout, it.stderr
 
 
@@ -589,15 +657,15 @@ def without_lines(statements):
 
 def check_one(seed):
     """Whether it was refused."""
-    text, expected = made(seed)
-    status, out, errors = lowered(text)
+    text, answers, expected = made(seed)
+    status, out, errors = lowered(text, answers)
     if isinstance(expected, int):
         must(status == 1 and errors.endswith(f" at line {expected}\n"), seed, expected, errors, text)
         return True
     statements = [it for it in out.splitlines() if not it.startswith("$$")]
     leads = [it for it in errors.splitlines() if ": it leads to line " in it]
     must(status == 0 and (statements, leads) == expected, seed, status, errors, text, out, expected)
-    status, again, errors = lowered(out)
+    status, again, errors = lowered(out, [])
     must(status == 0 and without_lines([it for it in again.splitlines() if not it.startswith("$$")]) == without_lines(statements), seed, "again", errors)
     return False
 

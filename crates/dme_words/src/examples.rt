@@ -17,7 +17,7 @@ pub fn control_rows()
     ensures none { controlled (codes "dme" ∷ codes "check" ∷ []) ≡ None }
 {}
 
-/// An answer is cut at its first `=`, and has a name; the first word that is none is refused.
+/// An answer is cut at its first `=`, and has a name; the first word that is not an answer is refused.
 pub fn answer_rows()
     ensures cut { answer_in (codes "n=a=B") ≡ Some (answer_of (codes "N") (codes "a=B")) }
     ensures empty { answer_in (codes "N=") ≡ Some (answer_of (codes "N") []) }

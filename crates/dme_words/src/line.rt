@@ -239,7 +239,7 @@ const LATER_LINES: [Line; 9] = lines! {
         Flag("compensated", "Says that the machine corrects for temperature");
         Flag("skip-manual", "Leaves out what the operator would measure, from MODE/MAN on");
         Flag("stored-frames", "Takes the frames of the setup for the alignments of their names");
-        Flag("even-touches", "Gives inner circles without touches even ones, each from the centre");
+        Flag("even-touches", "Gives inner circles and cylinders without touches even ones, each from the centre");
         Texts("value", "NAME=TEXT", "Answers NAME=PROMPT/.. with TEXT; one for each name");
         EXPLAIN; PROGRAM;
     }

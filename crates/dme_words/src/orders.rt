@@ -282,7 +282,7 @@ pub struct Lower {
     pub skip_manual: bool,
     /// Whether alignments select the stored frames of their names.
     pub stored_frames: bool,
-    /// Whether inner circles without touches are given even ones.
+    /// Whether inner circles and cylinders without touches are given even ones.
     pub even_touches: bool,
     /// The answers to what the program asks for.
     pub answers: Vec<Answer>,

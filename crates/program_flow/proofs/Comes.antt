@@ -11,7 +11,8 @@ use Rattle.program_flow.specs.Calls.{Frame, Step, call_by, call_of, ended_by, fi
 use Rattle.program_flow.specs.Macros.{Macro, Pair, all_with_arguments, begins_macro, body_of, both_or_none, ends_macro, has_end, has_label, macro_after, macro_name}
 use Rattle.program_flow.specs.Macros.{only_statement, outside_after, pairs_of, replaced_statement, said_by, statement_text, with_arguments}
 use Rattle.program_flow.specs.Blocks.{around, end_of, is_level, label_place, part_of, start_of}
-use Rattle.program_flow.specs.Flow.{Control, Header, Turn, Valuation, again, assignment, assigns, begun, branch, carried, choose_by, condition_of, do_by}
+use Rattle.program_flow.specs.Flow.{Control, Header, Turn, again, assignment, assigns, begun, branch, carried, choose_by, condition_of, do_by}
+use Rattle.program_flow.specs.Values.{Valuation, Value}
 use Rattle.program_flow.specs.Flow.{do_with, enddo_by, enter_at, enter_by, is_default, is_last, select_by}
 use Rattle.program_flow.specs.Flow.{first_text, gives_or, header_at, header_of, if_by, is_kept, jump_by, jump_of, leave_by, next_text}
 use Rattle.program_flow.specs.Flow.{only_assignment, other_branch, past_branch, round_by, round_of, round_with, to, turn, turn_at, turn_of, whole_value}
@@ -23,7 +24,6 @@ use Rattle.program_flow.specs.declared.blocks.Part.TheVariants.{If, Else, EndIf,
 use Rattle.program_flow.specs.declared.selections.Choice.{Choice}
 use Rattle.program_flow.specs.declared.selections.Choice.TheVariants.{Branch, NoBranch}
 use Rattle.program_flow.specs.Selections.{chosen, selected}
-use Rattle.program_flow.specs.Numbers.{Fraction}
 use Rattle.program_flow.proofs.Frames.{call-done, call-step}
 
 module _ (Q : Statement → Type 0) (assigned : (s a : Statement) → Q s → bytes_eq a.word (codes "ASSIGN") ≡ true → a.line ≡ s.line → Q a) where
@@ -113,7 +113,7 @@ module _ (Q : Statement → Type 0) (assigned : (s a : Statement) → Q s → by
   choose_comes all c s end (Some NoBranch) h = tt
   choose_comes all c s end (Some (Branch place)) h = enter_comes all c s place (drop place all) h
 
-  select_comes : (all : List Statement) (values : Valuation) (c : Control) (s : Statement) (below : List Statement) (f : Option Fraction) (end : Option ℕ)
+  select_comes : (all : List Statement) (values : Valuation) (c : Control) (s : Statement) (below : List Statement) (f : Option Value) (end : Option ℕ)
       → Q s → Comes (select_by all values c s below f end)
   select_comes all values c s below (Some f) (Some end) h = choose_comes all c s end (chosen values f 0 (c.place + 1) below) h
   select_comes all values c s below None end h = h

@@ -7,7 +7,8 @@ use Rattle.program_flow.specs.Variables.{Entry, entry_value}
 use Rattle.program_flow.specs.Calls.{Frame, Step, call_by, call_of, decision_at, ended_by, given_up_in, is_call, lifted, next_of, step, step_at, told_as, told_step}
 use Rattle.program_flow.specs.Calls.{trace, traced}
 use Rattle.program_flow.specs.Calls.Step.{Ends, Stops, Passes, Gives}
-use Rattle.program_flow.specs.Flow.{Valuation, carried, turn}
+use Rattle.program_flow.specs.Flow.{carried, turn}
+use Rattle.program_flow.specs.Values.{Valuation}
 use Rattle.program_flow.specs.Left.{GivesNext, IsGiven, Left, frames_of, left_of, size}
 use Rattle.program_flow.specs.Macros.{Macro, begins_macro, ends_macro, macro_named}
 use Rattle.program_flow.specs.Stepped.{HasEnded, ended_on}

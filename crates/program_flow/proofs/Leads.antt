@@ -4,7 +4,8 @@ use Rattle.std.specs.Prelude.{◌||◌, Err, Ok, Result, bytes_eq, get_or}
 use Rattle.std.specs.declared.alloc.AllocError.{AllocError}
 use Rattle.dmis_text.specs.declared.elements.Statement.{Statement}
 use Rattle.program_flow.specs.Calls.{Frame, Step, call_of, is_call, is_open, leave_frame, lifted, step, step_at, step_of}
-use Rattle.program_flow.specs.Flow.{Valuation, turn}
+use Rattle.program_flow.specs.Flow.{turn}
+use Rattle.program_flow.specs.Values.{Valuation}
 use Rattle.program_flow.specs.Macros.{begins_macro, ends_macro}
 use Rattle.program_flow.specs.Stepped.{Leads}
 use Rattle.program_flow.specs.declared.calls.Outcome.{Outcome}

@@ -10,6 +10,8 @@ pub mod SaidLines
 pub mod Divisors
 pub mod Singles
 pub mod ValueSteps
+pub mod Appending
+pub mod Literals
 pub mod WholeRoots
 pub mod Series
 pub mod NearAngles

@@ -6,7 +6,8 @@ use Rattle.dmis_text.specs.declared.elements.Statement.{Statement}
 use Rattle.program_flow.specs.LookBack.{value_said}
 use Rattle.program_flow.specs.Calls.{Frame, Step, begun, decision_at, is_call, is_plain, lifted, next_of, step, told_as}
 use Rattle.program_flow.specs.Calls as calls
-use Rattle.program_flow.specs.Flow.{Control, Turn, Valuation, carried, to}
+use Rattle.program_flow.specs.Flow.{Control, Turn, carried, to}
+use Rattle.program_flow.specs.Values.{Valuation}
 use Rattle.program_flow.specs.Macros.{begins_macro, ends_macro, outside_after}
 use Rattle.program_flow.specs.Blocks.{part_of}
 use Rattle.program_flow.specs.declared.blocks.Block.{Block}

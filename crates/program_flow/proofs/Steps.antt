@@ -1,7 +1,7 @@
 -- Definitions by a number that counts down, one step at a time.
 use Rattle.std.proofs.Common.{◌≡◌, ℕ, zero, suc, ◌<◌, ◌-◌, arith, refl, sym, ap, ◌∙◌}
 use Rattle.std.specs.Prelude.{Result, Err, List}
-use Rattle.program_flow.specs.Numbers.{Fraction}
+use Rattle.program_flow.specs.Values.{Valuation}
 use Rattle.program_flow.specs.declared.faults.ValueFault.{ValueFault}
 use Rattle.program_flow.specs.declared.faults.ValueFault.TheVariants.{TooDeep}
 use Rattle.std.proofs.Common.{[], ◌∷◌, ◌≤◌, Bool, cond, false, length, true}
@@ -16,17 +16,17 @@ use Rattle.program_flow.specs.Conditions.{Parts, holds_within, parts_hold, parts
 use Rattle.program_flow.specs.Flow.{assignment, only_assignment}
 use Rattle.program_flow.proofs.SaidLines.{reading_is}
 
-pub holds_within-done : (values : List ℕ → Result Fraction ValueFault) (n : ℕ) (text : List ℕ) → n ≡ 0 → Err TooDeep ≡ holds_within values n text
+pub holds_within-done : (values : Valuation) (n : ℕ) (text : List ℕ) → n ≡ 0 → Err TooDeep ≡ holds_within values n text
 unfolding holds_within
 holds_within-done values zero text e = refl
 holds_within-done values (suc n) text e = absurd (omega (arith, e))
 
-holds_within-step : (values : List ℕ → Result Fraction ValueFault) (m n : ℕ) (text : List ℕ) → suc m ≡ n
+holds_within-step : (values : Valuation) (m n : ℕ) (text : List ℕ) → suc m ≡ n
     → parts_hold values (holds_within values m) (parts_of text) ≡ holds_within values n text
 unfolding holds_within
 holds_within-step values m n text e = rw (sym e) refl
 
-pub holds_within-by : (values : List ℕ → Result Fraction ValueFault) (n : ℕ) (text : List ℕ) (parts : Parts) → 0 < n → parts ≡ parts_of text
+pub holds_within-by : (values : Valuation) (n : ℕ) (text : List ℕ) (parts : Parts) → 0 < n → parts ≡ parts_of text
     → parts_hold values (holds_within values (n - 1)) parts ≡ holds_within values n text
 holds_within-by values n text parts some e = ap (λ p. parts_hold values (holds_within values (n - 1)) p) e
     ∙ holds_within-step values (n - 1) n text (omega (arith, some))

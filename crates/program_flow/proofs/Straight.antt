@@ -2,7 +2,8 @@
 use Rattle.std.proofs.Common.{◌≡◌, ℕ, zero, suc, ◌+◌, List, [], ◌∷◌, arith, drop, ap, ◌∙◌, refl}
 use Rattle.dmis_text.specs.declared.elements.Statement.{Statement}
 use Rattle.program_flow.specs.Blocks.{part_of}
-use Rattle.program_flow.specs.Flow.{Valuation, to, turn}
+use Rattle.program_flow.specs.Flow.{to, turn}
+use Rattle.program_flow.specs.Values.{Valuation}
 use Rattle.program_flow.specs.Flow.Turn.{Gives}
 use Rattle.program_flow.specs.declared.blocks.Block.{Block}
 use Rattle.program_flow.specs.declared.blocks.Part.TheVariants.{Other}

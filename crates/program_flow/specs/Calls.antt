@@ -7,12 +7,12 @@ use Rattle.std.specs.Fmt.{digits_onto}
 use Rattle.std.specs.List.{list_all}
 use Rattle.dmis_text.specs.declared.elements.Statement.{Statement}
 use Rattle.program_flow.specs.LookBack.{value_said}
-use Rattle.program_flow.specs.Values.{is_variable}
+use Rattle.program_flow.specs.Values.{Valuation, is_variable}
 use Rattle.program_flow.specs.Blocks.{part_of}
 use Rattle.program_flow.specs.declared.blocks.Part.{Part}
 use Rattle.program_flow.specs.declared.blocks.Part.TheVariants.{If, Select, Jump, Other}
 use Rattle.program_flow.specs.Flow as flow
-use Rattle.program_flow.specs.Flow.{Control, Turn, Valuation, carried, given_up, most, to, turn}
+use Rattle.program_flow.specs.Flow.{Control, Turn, carried, given_up, most, to, turn}
 use Rattle.program_flow.specs.Macros.{Macro, begins_macro, ends_macro, is_macro_name, all_with_arguments, macro_named, outside, pairs_of, said_by, without_parameters}
 
 -- the statements of a macro, with its arguments in their places, or those outside macros, whose name is empty; and where the flow is there

@@ -1,36 +1,36 @@
 -- The table as the code carries it forward: no public clause cites it but `Holds` and `CarriesOut`.
 use Rattle.std.specs.Prelude.{◌≡◌, ℕ, Bool, List, [], ◌∷◌, Option, Some, None, ◌&&◌, Result, Ok, Err, OnOk, IfErr, codes, bytes_eq, is_none, if◌then◌else◌}
 use Rattle.dmis_text.specs.declared.elements.Statement.{Statement}
-use Rattle.program_flow.specs.LookBack.{Holds, expression_value, fault_of, kind_of_word, kind_said, stored, target, value_said}
-use Rattle.program_flow.specs.Numbers.{Fraction, and_then}
+use Rattle.program_flow.specs.LookBack.{Holds, fault_of, kind_in, kind_said, names_in, target, value_for, value_said}
+use Rattle.program_flow.specs.Numbers.{and_then}
+use Rattle.program_flow.specs.Values.{Value}
 use Rattle.program_flow.specs.Variables.{Entry, entry_kind, entry_value, put}
 use Rattle.program_flow.specs.declared.faults.ValueFault.{ValueFault}
 use Rattle.program_flow.specs.declared.faults.ValueFault.TheVariants.{UnknownName, Memory}
+use Rattle.program_flow.specs.declared.kinds.Kind.{Kind}
 
 -- the names declared anew, without values
-abbrev pub put_all : Bool → List (List ℕ) → List Entry → List Entry
-put_all whole [] entries = entries
-put_all whole (name ∷ names) entries = put_all whole names (put (record { name = name; whole = whole; value = None }) entries)
+abbrev pub put_all : Kind → List (List ℕ) → List Entry → List Entry
+put_all kind [] entries = entries
+put_all kind (name ∷ names) entries = put_all kind names (put (record { name = name; kind = kind; value = None }) entries)
 
-abbrev pub put_kind : Option Bool → List (List ℕ) → List Entry → List Entry
+abbrev pub put_kind : Option Kind → List (List ℕ) → List Entry → List Entry
 put_kind None names entries = entries
-put_kind (Some whole) names entries = put_all whole names entries
+put_kind (Some kind) names entries = put_all kind names entries
 
 abbrev pub table_declared : List (List ℕ) → List Entry → List Entry
-table_declared [] entries = entries
-table_declared (scope ∷ []) entries = entries
-table_declared (scope ∷ (kind ∷ names)) entries = put_kind (kind_of_word kind) names entries
+table_declared params entries = put_kind (kind_in params) (names_in params) entries
 
 -- a value put for a name, if there is one
-abbrev pub put_value : List ℕ → Bool → List Entry → Fraction → List Entry
-put_value name whole entries f = put (record { name = name; whole = whole; value = Some (stored whole f) }) entries
+abbrev pub put_value : List ℕ → Kind → List Entry → Value → List Entry
+put_value name kind entries v = put (record { name = name; kind = kind; value = Some v }) entries
 
-abbrev pub put_result : List ℕ → Option Bool → Result Fraction ValueFault → List Entry → Result (List Entry) ValueFault
-put_result name None value entries = Err UnknownName
-put_result name (Some whole) value entries = and_then value (λ f. Ok (put_value name whole entries f))
+abbrev pub put_result : List ℕ → List Entry → List (List ℕ) → Option Kind → Result (List Entry) ValueFault
+put_result name entries params None = Err UnknownName
+put_result name entries params (Some kind) = and_then (value_for (entry_value entries) params kind) (λ v. Ok (put_value name kind entries v))
 
 abbrev pub table_assigned : List ℕ → List (List ℕ) → List Entry → Result (List Entry) ValueFault
-table_assigned name params entries = put_result name (entry_kind entries name) (expression_value (entry_value entries) params) entries
+table_assigned name params entries = put_result name entries params (entry_kind entries name)
 
 -- the table after a statement that assigns to a name, or to none
 abbrev pub table_with : Option (List ℕ) → Statement → List Entry → Result (List Entry) ValueFault

@@ -1,16 +1,18 @@
--- Whether a condition holds (ISO 22093, IF: comparisons of exact numbers, `.NOT.` before `.AND.` before `.OR.`). A `(` is 40, a `)` is 41.
-use Rattle.std.specs.Prelude.{ℕ, zero, suc, ◌+◌, ◌-◌, Bool, not, ◌&&◌, ◌||◌, ◌==◌, nat_eq, List, [], ◌∷◌, length, take, drop, codes, slice_index}
+-- Whether a condition holds (ISO 22093, IF: comparisons of exact numbers or of texts, `.NOT.` before `.AND.` before `.OR.`). A `(` is 40, a `)` is 41.
+use Rattle.std.specs.Prelude.{ℕ, zero, suc, ◌+◌, ◌-◌, Bool, not, bytes_eq, ◌&&◌, ◌||◌, ◌==◌, nat_eq, List, [], ◌∷◌, length, take, drop, codes, slice_index}
 use Rattle.std.specs.Prelude.{Option, Some, None, Result, Ok, Err, ℤ, pos, int_lt, unsigned_abs, if◌then◌else◌}
 use Rattle.std.specs.List.{starts_with}
 use Rattle.program_flow.specs.Numbers.{Fraction, and_then, opposite, sum}
 use Rattle.program_flow.specs.Parts.{depth_after, later, trimmed}
-use Rattle.program_flow.specs.Values.{value_of}
+use Rattle.program_flow.specs.Pieces.{any_value}
+use Rattle.program_flow.specs.Values.{Valuation, Value}
+use Rattle.program_flow.specs.Values.Value.{Number, Letters}
 use Rattle.program_flow.specs.declared.faults.ValueFault.{ValueFault}
-use Rattle.program_flow.specs.declared.faults.ValueFault.TheVariants.{NotExpression, TooDeep}
+use Rattle.program_flow.specs.declared.faults.ValueFault.TheVariants.{NotExpression, NotNumber, TooDeep}
 use Rattle.program_flow.specs.declared.conditions.Comparison.{Comparison}
 use Rattle.program_flow.specs.declared.conditions.Comparison.TheVariants.{Below, AtMost, Equal, Unequal, AtLeast, Above}
 
--- two conditions of which one holds, or both; one that does not; two numbers; parentheses; none of these
+-- two conditions of which one holds, or both; one that does not; two numbers or texts; parentheses; none of these
 pub data Parts : Type 0 where
   Either : List ℕ → List ℕ → Parts
   Both : List ℕ → List ℕ → Parts
@@ -75,19 +77,31 @@ satisfies Above z = not (int_lt z (pos 0) || (unsigned_abs z == 0))
 abbrev pub compared : Comparison → Fraction → Fraction → Result Bool ValueFault
 compared how f g = and_then (sum f (opposite g)) (λ d. Ok (satisfies how d.over))
 
+-- texts are equal or not, and no text is before another
+abbrev pub letters_compared : Comparison → Bool → Result Bool ValueFault
+letters_compared Equal equal = Ok equal
+letters_compared Unequal equal = Ok (not equal)
+letters_compared _ equal = Err NotNumber
+
+abbrev pub values_compared : Comparison → Value → Value → Result Bool ValueFault
+values_compared how (Number f) (Number g) = compared how f g
+values_compared how (Letters text) (Letters other) = letters_compared how (bytes_eq text other)
+values_compared how (Number f) (Letters other) = Err NotNumber
+values_compared how (Letters text) (Number g) = Err NotNumber
+
 -- the left part's fault comes first
-abbrev pub parts_hold : (List ℕ → Result Fraction ValueFault) → (List ℕ → Result Bool ValueFault) → Parts → Result Bool ValueFault
+abbrev pub parts_hold : Valuation → (List ℕ → Result Bool ValueFault) → Parts → Result Bool ValueFault
 parts_hold values inner (Either left right) = and_then (inner left) (λ a. and_then (inner right) (λ b. Ok (a || b)))
 parts_hold values inner (Both left right) = and_then (inner left) (λ a. and_then (inner right) (λ b. Ok (a && b)))
 parts_hold values inner (Opposite rest) = and_then (inner rest) (λ a. Ok (not a))
-parts_hold values inner (Compared left how right) = and_then (value_of values left) (λ f. and_then (value_of values right) (λ g. compared how f g))
+parts_hold values inner (Compared left how right) = and_then (any_value values left) (λ v. and_then (any_value values right) (λ w. values_compared how v w))
 parts_hold values inner (Inside text) = inner text
 parts_hold values inner Neither = Err NotExpression
 
 -- with conditions within one another up to a limit
-unfoldable pub holds_within : (List ℕ → Result Fraction ValueFault) → ℕ → List ℕ → Result Bool ValueFault
+unfoldable pub holds_within : Valuation → ℕ → List ℕ → Result Bool ValueFault
 holds_within values zero text = Err TooDeep
 holds_within values (suc n) text = parts_hold values (holds_within values n) (parts_of text)
 
-abbrev pub holds : (List ℕ → Result Fraction ValueFault) → List ℕ → Result Bool ValueFault
+abbrev pub holds : Valuation → List ℕ → Result Bool ValueFault
 holds values text = holds_within values 100 text

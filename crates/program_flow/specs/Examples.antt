@@ -77,9 +77,12 @@ case_of line value = case_on line (value ∷ [])
 abbrev pub default_on : ℕ → List Statement
 default_on line = alone line (codes "DFTCAS") ∷ (alone (line + 1) (codes "B") ∷ (alone (line + 2) (codes "ENDCAS") ∷ []))
 
--- a SELECT of 2 on line 1 around some statements, and one statement below it
+-- a SELECT by a text on line 1 around some statements, and one statement below it
+abbrev pub select_of : List ℕ → List Statement → List Statement
+select_of text inner = with_one 1 (codes "SELECT") text ∷ (inner ++ (alone 20 (codes "ENDSEL") ∷ (alone 21 (codes "D") ∷ [])))
+
 abbrev pub select_around : List Statement → List Statement
-select_around inner = with_one 1 (codes "SELECT") (codes "2") ∷ (inner ++ (alone 20 (codes "ENDSEL") ∷ (alone 21 (codes "D") ∷ [])))
+select_around inner = select_of (codes "2") inner
 
 -- a CASE of this value around a SELECT of 2 that has a CASE of 2 and a DFTCAS, on lines 2 to 12
 abbrev pub select_in_case : List ℕ → List Statement

@@ -8,10 +8,9 @@ use Rattle.dmis_text.specs.Reading.{text_reading}
 use Rattle.dmis_text.specs.declared.elements.Statement.{Statement}
 use Rattle.dmis_text.specs.declared.reading.TextFault.{TextFault}
 use Rattle.program_flow.specs.LookBack.{fault_of, kind_said, value_said}
-use Rattle.program_flow.specs.Numbers.{Fraction, and_then}
+use Rattle.program_flow.specs.Numbers.{and_then}
 use Rattle.program_flow.specs.Texts.{whole_of}
-use Rattle.program_flow.specs.Values.{value_of}
-use Rattle.program_flow.specs.declared.faults.ValueFault.{ValueFault}
+use Rattle.program_flow.specs.Values.{Valuation, Value, value_of}
 use Rattle.program_flow.specs.Blocks.{around, end_of, is_level, label_place, part_of, start_of}
 use Rattle.program_flow.specs.Conditions.{holds}
 use Rattle.program_flow.specs.Selections.{chosen, selected}
@@ -21,9 +20,6 @@ use Rattle.program_flow.specs.declared.blocks.Part.{Part}
 use Rattle.program_flow.specs.declared.blocks.Part.TheVariants.{If, Else, EndIf, Do, EndDo, Select, Case, DefaultCase, EndCase, EndSelect, Jump, Label, Other}
 use Rattle.program_flow.specs.declared.selections.Choice.{Choice}
 use Rattle.program_flow.specs.declared.selections.Choice.TheVariants.{Branch, NoBranch}
-
-abbrev pub Valuation : Type 0
-Valuation = List ℕ → Result Fraction ValueFault
 
 -- the place of the next statement, and the blocks that are open there, the innermost first
 pub record Control : Type 0 where
@@ -101,8 +97,8 @@ choose_by statements c s end None = Stops s
 choose_by statements c s end (Some NoBranch) = Passes (to (end + 1) c.blocks)
 choose_by statements c s end (Some (Branch place)) = enter_at statements c s place (drop place statements)
 
-abbrev pub select_by : List Statement → Valuation → Control → Statement → List Statement → Option Fraction → Option ℕ → Turn
-select_by statements values c s below (Some f) (Some end) = choose_by statements c s end (chosen values f 0 (c.place + 1) below)
+abbrev pub select_by : List Statement → Valuation → Control → Statement → List Statement → Option Value → Option ℕ → Turn
+select_by statements values c s below (Some v) (Some end) = choose_by statements c s end (chosen values v 0 (c.place + 1) below)
 select_by statements values c s below _ _ = Stops s
 
 -- ---- DO

@@ -19,6 +19,8 @@ pub mod Angles
 pub mod Parts
 pub mod ValueCuts
 pub mod Values
+pub mod Pieces
+pub mod Held
 pub mod Variables
 pub mod ValueExamples
 pub mod LookBack

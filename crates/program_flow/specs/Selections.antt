@@ -2,11 +2,12 @@
 use Rattle.std.specs.Prelude.{ℕ, zero, suc, ◌+◌, Bool, true, false, not, ◌&&◌, List, [], ◌∷◌, Option, Some, None, Result, if◌then◌else◌}
 use Rattle.std.specs.Result.{result_ok}
 use Rattle.dmis_text.specs.declared.elements.Statement.{Statement}
-use Rattle.program_flow.specs.Numbers.{Fraction, and_then}
-use Rattle.program_flow.specs.Values.{value_of}
+use Rattle.program_flow.specs.Numbers.{and_then}
+use Rattle.program_flow.specs.Pieces.{any_value}
+use Rattle.program_flow.specs.Values.{Valuation, Value}
 use Rattle.program_flow.specs.declared.faults.ValueFault.{ValueFault}
 use Rattle.program_flow.specs.Blocks.{depth_after, is_end, matches, part_of}
-use Rattle.program_flow.specs.Conditions.{compared}
+use Rattle.program_flow.specs.Conditions.{values_compared}
 use Rattle.program_flow.specs.declared.blocks.Part.{Part}
 use Rattle.program_flow.specs.declared.blocks.Part.TheVariants.{Case, DefaultCase, EndSelect}
 use Rattle.program_flow.specs.declared.conditions.Comparison.TheVariants.{Equal}
@@ -16,13 +17,13 @@ use Rattle.program_flow.specs.declared.selections.Search.{Search}
 use Rattle.program_flow.specs.declared.selections.Search.TheVariants.{Found, Fails, Continues}
 
 -- the value of a SELECT: it has one parameter
-abbrev pub selected : (List ℕ → Result Fraction ValueFault) → List (List ℕ) → Option Fraction
-selected values (only ∷ []) = result_ok (value_of values only)
+abbrev pub selected : Valuation → List (List ℕ) → Option Value
+selected values (only ∷ []) = result_ok (any_value values only)
 selected values _ = None
 
 -- whether a text has this value, as `.EQ.` compares; none, if it has no value
-abbrev pub equals : (List ℕ → Result Fraction ValueFault) → Fraction → List ℕ → Option Bool
-equals values f text = result_ok (and_then (value_of values text) (λ g. compared Equal f g))
+abbrev pub equals : Valuation → Value → List ℕ → Option Bool
+equals values v text = result_ok (and_then (any_value values text) (λ w. values_compared Equal v w))
 
 abbrev pub or_later : Option Bool → Option Bool → Option Bool
 or_later None later = None
@@ -30,9 +31,9 @@ or_later (Some true) later = Some true
 or_later (Some false) later = later
 
 -- whether one of the texts of a CASE has this value; none, if one before it has no value
-unfoldable pub one_equals : (List ℕ → Result Fraction ValueFault) → Fraction → List (List ℕ) → Option Bool
-one_equals values f [] = Some false
-one_equals values f (text ∷ texts) = or_later (equals values f text) (one_equals values f texts)
+unfoldable pub one_equals : Valuation → Value → List (List ℕ) → Option Bool
+one_equals values v [] = Some false
+one_equals values v (text ∷ texts) = or_later (equals values v text) (one_equals values v texts)
 
 -- a CASE is the branch that is looked for, is passed over, or fails
 abbrev pub case_seen : ℕ → Option Bool → Search
@@ -62,7 +63,7 @@ searched Fails below = None
 searched Continues below = below
 
 -- the branch of a SELECT of this value, in statements of which the first is in this place; none, if it cannot be found
-unfoldable pub chosen : (List ℕ → Result Fraction ValueFault) → Fraction → ℕ → ℕ → List Statement → Option Choice
-chosen values f depth place [] = None
-chosen values f depth place (s ∷ below) = searched (seen_at depth place (part_of s) (one_equals values f s.params))
-    (chosen values f (depth_after depth (part_of s)) (place + 1) below)
+unfoldable pub chosen : Valuation → Value → ℕ → ℕ → List Statement → Option Choice
+chosen values v depth place [] = None
+chosen values v depth place (s ∷ below) = searched (seen_at depth place (part_of s) (one_equals values v s.params))
+    (chosen values v (depth_after depth (part_of s)) (place + 1) below)

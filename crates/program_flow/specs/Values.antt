@@ -1,5 +1,5 @@
--- The value of an expression (ISO 22093; the limits are this profile's), where a function gives the values of names.
-use Rattle.std.specs.Prelude.{ℕ, zero, suc, ◌+◌, ◌*◌, ◌-◌, ◌^◌, Bool, true, false, ◌&&◌, ◌||◌, ◌==◌, nat_le, nat_lt, List, [], ◌∷◌, length}
+-- The value of an expression (ISO 22093; the limits are this profile's), where a function gives the values of names. An apostrophe is 39.
+use Rattle.std.specs.Prelude.{ℕ, zero, suc, ◌+◌, ◌*◌, ◌-◌, ◌^◌, Bool, true, false, ◌&&◌, ◌||◌, ◌==◌, nat_le, nat_lt, List, [], ◌∷◌, ◌++◌, length}
 use Rattle.std.specs.Prelude.{bytes_eq, take, drop, Option, Some, None, Result, Ok, Err, pos, codes, if◌then◌else◌}
 use Rattle.std.specs.Char.{is_ascii_digit, is_ascii_alphanumeric, is_ascii_alphabetic}
 use Rattle.std.specs.List.{position, list_all}
@@ -11,7 +11,20 @@ use Rattle.program_flow.specs.Parts.Parts.{Both, Opposite, Same, Called, Leaf}
 use Rattle.program_flow.specs.declared.places.Operator.{Operator}
 use Rattle.program_flow.specs.declared.places.Operator.TheVariants.{Plus, Minus, Times, Over, Power}
 use Rattle.program_flow.specs.declared.faults.ValueFault.{ValueFault}
-use Rattle.program_flow.specs.declared.faults.ValueFault.TheVariants.{NotExpression, UnknownFunction, PastBound, TooDeep}
+use Rattle.program_flow.specs.declared.faults.ValueFault.TheVariants.{NotExpression, NotNumber, UnknownFunction, PastBound, TooDeep}
+
+-- what a variable has: a number, or a text of letters
+pub data Value : Type 0 where
+  Number : Fraction → Value
+  Letters : List ℕ → Value
+
+-- the values of names
+abbrev pub Valuation : Type 0
+Valuation = List ℕ → Result Value ValueFault
+
+abbrev pub number_of : Value → Result Fraction ValueFault
+number_of (Number f) = Ok f
+number_of (Letters text) = Err NotNumber
 
 -- operations within one another
 abbrev pub levels : ℕ
@@ -79,9 +92,9 @@ is_numeral [] = false
 is_numeral (c ∷ cs) = begins_numeral c
 
 -- one numeral or name
-abbrev pub leaf_value : (List ℕ → Result Fraction ValueFault) → List ℕ → Result Fraction ValueFault
+abbrev pub leaf_value : Valuation → List ℕ → Result Fraction ValueFault
 leaf_value said text = if is_numeral text then numeral_value text else
-    (if is_variable text then said text else Err NotExpression)
+    (if is_variable text then and_then (said text) number_of else Err NotExpression)
 
 abbrev pub applied : Operator → Fraction → Fraction → Result Fraction ValueFault
 applied Plus f g = sum f g
@@ -102,7 +115,7 @@ function_of name f = if bytes_eq name [] then Ok f else (if bytes_eq name (codes
     (if bytes_eq name (codes "INT") then Ok (whole_part f) else function_named name f))
 
 -- the value of parts, where another function gives the values of what they are made of: the left operand's fault comes first
-abbrev pub parts_value : (List ℕ → Result Fraction ValueFault) → (List ℕ → Result Fraction ValueFault) → Parts → Result Fraction ValueFault
+abbrev pub parts_value : Valuation → (List ℕ → Result Fraction ValueFault) → Parts → Result Fraction ValueFault
 parts_value said inner (Both left operator right) = and_then (inner left) (λ f. and_then (inner right) (λ g. applied operator f g))
 parts_value said inner (Opposite rest) = and_then (inner rest) (λ f. Ok (opposite f))
 parts_value said inner (Same rest) = inner rest
@@ -110,11 +123,11 @@ parts_value said inner (Called name text) = and_then (inner text) (λ f. functio
 parts_value said inner (Leaf text) = leaf_value said text
 
 -- the value of a text with operations within one another up to a limit
-unfoldable pub value_within : (List ℕ → Result Fraction ValueFault) → ℕ → List ℕ → Result Fraction ValueFault
+unfoldable pub value_within : Valuation → ℕ → List ℕ → Result Fraction ValueFault
 value_within said zero text = Err TooDeep
 value_within said (suc n) text = parts_value said (value_within said n) (parts_of text)
 
-abbrev pub value_of : (List ℕ → Result Fraction ValueFault) → List ℕ → Result Fraction ValueFault
+abbrev pub value_of : Valuation → List ℕ → Result Fraction ValueFault
 value_of said text = value_within said levels text
 
 -- a numeral, with one sign or without
@@ -133,5 +146,18 @@ abbrev pub numeral_or : List ℕ → Result Fraction ValueFault → List ℕ
 numeral_or text (Ok f) = numeral f
 numeral_or text (Err fault) = text
 
-abbrev pub computed : (List ℕ → Result Fraction ValueFault) → List ℕ → List ℕ
+abbrev pub computed : Valuation → List ℕ → List ℕ
 computed said text = if is_constant (parts_of text) then text else numeral_or text (value_of said text)
+
+-- letters as a literal, in which an apostrophe is doubled
+abbrev pub doubled : List ℕ → List ℕ
+doubled [] = []
+doubled (c ∷ cs) = if c == 39 then 39 ∷ (39 ∷ doubled cs) else c ∷ doubled cs
+
+abbrev pub literal_of : List ℕ → List ℕ
+literal_of text = 39 ∷ (doubled text ++ (39 ∷ []))
+
+-- a value as a text
+abbrev pub written : Value → List ℕ
+written (Number f) = numeral f
+written (Letters text) = literal_of text

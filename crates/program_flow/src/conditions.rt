@@ -6,15 +6,16 @@ ghost use Rattle.program_flow.specs.Parts as parts;
 ghost use Rattle.program_flow.specs.Variables.{entry_value};
 ghost use Rattle.program_flow.specs.Conditions as spec;
 ghost use Rattle.program_flow.specs.Cuts.{seen};
+ghost use Rattle.program_flow.specs.Held.{value_at};
 
 use crate::faults::ValueFault;
 use crate::numbers::Number;
 use crate::parts::trimmed;
+use crate::pieces::{any_value, have_same_letters};
 use crate::places::depth_after;
-use crate::values::value_of;
 use crate::variables::Variables;
 
-/// How two numbers are compared.
+/// How two numbers or two texts are compared.
 #[derive(Clone, Copy)]
 pub enum Comparison {
     Below,
@@ -136,7 +137,7 @@ fn is_zero(number: Number) -> bool
     number.opposite() == number
 }
 
-pub(crate) fn compared(how: Comparison, left: Number, right: Number) -> Result<bool, ValueFault>
+fn compared(how: Comparison, left: Number, right: Number) -> Result<bool, ValueFault>
     ensures { result ≡ spec.compared how left right }
 {
     let difference = left.sum(right.opposite())?;
@@ -150,6 +151,41 @@ pub(crate) fn compared(how: Comparison, left: Number, right: Number) -> Result<b
         Comparison::AtLeast => !negative,
         Comparison::Above => !(negative || zero),
     })
+}
+
+fn letters_compared(how: Comparison, equal: bool) -> Result<bool, ValueFault>
+    ensures { result ≡ spec.letters_compared how equal }
+{
+    match how {
+        Comparison::Equal => Ok(equal),
+        Comparison::Unequal => Ok(!equal),
+        _ => Err(ValueFault::NotNumber),
+    }
+}
+
+/// How two texts compare, each with its number, or none, if it has letters: numbers with numbers, and letters with letters.
+pub(crate) fn values_compared(
+    how: Comparison,
+    left: &[u8],
+    number: Option<Number>,
+    right: &[u8],
+    other: Option<Number>,
+    variables: &Variables,
+) -> Result<bool, ValueFault>
+    ensures { result ≡ spec.values_compared how
+        (value_at (entry_value variables.now) left.now number)
+        (value_at (entry_value variables.now) right.now other) }
+{
+    match number {
+        Some(number) => match other {
+            Some(other) => compared(how, number, other),
+            None => Err(ValueFault::NotNumber),
+        },
+        None => match other {
+            Some(_) => Err(ValueFault::NotNumber),
+            None => letters_compared(how, have_same_letters(left, right, variables)),
+        },
+    }
 }
 
 #[cycle(condition)]
@@ -170,9 +206,9 @@ fn parts_hold(cut: &Cut, variables: &Variables, below: u64) -> Result<bool, Valu
         }
         Cut::Opposite(rest) => Ok(!holds_within(rest, variables, below)?),
         Cut::Compared(left, how, right) => {
-            let left = value_of(left, variables)?;
-            let right = value_of(right, variables)?;
-            compared(*how, left, right)
+            let number = any_value(left, variables)?;
+            let other = any_value(right, variables)?;
+            values_compared(*how, left, number, right, other, variables)
         }
         Cut::Inside(text) => holds_within(text, variables, below),
         Cut::Neither => Err(ValueFault::NotExpression),
@@ -189,7 +225,8 @@ fn holds_within(text: &[u8], variables: &Variables, levels: u64) -> Result<bool,
     parts_hold(&parts_of(text), variables, levels - 1)
 }
 
-/// Whether a condition holds: comparisons (`.LT.`, `.LE.`, `.EQ.`, `.NE.`, `.GE.`, `.GT.`) of expressions, with parentheses, `.NOT.`,
+/// Whether a condition holds: comparisons (`.LT.`, `.LE.`, `.EQ.`, `.NE.`, `.GE.`, `.GT.`) of expressions, or of texts by
+/// `.EQ.` and `.NE.`, with parentheses, `.NOT.`,
 /// `.AND.` and `.OR.`. What is no condition is `NotExpression`; else the fault of an expression is answered, the left part's first.
 pub(crate) fn holds(text: &[u8], variables: &Variables) -> Result<bool, ValueFault>
     ensures { result ≡ spec.holds (entry_value variables.now) text.now }

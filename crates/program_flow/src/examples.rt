@@ -5,7 +5,7 @@ ghost use Rattle.std.specs.List.{AllByRecursion};
 ghost use Rattle.dmis_text.specs.declared.elements.Statement.{Statement};
 ghost use Rattle.program_flow.specs.Conditions.{holds};
 ghost use Rattle.program_flow.specs.Blocks.{part_of};
-ghost use Rattle.program_flow.specs.Examples.{alone, assigned, branching, case_of, case_on, changing, declared, default_on, jumping, jumping_in_select, leads_of, lines_of, looping, nested, on, select_around, select_in_case, selecting, with_one};
+ghost use Rattle.program_flow.specs.Examples.{alone, assigned, branching, case_of, case_on, changing, declared, default_on, jumping, jumping_in_select, leads_of, lines_of, looping, nested, on, select_around, select_in_case, select_of, selecting, with_one};
 ghost use Rattle.program_flow.specs.Calls.{begun, carried_out, is_plain, trace};
 ghost use Rattle.program_flow.specs.Flow.{assignment};
 ghost use Rattle.program_flow.specs.declared.blocks.Part.TheVariants.{Other};
@@ -30,6 +30,13 @@ pub fn conditions_hold_or_not()
     ensures number { holds a_is_seven (codes "(A)") ≡ Err fault.NotExpression }
     ensures half { holds a_is_seven (codes "A .LT.") ≡ Err fault.NotExpression }
     ensures unknown { holds a_is_seven (codes "C .LT. 1") ≡ Err fault.UnknownName }
+    ensures texts { holds a_is_seven (codes "(T .EQ. 'it''s')") ≡ Ok true }
+    ensures longer { holds a_is_seven (codes "'it''s.' .EQ. T") ≡ Ok false }
+    ensures letters { holds a_is_seven (codes "'ab' .NE. 'aB'") ≡ Ok true }
+    ensures same_letters { holds a_is_seven (codes "T .NE. T") ≡ Ok false }
+    ensures before { holds a_is_seven (codes "'a' .LT. 'b'") ≡ Err fault.NotNumber }
+    ensures text_and_number { holds a_is_seven (codes "T .EQ. 7") ≡ Err fault.NotNumber }
+    ensures number_and_text { holds a_is_seven (codes "A .NE. '7'") ≡ Err fault.NotNumber }
 {}
 
 /// A text without the words of control flow, macros and calls comes out as it is.
@@ -113,6 +120,10 @@ pub fn one_branch_of_a_select_is_carried_out()
     ensures none { lines_of (select_around (case_of 2 (codes "1"))) ≡ 21 ∷ [] }
     ensures first_of_two { lines_of (select_around (case_of 2 (codes "2") ++ case_of 5 (codes "2")))
         ≡ 3 ∷ (21 ∷ []) }
+    ensures text { lines_of (select_of (codes "'B'") (case_of 2 (codes "'b'")
+        ++ case_of 5 (codes "'B'"))) ≡ 6 ∷ (21 ∷ []) }
+    ensures number_of_text { lines_of (select_of (codes "'2'") (case_of 2 (codes "2"))) ≡ 1 ∷ [] }
+    ensures text_of_number { lines_of (select_around (case_of 2 (codes "'2'"))) ≡ 1 ∷ [] }
 {}
 
 /// What stands below the branch that is chosen, or to the right of its value, is not judged; what stands above, is.

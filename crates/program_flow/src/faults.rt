@@ -11,6 +11,10 @@ pub enum ValueFault {
     UnknownName,
     /// The variable is declared, and nothing was assigned to it since.
     NotAssigned,
+    /// The variable has letters, or a text is compared as a number.
+    NotNumber,
+    /// The text is no literal, and no variable that has letters.
+    NotLetters,
     /// The function is not one of those known.
     UnknownFunction,
     /// A division by zero.
@@ -19,7 +23,7 @@ pub enum ValueFault {
     BadExponent,
     /// A root of a number below zero.
     NegativeRoot,
-    /// A numerator or a denominator is past the bound, or what a function is of past its limit.
+    /// A numerator or a denominator is past the bound, what a function is of past its limit, or a text longer than its variable.
     PastBound,
     /// More operations are within one another, or names in one text, than the limit.
     TooDeep,

@@ -10,7 +10,8 @@
 //! - `faults`: why an expression or a statement has no value
 //! - `numbers`: `Number`, a fraction in lowest terms, and its arithmetic; `roots`: `SQRT`; `angles`: sines, cosines, tangents, units of angles
 //! - `places`: where the operators of an expression are; `parts`: what it is made of; `numerals`; `values`: `value_of`
-//! - `variables`: `Variables`, the table of what was assigned; `texts`: `expanded`, names in texts
+//! - `kinds`: what variables take; `pieces`: texts of letters; `variables`: `Variables`, the table of what was assigned; `texts`: `expanded`,
+//!   names in texts
 #![tactic(auto)]
 
 mod angles;
@@ -22,11 +23,13 @@ mod conditions;
 pub mod examples;
 mod faults;
 mod flow;
+mod kinds;
 mod lines;
 mod macros;
 mod numbers;
 mod numerals;
 mod parts;
+mod pieces;
 mod places;
 mod positions;
 mod roots;
@@ -40,7 +43,8 @@ mod variables;
 pub use angles::{cosine, in_radians, sine};
 pub use faults::ValueFault;
 pub use flow::{Flow, Given, is_lead, is_of_flow};
+pub use kinds::is_declaration;
 pub use numbers::Number;
-pub use texts::expanded;
-pub use values::{computed, is_text, value_of};
-pub use variables::{Variables, is_declaration};
+pub use texts::{expanded, has_names};
+pub use values::{has_value, is_text, push_computed, value_of};
+pub use variables::Variables;

@@ -24,7 +24,7 @@ fn with_digit(value: u64, byte: u8) -> Result<u64, ValueFault>
 }
 
 /// The number that digits write after one that is there already.
-fn number_after(value: u64, digits: &[u8]) -> Result<u64, ValueFault>
+pub(crate) fn number_after(value: u64, digits: &[u8]) -> Result<u64, ValueFault>
     requires { value < 10 ^ 18 }
     ensures value { result ≡ spec.number_after value digits.now }
     ensures within { IfOk result (λ n. n < 10 ^ 18) }

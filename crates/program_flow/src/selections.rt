@@ -6,11 +6,12 @@ ghost use Rattle.program_flow.specs.Variables.{entry_value};
 ghost use Rattle.program_flow.specs.Selections as spec;
 ghost use Rattle.program_flow.specs.Blocks.{part_of};
 ghost use Rattle.program_flow.specs.Cuts.{IsWithin};
+ghost use Rattle.program_flow.specs.Held.{value_at};
 
 use crate::blocks::{Part, depth_after, is_end, matches_end, part_of};
-use crate::conditions::{Comparison, compared};
+use crate::conditions::{Comparison, values_compared};
 use crate::numbers::Number;
-use crate::values::value_of;
+use crate::pieces::any_value;
 use crate::variables::Variables;
 use dmis_text::{Statement, Text};
 
@@ -29,34 +30,31 @@ pub enum Search {
     Continues,
 }
 
-/// The value of a SELECT.
-pub(crate) fn selected(params: &[Text], variables: &Variables) -> Option<Number>
-    ensures { result ≡ spec.selected (entry_value variables.now) params.now }
+/// Whether a text has the value of another, of which this is the number, or which has letters.
+fn equals(text: &[u8], number: &Option<Number>, other: &[u8], variables: &Variables) -> Option<bool>
+    ensures { result ≡ spec.equals (entry_value variables.now)
+        (value_at (entry_value variables.now) text.now number.now) other.now }
 {
-    match params {
-        [only] => value_of(only, variables).ok(),
-        _ => None,
-    }
-}
-
-/// Whether a text has this value.
-fn equals(value: Number, text: &[u8], variables: &Variables) -> Option<bool>
-    ensures { result ≡ spec.equals (entry_value variables.now) value text.now }
-{
-    let Ok(other) = value_of(text, variables) else {
+    let Ok(found) = any_value(other, variables) else {
         return None;
     };
-    compared(Comparison::Equal, value, other).ok()
+    values_compared(Comparison::Equal, text, *number, other, found, variables).ok()
 }
 
 /// Whether one of these texts has this value; none, if one before it has no value.
 #[tactic(auto, unfolding(crate::specs::Selections::one_equals))]
-fn one_equals(value: Number, texts: &[Text], variables: &Variables) -> Option<bool>
-    ensures { result ≡ spec.one_equals (entry_value variables.now) value texts.now }
+fn one_equals(
+    text: &[u8],
+    number: &Option<Number>,
+    texts: &[Text],
+    variables: &Variables,
+) -> Option<bool>
+    ensures { result ≡ spec.one_equals (entry_value variables.now)
+        (value_at (entry_value variables.now) text.now number.now) texts.now }
 {
     let mut left = texts;
     while let [first, others @ ..] = left {
-        if equals(value, first, variables)? {
+        if equals(text, number, first, variables)? {
             return Some(true);
         }
         left = others;
@@ -77,15 +75,17 @@ fn case_seen(place: usize, equal: Option<bool>) -> Search
 fn between_seen(
     place: usize,
     part: Part,
-    value: Number,
+    text: &[u8],
+    number: &Option<Number>,
     params: &[Text],
     variables: &Variables,
 ) -> Search
     ensures { result ≡ spec.between_seen place part
-        (spec.one_equals (entry_value variables.now) value params.now) }
+        (spec.one_equals (entry_value variables.now)
+        (value_at (entry_value variables.now) text.now number.now) params.now) }
 {
     match part {
-        Part::Case => case_seen(place, one_equals(value, params, variables)),
+        Part::Case => case_seen(place, one_equals(text, number, params, variables)),
         Part::DefaultCase => Search::Found(Choice::Branch(place)),
         Part::EndSelect => Search::Found(Choice::NoBranch),
         _ => Search::Fails,
@@ -107,15 +107,17 @@ fn seen_at(
     depth: usize,
     place: usize,
     statement: &Statement,
-    value: Number,
+    text: &[u8],
+    number: &Option<Number>,
     variables: &Variables,
 ) -> Search
     ensures { result ≡ spec.seen_at depth place (part_of statement.now)
-        (spec.one_equals (entry_value variables.now) value statement.now.params) }
+        (spec.one_equals (entry_value variables.now)
+        (value_at (entry_value variables.now) text.now number.now) statement.now.params) }
 {
     let part = part_of(statement);
     if depth == 0 {
-        between_seen(place, part, value, &statement.params, variables)
+        between_seen(place, part, text, number, &statement.params, variables)
     } else {
         passed_seen(depth - 1, part)
     }
@@ -124,20 +126,22 @@ fn seen_at(
 /// The branch of a SELECT of this value, in statements of which the first is in this place; none, if it cannot be found.
 #[tactic(auto, unfolding(crate::specs::Selections::chosen))]
 pub(crate) fn chosen(
-    value: Number,
+    text: &[u8],
+    number: &Option<Number>,
     place: usize,
     statements: &[Statement],
     variables: &Variables,
 ) -> Option<Choice>
     requires { place + length statements.now < 2 ^ 64 }
-    ensures value { result ≡ spec.chosen (entry_value variables.now) value 0 place statements.now }
+    ensures value { result ≡ spec.chosen (entry_value variables.now)
+        (value_at (entry_value variables.now) text.now number.now) 0 place statements.now }
     ensures within { IfSome result (IsWithin (place + length statements.now)) }
 {
     let mut left = statements;
     let mut at = place;
     let mut open = 0;
     while let [first, below @ ..] = left {
-        match seen_at(open, at, first, value, variables) {
+        match seen_at(open, at, first, text, number, variables) {
             Search::Found(choice) => return Some(choice),
             Search::Fails => return None,
             Search::Continues => {}

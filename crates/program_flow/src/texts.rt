@@ -1,15 +1,16 @@
 // Names in texts.
 
-ghost use Rattle.std.specs.Prelude.{◌≡◌, ◌++◌, ◌<◌, ◌≤◌, Some, OnOk, length};
-ghost use Rattle.std.specs.Fmt.{signed_decimal};
+ghost use Rattle.std.specs.Prelude.{◌≡◌, ◌++◌, ◌<◌, ◌≤◌, Ok, Some, OnOk, false, length};
 ghost use Rattle.std.specs.List.{prefix_len};
 ghost use Rattle.program_flow.specs.Texts as spec;
 ghost use Rattle.program_flow.specs.Numbers.{and_then};
 ghost use Rattle.program_flow.specs.Texts.{Appends};
 ghost use Rattle.program_flow.specs.Variables.{entry_value};
-ghost use Rattle.program_flow.specs.Values.{is_name_byte};
+ghost use Rattle.program_flow.specs.Values.{Valuation, is_name_byte};
+ghost use Rattle.program_flow.specs.Values as values;
 
 use crate::faults::ValueFault;
+use crate::numbers::Number;
 use crate::parts::first_place;
 use crate::values::is_name_byte;
 use crate::variables::Variables;
@@ -33,20 +34,13 @@ fn cut_name(text: &[u8]) -> (&[u8], &[u8])
     text.split_at(name_length(text))
 }
 
-fn whole_value(name: &[u8], variables: &Variables) -> Result<i64, ValueFault>
-    ensures { result ≡ and_then (entry_value variables.now name.now) spec.whole_of }
+/// Appends the digits of a whole number.
+pub(crate) fn push_whole(out: &mut Vec<u8>, number: Number) -> Result<(), ValueFault>
+    ensures { Appends result out.old.items out.new.items
+        (spec.inserted (values.Value.Number number)) }
 {
-    match variables.value(name) {
-        Ok(number) => number.get_whole(),
-        Err(fault) => Err(fault),
-    }
-}
-
-fn push_front(out: &mut Vec<u8>, front: &[u8], number: i64) -> Result<(), AllocError>
-    ensures { OnOk result (out.new.items ≡ out.old.items ++ (front.now ++ signed_decimal number)) }
-{
-    out.extend_from_slice(front)?;
-    out.extend_from_slice(Buffer::new().format(number).as_bytes())
+    let whole = number.get_whole()?;
+    Ok(out.extend_from_slice(Buffer::new().format(whole).as_bytes())?)
 }
 
 #[cycle(expanded)]
@@ -65,8 +59,8 @@ fn push_named(
     let (front, _) = text.split_at(mark);
     let (_, behind) = text.split_at(mark + 1);
     let (name, rest) = cut_name(behind);
-    let number = whole_value(name, variables)?;
-    push_front(out, front, number)?;
+    out.extend_from_slice(front)?;
+    variables.push_inserted(out, name)?;
     push_expanded(out, rest, variables, names)
 }
 
@@ -89,7 +83,14 @@ fn push_expanded(
     }
 }
 
-/// Appends a text with the value of each `@NAME` in its place, a whole number without a point: `UnknownName`, `NotAssigned`,
+/// Whether there are names in a text.
+pub fn has_names(text: &[u8]) -> bool
+    ensures { (values : Valuation) → result ≡ false → spec.expanded values text.now ≡ Ok text.now }
+{
+    first_place(b'@', text).is_some()
+}
+
+/// Appends a text with the value of each `@NAME` in its place, letters or a whole number without a point: `UnknownName`, `NotAssigned`,
 /// `NotWhole`, or `TooDeep` if it has 100 names or more. After a fault a part may be there.
 pub fn expanded(out: &mut Vec<u8>, text: &[u8], variables: &Variables) -> Result<(), ValueFault>
     ensures { Appends result out.old.items out.new.items

@@ -15,8 +15,8 @@ use crate::blocks::{
     start_of,
 };
 use crate::conditions::holds;
-use crate::numbers::Number;
-use crate::selections::{Choice, chosen, selected};
+use crate::pieces::any_value;
+use crate::selections::{Choice, chosen};
 use crate::values::value_of;
 use crate::variables::Variables;
 use dmis_text::{Statement, Text};
@@ -141,22 +141,26 @@ fn enter(statements: &[Statement], place: usize) -> Option<Move>
     Some(branch(start, end))
 }
 
-/// Into the branch of a SELECT of this value that is chosen, or past the end.
+/// Into the branch of a SELECT that is chosen, or past the end.
 fn select_turn(
     statements: &[Statement],
-    next: usize,
+    place: usize,
     below: &[Statement],
-    value: Number,
+    params: &[Text],
     end: usize,
     variables: &Variables,
 ) -> Option<Move>
-    requires below { next + length below.now ≤ length statements.now }
+    requires below { place + 1 + length below.now ≤ length statements.now }
     requires end { end + 1 < 2 ^ 64 }
-    ensures { (c : Control) (s : Statement) → passed c.blocks s result
-        ≡ spec.choose_by statements.now c s end
-        (selections.chosen (entry_value variables.now) value 0 next below.now) }
+    ensures { (blocks : List Block) (s : Statement) → passed blocks s result
+        ≡ spec.select_by statements.now (entry_value variables.now) (to place blocks) s below.now
+        (selections.selected (entry_value variables.now) params.now) (Some end) }
 {
-    match chosen(value, next, below, variables)? {
+    let [only] = params else {
+        return None;
+    };
+    let number = any_value(only, variables).ok()?;
+    match chosen(only, &number, place + 1, below, variables)? {
         Choice::Branch(at) => enter(statements, at),
         Choice::NoBranch => Some(Move::Stay(end + 1)),
     }
@@ -367,10 +371,9 @@ pub(crate) fn turn<'a>(
         }
         Part::EndDo => enddo_turn(statements, place, blocks, variables)?,
         Part::Select => {
-            let value = selected(&statement.params, variables)?;
             let end = end_of(Part::Select, 0, next, below)?;
-            let target = select_turn(statements, next, below, value, end, variables)?;
-            Turned::Passes(target)
+            let params = &statement.params;
+            Turned::Passes(select_turn(statements, place, below, params, end, variables)?)
         }
         Part::EndCase => {
             Turned::Passes(leave(place, blocks, end_of(Part::Select, 0, next, below)?)?)

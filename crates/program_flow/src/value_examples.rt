@@ -1,13 +1,15 @@
 // Examples: expressions and their values.
 
-ghost use Rattle.std.specs.Prelude.{◌≡◌, ◌≤◌, ◌*◌, ◌/◌, ◌^◌, ◌∷◌, ◌++◌, ℕ, Err, IsOk, List, None, Ok, Some, codes, decimal, false, int_lt, true, pos, negsuc, unsigned_abs};
+ghost use Rattle.std.specs.Prelude.{◌≡◌, ◌≤◌, ◌*◌, ◌/◌, ◌^◌, ◌∷◌, ◌++◌, ℕ, Err, IsOk, List, None, Ok, Some, [], codes, decimal, false, int_lt, true, pos, negsuc, unsigned_abs};
 ghost use Rattle.std.specs.Int.{IsGcd};
 ghost use Rattle.program_flow.specs.Numbers.{Fraction, IsBounded, gcd, numeral, rounded_product};
-ghost use Rattle.program_flow.specs.ValueExamples.{Gives, Fails, a_is_seven, assigning, declaring, refusal, start};
+ghost use Rattle.program_flow.specs.ValueExamples.{Fails, Gives, Refuses, Says, a_is_seven, assigning, declaring, declaring_letters, lettered, refusal, start};
 ghost use Rattle.program_flow.specs.LookBack.{Holds, is_declaration, value_said};
 ghost use Rattle.program_flow.specs.Nearness.{IsCosine, IsInDegrees, IsInRadians, IsSine, IsTangent};
 ghost use Rattle.program_flow.specs.Texts.{expanded};
-ghost use Rattle.program_flow.specs.Values.{computed, function_of, value_of};
+ghost use Rattle.program_flow.specs.Values.{computed, function_of, literal_of, value_of, written};
+ghost use Rattle.program_flow.specs.Pieces.{literal};
+ghost use Rattle.program_flow.specs.Values.Value.{Number, Letters};
 ghost use Rattle.program_flow.specs.Roots.{IsRoot};
 ghost use Rattle.program_flow.specs.Variables.{Entry, entry_value};
 ghost use Rattle.dmis_text.specs.declared.elements.Statement.{Statement};
@@ -184,21 +186,23 @@ pub fn faults_are_named()
     ensures small { Fails (codes ".1E-18") fault.PastBound }
     ensures exponent { Fails (codes "4**.5") fault.BadExponent }
     ensures great { Fails (codes "1**65") fault.BadExponent }
+    ensures letters { Fails (codes "T+1") fault.NotNumber }
+    ensures literal { Fails (codes "'1'") fault.NotExpression }
 {}
 
 /// Variables have the value of the last assignment before; one of whole numbers drops the decimals.
 #[tactic(auto, unfolding(crate::specs::Values::value_within, crate::specs::Values::numeral_value, crate::specs::Parts::parts_of, crate::specs::Numbers::reduced, crate::specs::Numbers::gcd_within, crate::specs::Numbers::multiplied))]
 pub fn assignments_are_looked_back_for()
     ensures cut { value_said (assigning (codes "N") (codes "2.7") ∷ start) (codes "N")
-        ≡ Ok (whole_number (pos 2)) }
+        ≡ Ok (Number (whole_number (pos 2))) }
     ensures from_below { value_said (assigning (codes "N") (codes "-2.7") ∷ start) (codes "N")
-        ≡ Ok (whole_number (negsuc 1)) }
+        ≡ Ok (Number (whole_number (negsuc 1))) }
     ensures kept { value_said (assigning (codes "X") (codes "2.5") ∷ start) (codes "X")
-        ≡ Ok (record { over = pos 5; under = 2 }) }
+        ≡ Ok (Number (record { over = pos 5; under = 2 })) }
     ensures others { value_said (assigning (codes "X") (codes "1") ∷ start) (codes "N")
         ≡ Err fault.NotAssigned }
     ensures before { value_said (assigning (codes "N") (codes "N*2")
-        ∷ (assigning (codes "N") (codes "4") ∷ start)) (codes "N") ≡ Ok (whole_number (pos 8)) }
+        ∷ (assigning (codes "N") (codes "4") ∷ start)) (codes "N") ≡ Ok (Number (whole_number (pos 8))) }
     ensures anew { value_said (declaring (codes "INTGR") (codes "N")
         ∷ (assigning (codes "N") (codes "4") ∷ start)) (codes "N") ≡ Err fault.NotAssigned }
     ensures unknown { value_said start (codes "Y") ≡ Err fault.UnknownName }
@@ -212,7 +216,57 @@ pub fn assignments_are_looked_back_for()
     ensures fine { refusal start (assigning (codes "N") (codes "1")) ≡ None }
 {}
 
-/// Values are written as numerals: whole ones without a point, others to the nearest millionth.
+/// Variables of letters take literals, others, and `CONCAT(` of both; one of numbers takes neither.
+#[tactic(auto, unfolding(crate::specs::Values::value_within, crate::specs::Values::numeral_value, crate::specs::Parts::parts_of, crate::specs::Numbers::reduced, crate::specs::Numbers::gcd_within, crate::specs::Numbers::multiplied))]
+pub fn letters_are_assigned()
+    ensures literal { Says (codes "'a ''b'" ∷ []) (codes "a 'b") }
+    ensures empty { Says (codes "''" ∷ []) [] }
+    ensures apostrophes { Says (codes "''''''" ∷ []) (codes "''") }
+    ensures variable { Says (codes " S " ∷ []) (codes "b'c") }
+    ensures joined { Says (codes "CONCAT('a'" ∷ (codes "S" ∷ (codes "'' )" ∷ [])))
+        (codes "ab'c") }
+    ensures one { Says (codes "CONCAT(S)" ∷ []) (codes "b'c") }
+    ensures most { Says (codes "'abcde'" ∷ []) (codes "abcde") }
+    ensures past { Refuses (codes "'abcdef'" ∷ []) fault.PastBound }
+    ensures joined_past { Refuses (codes "CONCAT(S" ∷ (codes "S)" ∷ [])) fault.PastBound }
+    ensures open { Refuses (codes "'a" ∷ []) fault.NotLetters }
+    ensures closed { Refuses (codes "a'" ∷ []) fault.NotLetters }
+    ensures apostrophe { Refuses (codes "'" ∷ []) fault.NotLetters }
+    ensures single { Refuses (codes "'a'b'" ∷ []) fault.NotLetters }
+    ensures last { Refuses (codes "'a''" ∷ []) fault.NotLetters }
+    ensures number { Refuses (codes "1" ∷ []) fault.NotLetters }
+    ensures none { Refuses [] fault.NotLetters }
+    ensures two { Refuses (codes "'a'" ∷ (codes "'b'" ∷ [])) fault.NotLetters }
+    ensures unclosed { Refuses (codes "CONCAT('a'" ∷ (codes "S" ∷ [])) fault.NotLetters }
+    ensures nothing { Refuses (codes "CONCAT()" ∷ []) fault.NotLetters }
+    ensures within { Refuses (codes "CONCAT(S)" ∷ (codes "S)" ∷ [])) fault.NotLetters }
+    ensures unknown { Refuses (codes "Y" ∷ []) fault.UnknownName }
+    ensures unassigned { Refuses (codes "CONCAT(S" ∷ (codes "T)" ∷ [])) fault.NotAssigned }
+    ensures first { Refuses (codes "CONCAT(T" ∷ (codes "Y)" ∷ [])) fault.NotAssigned }
+    ensures of_a_number { refusal (assigning (codes "X") (codes "1") ∷ lettered)
+        (assigning (codes "T") (codes "X")) ≡ Some fault.NotLetters }
+    ensures to_a_number { refusal lettered (assigning (codes "X") (codes "S"))
+        ≡ Some fault.NotNumber }
+    ensures literal_to_a_number { refusal lettered (assigning (codes "X") (codes "'1'"))
+        ≡ Some fault.NotExpression }
+    ensures anew { value_said (declaring (codes "REAL") (codes "S") ∷ lettered) (codes "S")
+        ≡ Err fault.NotAssigned }
+    ensures not_anew { value_said (declaring_letters (codes "0") (codes "S") ∷ lettered)
+        (codes "S") ≡ Ok (Letters (codes "b'c")) }
+    ensures long { value_said (assigning (codes "L") (codes "2.7")
+        ∷ (declaring (codes "LONG") (codes "L") ∷ [])) (codes "L")
+        ≡ Ok (Number (whole_number (pos 2))) }
+    ensures double { value_said (assigning (codes "L") (codes "2.5")
+        ∷ (declaring (codes "DOUBL") (codes "L") ∷ [])) (codes "L")
+        ≡ Ok (Number (record { over = pos 5; under = 2 })) }
+{}
+
+/// Letters that are written as a literal are read back.
+pub fn literals_read_back()
+    ensures { (text : List ℕ) → literal (literal_of text) ≡ Ok text }
+{}
+
+/// Values are written as numerals: whole ones without a point, others to the nearest millionth; letters as literals.
 #[tactic(auto, unfolding(fixed_um::specs::Written::written_component))]
 pub fn values_are_written()
     ensures whole { numeral (whole_number (negsuc 4)) ≡ codes "-" ++ decimal 5 }
@@ -223,6 +277,8 @@ pub fn values_are_written()
         ≡ codes "-" ++ (decimal 0 ++ codes ".000001") }
     ensures zero { numeral (record { over = negsuc 0; under = 3000000 })
         ≡ decimal 0 ++ codes ".000000" }
+    ensures number { written (Number (whole_number (pos 4))) ≡ decimal 4 }
+    ensures letters { written (Letters (codes "it's")) ≡ codes "'it''s'" }
 {}
 
 /// A value takes the place of an expression; a numeral stays as it is, and what has no value.
@@ -237,8 +293,17 @@ pub fn values_take_the_place_of_expressions()
     ensures plus { computed a_is_seven (codes "+5") ≡ codes "+5" }
     ensures label { computed a_is_seven (codes "F(A)") ≡ codes "F(A)" }
     ensures unassigned { computed a_is_seven (codes "B") ≡ codes "B" }
+    ensures name_of_letters { computed a_is_seven (codes "T") ≡ codes "T" }
     ensures real { is_declaration (declaring (codes "REAL") (codes "X")) ≡ true }
-    ensures texts { is_declaration (declaring (codes "CHAR") (codes "X")) ≡ false }
+    ensures whole { is_declaration (declaring (codes "INTGR") (codes "X")) ≡ true }
+    ensures long { is_declaration (declaring (codes "LONG") (codes "X")) ≡ true }
+    ensures double { is_declaration (declaring (codes "DOUBL") (codes "X")) ≡ true }
+    ensures other { is_declaration (declaring (codes "BOOL") (codes "X")) ≡ false }
+    ensures letters { is_declaration (declaring_letters (codes "1") (codes "X")) ≡ true }
+    ensures most { is_declaration (declaring_letters (codes "4000") (codes "X")) ≡ true }
+    ensures past { is_declaration (declaring_letters (codes "4001") (codes "X")) ≡ false }
+    ensures no_letters { is_declaration (declaring_letters (codes "0") (codes "X")) ≡ false }
+    ensures no_count { is_declaration (declaring (codes "CHAR") (codes "X")) ≡ false }
     ensures labelled { is_declaration (record (declaring (codes "REAL") (codes "X"))
         { label = Some (codes "X") }) ≡ false }
 {}
@@ -254,8 +319,11 @@ pub fn names_in_texts_have_values()
     ensures unknown { expanded a_is_seven (codes "P@AB") ≡ Err fault.UnknownName }
     ensures unassigned { expanded a_is_seven (codes "P@B") ≡ Err fault.NotAssigned }
     ensures empty { expanded a_is_seven (codes "P@") ≡ Err fault.UnknownName }
-    ensures fraction { expanded (λ name. Ok (record { over = pos 5; under = 2 })) (codes "@A")
+    ensures fraction { expanded (λ name. Ok (Number (record { over = pos 5; under = 2 }))) (codes "@A")
         ≡ Err fault.NotWhole }
-    ensures negative { expanded (λ name. Ok (whole_number (negsuc 4))) (codes "@A")
+    ensures negative { expanded (λ name. Ok (Number (whole_number (negsuc 4)))) (codes "@A")
         ≡ Ok (codes "-" ++ decimal 5) }
+    ensures letters { expanded a_is_seven (codes "P@T.") ≡ Ok (codes "Pit's.") }
+    ensures once { expanded (λ name. Ok (Letters (codes "@A"))) (codes "@B-@C")
+        ≡ Ok (codes "@A-@A") }
 {}

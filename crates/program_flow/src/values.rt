@@ -1,6 +1,6 @@
 // The value of an expression.
 
-ghost use Rattle.std.specs.Prelude.{◌≡◌, IfOk, bytes_eq};
+ghost use Rattle.std.specs.Prelude.{◌≡◌, ◌++◌, OnOk, bytes_eq, false};
 ghost use Rattle.program_flow.specs.ValueCuts.{seen, written_or};
 ghost use Rattle.program_flow.specs.Values as spec;
 ghost use Rattle.program_flow.specs.Variables.{entry_value};
@@ -62,7 +62,7 @@ fn leaf_value(text: &[u8], variables: &Variables) -> Result<Number, ValueFault>
     if is_numeral(text) {
         numeral_value(text)
     } else if is_variable(text) {
-        variables.value(text)
+        variables.number(text)
     } else {
         Err(ValueFault::NotExpression)
     }
@@ -180,15 +180,24 @@ fn other_value(text: &[u8], variables: &Variables) -> Option<Number>
     parts_value(&cut, variables, LEVELS - 1).ok()
 }
 
-/// A text with the value of its expression in its place, as a numeral. A numeral stays as it is, and so does what has no value.
-pub fn computed(text: Vec<u8>, variables: &Variables) -> Result<Vec<u8>, AllocError>
-    ensures { IfOk result (λ out. out.items
-        ≡ spec.computed (entry_value variables.now) text.items) }
+/// Whether a text has a value that takes its place.
+pub fn has_value(text: &[u8], variables: &Variables) -> bool
+    ensures { result ≡ false → spec.computed (entry_value variables.now) text.now ≡ text.now }
 {
-    let Some(number) = other_value(&text, variables) else {
-        return Ok(text);
-    };
-    let mut out = Vec::new(*text.allocator());
-    number.write(&mut out)?;
-    Ok(out)
+    other_value(text, variables).is_some()
+}
+
+/// Appends a text with the value of its expression in its place, as a numeral. A numeral stays as it is, and so does what has no value.
+pub fn push_computed(
+    out: &mut Vec<u8>,
+    text: &[u8],
+    variables: &Variables,
+) -> Result<(), AllocError>
+    ensures { OnOk result (out.new.items
+        ≡ out.old.items ++ spec.computed (entry_value variables.now) text.now) }
+{
+    match other_value(text, variables) {
+        Some(number) => number.write(out),
+        None => out.extend_from_slice(text),
+    }
 }

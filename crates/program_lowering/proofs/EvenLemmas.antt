@@ -1,5 +1,5 @@
 -- Touches from the nominal: what the code sees is what is looked back for, what is given, and that a block with its touches is given nothing.
-use Rattle.program_lowering.proofs.Names.{[], ◌&&◌, ◌++◌, ◌==◌, ◌∙◌, ◌∷◌, ◌≡◌, AllByRecursion, ap, append_assoc, arith, Bool, bound_count, bound_said}
+use Rattle.program_lowering.proofs.Names.{[], ◌&&◌, ◌++◌, ◌==◌, ◌||◌, ◌∙◌, ◌∷◌, ◌≡◌, AllByRecursion, ap, append_assoc, arith, Bool, bound_count, bound_said}
 use Rattle.program_lowering.proofs.Names.{BadArguments, bytes_eq, Carried, GivesStep, Choices, cond, context_at, Err, false, in_manual, is_badly_formed, is_none, IfOk, judged, length, ltb-true, List}
 use Rattle.program_lowering.proofs.Names.{left_out_in, manual_after, nat_le, nat_lt, nat_tests, nearest, None, not, NotDmis, Ok, Option, or_else, Point, refl, Refusal, Result, SaidBy, Some}
 use Rattle.program_lowering.proofs.Names.{Statement, StatementMeaning, step, suc, subst, sym, TextFault, touched, touched_with, true, without_parameters, zero, ℕ, ◌<◌, ◌+◌}
@@ -22,16 +22,17 @@ use Rattle.program_flow.proofs.Steps.{line_digits_are}
 use Rattle.std.proofs.Common.{codes, decimal}
 use Rattle.program_lowering.specs.Flats.{note_line}
 use Rattle.program_lowering.specs.Lowering.{note_for, note_start}
-use Rattle.program_lowering.specs.Reasons.{touches_text}
+use Rattle.program_lowering.specs.Reasons.{start_text, touches_text}
 use Rattle.program_lowering.specs.Texts.{begins_with}
 use Rattle.program_lowering.specs.Words.{given_word}
 use Rattle.tool_rack.specs.Setups.{has_name}
 use Rattle.program_lowering.specs.StoredFrames.{by_frame, selecting}
 use Rattle.program_lowering.specs.declared.words.Reason.TheVariants.{Manual, Touched}
 use Rattle.program_lowering.specs.Carried.{Seen, entered, judged_in, noted, all_steps, bore_among, features_after, filling_due, latest, seen_after, seen_by, touch_steps, touched_step, touches_due, unless_closed, with_feature}
-use Rattle.program_lowering.specs.Cartesian.{◌>>=◌, Triple}
-use Rattle.program_lowering.specs.EvenTouches.{EachBelow, Filling, all_touched, angle_text, begun, bore_at, bore_named, bore_said, ends_block, feature_name, filling_of, filling_with}
-use Rattle.program_lowering.specs.EvenTouches.{from_centre, given_by, is_bare, is_endmes, is_touch, ends_nominals, last_of, notice, there_and_back, to_centre, touch_at, touched_from, touches_before, touches_to, waiting, waiting_after}
+use Rattle.program_flow.specs.Numbers.{Fraction}
+use Rattle.program_lowering.specs.Cartesian.{◌>>=◌, Triple, moved_by, number_in, numbers_in}
+use Rattle.program_lowering.specs.EvenTouches.{EachBelow, Filling, all_touched, angle_text, begun, bore_at, bore_named, bore_said, end_of, ends_block, feature_name, fewest, filling_by, filling_of, filling_with}
+use Rattle.program_lowering.specs.EvenTouches.{from_centre, given_by, is_as_asked, is_bare, is_endmes, is_touch, ends_nominals, last_of, level_at, notice, outward_at, there_and_back, to_centre, touch_at, touch_on, touched_from, touches_before, touches_to, waiting, waiting_after}
 use Rattle.program_lowering.specs.declared.even.Bore.{Bore}
 use Rattle.program_lowering.specs.declared.even.Feature.{Feature}
 use Rattle.program_lowering.specs.declared.even.Touch.{Touch}
@@ -79,7 +80,7 @@ sees_none choices = λ e. record { waiting = refl; bores = λ name. refl; manual
 
 filling_same : (w : Option Wanted) (f g : List ℕ → Option Bore) → ((name : List ℕ) → f name ≡ g name) → filling_of w f ≡ filling_of w g
 filling_same None f g h = refl
-filling_same (Some w) f g h = ap (λ (o : Option Bore). cond (nat_le 3 w.count && nat_le w.count 1000) (filling_with w o) None) (h w.name)
+filling_same (Some w) f g h = ap (λ (o : Option Bore). cond (nat_le (fewest w.cylinder) w.count && nat_le w.count 1000) (filling_with w o) None) (h w.name)
 
 due_is : (above : List Statement) (seen : Seen) (s : Statement) → Looks above seen → touches_before above s ≡ given_by s.line (filling_due seen s)
 due_is above seen s h = rw (h.manual, h.waiting) (go (ends_block (in_manual above) s))
@@ -142,7 +143,7 @@ touches_on line c (t ∷ touches) = (refl, (refl, touches_on line c touches))
 
 given_on : (line : ℕ) (o : Option Filling) → AllOn line (given_by line o)
 given_on line None = tt
-given_on line (Some f) = (refl, touches_on line f.centre f.touches)
+given_on line (Some f) = (refl, touches_on line f.end f.touches)
 
 all_more : (line : ℕ) (xs ys : List Statement) → AllOn line xs → AllOn line ys → AllOn line (xs ++ ys)
 all_more line [] ys h g = g
@@ -216,17 +217,17 @@ pub notice_first : (frames : List (List ℕ × Point)) (choices : Choices) (c : 
 unfolding judged_in keyword_of
 notice_first frames choices c line f none = rw (none, notice_stays choices (has_name c.used) line f) refl
 
-touch_by_touch : (frames : List (List ℕ × Point)) (choices : Choices) (line : ℕ) (centre : Triple) (c : Carried) (touches : List Touch)
-    → touch_steps frames choices line centre c touches ≡ all_steps frames choices c (there_and_back line centre touches)
-touch_by_touch frames choices line centre c [] = sym (one_step frames choices c (to_centre line centre))
-touch_by_touch frames choices line centre c (t ∷ touches) =
-    go (all_steps frames choices c (from_centre line centre t)) (λ d. touch_by_touch frames choices line centre d touches)
-    ∙ sym (steps_append frames choices c (from_centre line centre t) (there_and_back line centre touches))
+touch_by_touch : (frames : List (List ℕ × Point)) (choices : Choices) (line : ℕ) (end : Triple) (c : Carried) (touches : List Touch)
+    → touch_steps frames choices line end c touches ≡ all_steps frames choices c (there_and_back line end touches)
+touch_by_touch frames choices line end c [] = sym (one_step frames choices c (to_centre line end))
+touch_by_touch frames choices line end c (t ∷ touches) =
+    go (all_steps frames choices c (from_centre line t)) (λ d. touch_by_touch frames choices line end d touches)
+    ∙ sym (steps_append frames choices c (from_centre line t) (there_and_back line end touches))
   where
-    go : (r : Result (Bool × Carried) Refusal) → ((d : Carried) → touch_steps frames choices line centre d touches
-        ≡ all_steps frames choices d (there_and_back line centre touches))
-        → unless_closed r (λ d. touch_steps frames choices line centre d touches)
-        ≡ unless_closed r (λ d. all_steps frames choices d (there_and_back line centre touches))
+    go : (r : Result (Bool × Carried) Refusal) → ((d : Carried) → touch_steps frames choices line end d touches
+        ≡ all_steps frames choices d (there_and_back line end touches))
+        → unless_closed r (λ d. touch_steps frames choices line end d touches)
+        ≡ unless_closed r (λ d. all_steps frames choices d (there_and_back line end touches))
     go (Err refusal) more = refl
     go (Ok (true, d)) more = refl
     go (Ok (false, d)) more = more d
@@ -234,19 +235,19 @@ touch_by_touch frames choices line centre c (t ∷ touches) =
 pub filling_first : (frames : List (List ℕ × Point)) (choices : Choices) (c : Carried) (line : ℕ) (f : Filling) → c.above.number ≡ 0
     → all_steps frames choices c (given_by line (Some f)) ≡ Err NotDmis
 filling_first frames choices c line f none = ap (λ (r : Result (Bool × Carried) Refusal). unless_closed r
-    (λ d. all_steps frames choices d (there_and_back line f.centre f.touches))) (notice_first frames choices c line f none)
+    (λ d. all_steps frames choices d (there_and_back line f.end f.touches))) (notice_first frames choices c line f none)
 
-pub filling_next : (frames : List (List ℕ × Point)) (choices : Choices) (c d e : Carried) (line : ℕ) (f : Filling) (centre : Triple) (touches : List Touch)
-    (r : Result Bool StatementFault) → d ≡ noted (entered c line) (notice line f) (Some Touched) → GivesStep r e (touch_steps frames choices line centre d touches)
-    → centre ≡ f.centre → touches ≡ f.touches → (c.above.number == 0) ≡ false → GivesStep r e (all_steps frames choices c (given_by line (Some f)))
-filling_next frames choices c d e line f centre touches r after g at_centre all some =
-    let is : touch_steps frames choices line centre d touches ≡ all_steps frames choices c (given_by line (Some f)) =
-    touch_by_touch frames choices line centre d touches
-    ∙ (ap (λ (x : Triple). all_steps frames choices d (there_and_back line x touches)) at_centre
-    ∙ (ap (λ (xs : List Touch). all_steps frames choices d (there_and_back line f.centre xs)) all
-    ∙ (ap (λ (x : Carried). all_steps frames choices x (there_and_back line f.centre f.touches)) after
+pub filling_next : (frames : List (List ℕ × Point)) (choices : Choices) (c d e : Carried) (line : ℕ) (f : Filling) (end : Triple) (touches : List Touch)
+    (r : Result Bool StatementFault) → d ≡ noted (entered c line) (notice line f) (Some Touched) → GivesStep r e (touch_steps frames choices line end d touches)
+    → end ≡ f.end → touches ≡ f.touches → (c.above.number == 0) ≡ false → GivesStep r e (all_steps frames choices c (given_by line (Some f)))
+filling_next frames choices c d e line f end touches r after g at_end all some =
+    let is : touch_steps frames choices line end d touches ≡ all_steps frames choices c (given_by line (Some f)) =
+    touch_by_touch frames choices line end d touches
+    ∙ (ap (λ (x : Triple). all_steps frames choices d (there_and_back line x touches)) at_end
+    ∙ (ap (λ (xs : List Touch). all_steps frames choices d (there_and_back line f.end xs)) all
+    ∙ (ap (λ (x : Carried). all_steps frames choices x (there_and_back line f.end f.touches)) after
     ∙ sym (ap (λ (r : Result (Bool × Carried) Refusal). unless_closed r (λ d. all_steps frames choices d
-    (there_and_back line f.centre f.touches))) (notice_next frames choices c line f some))))) in
+    (there_and_back line f.end f.touches))) (notice_next frames choices c line f some))))) in
     subst (λ (due : Result (Bool × Carried) Refusal). GivesStep r e due) is g
 
 -- ---- a statement after what is given before it
@@ -286,6 +287,10 @@ four a b c d = append_assoc (a ++ b) c d ∙ append_assoc a b (c ++ d)
 five : (a b c d e : List ℕ) → ((((a ++ b) ++ c) ++ d) ++ e) ≡ (a ++ (b ++ (c ++ (d ++ e))))
 five a b c d e = four (a ++ b) c d e ∙ append_assoc a b (c ++ (d ++ e))
 
+seven : (a b c d e f g : List ℕ) → (((a ++ (b ++ (c ++ (d ++ e)))) ++ f) ++ g) ≡ (a ++ (b ++ (c ++ (d ++ (e ++ (f ++ g))))))
+seven a b c d e f g = ap (λ (x : List ℕ). (x ++ f) ++ g) (sym (five a b c d e)) ∙ (append_assoc ((((a ++ b) ++ c) ++ d) ++ e) f g
+    ∙ (append_assoc (((a ++ b) ++ c) ++ d) e (f ++ g) ∙ five a b c d (e ++ (f ++ g))))
+
 parts : (a b c d p q r new : List ℕ) → p ≡ a ++ b → q ≡ p ++ c → r ≡ q ++ d → new ≡ r → new ≡ ((a ++ b) ++ c) ++ d
 parts a b c d p q r new h g k l = l ∙ (k ∙ ap (λ (x : List ℕ). x ++ d) (g ∙ ap (λ (x : List ℕ). x ++ c) h))
 
@@ -296,23 +301,27 @@ angle_is n t p q r new h g k l =
     ∙ (four (codes "360*") (decimal t) (codes "/") (decimal n) ∙ (ap (λ (x : List ℕ). codes "360*" ++ (x ++ (codes "/" ++ decimal n))) (line_digits_are t)
     ∙ ap (λ (x : List ℕ). codes "360*" ++ (line_digits t ++ (codes "/" ++ x))) (line_digits_are n))))
 
-pub touches_are : (count name old p q r new : List ℕ) → p ≡ old ++ count → q ≡ p ++ codes " touches of F(" → r ≡ q ++ name
-    → new ≡ r ++ codes "), each from its centre: see that the way there is free" → new ≡ old ++ touches_text count name
+pub touches_are : (count name from old p q r s t new : List ℕ) → p ≡ old ++ count → q ≡ p ++ codes " touches of F(" → r ≡ q ++ name
+    → s ≡ r ++ codes "), each from " → t ≡ s ++ from → new ≡ t ++ codes ": see that the way there is free" → new ≡ old ++ touches_text count name from
 unfolding touches_text
-touches_are count name old p q r new h g k l =
+touches_are count name from old p q r s t new h g k l m is =
     let front = codes " touches of F(" in
-    let back = codes "), each from its centre: see that the way there is free" in
-    l ∙ (ap (λ (x : List ℕ). x ++ back) (parts old count front name p q r r h g k refl) ∙ five old count front name back)
+    let way = codes "), each from " in
+    let free = codes ": see that the way there is free" in
+    is ∙ (ap (λ (x : List ℕ). x ++ free) m ∙ (ap (λ (x : List ℕ). (x ++ from) ++ free) (l ∙ (ap (λ (x : List ℕ). x ++ way)
+    (parts old count front name p q r r h g k refl) ∙ five old count front name way))
+    ∙ seven old count front name way from free))
 
-pub notice_is : (line : ℕ) (f : Filling) (old start said text new count name : List ℕ) → start ≡ old ++ note_line line → said ≡ start ++ codes "ENDMES is given "
-    → text ≡ said ++ touches_text count name → new ≡ text ++ 10 ∷ [] → count ≡ decimal f.count → name ≡ f.name
+pub notice_is : (line : ℕ) (f : Filling) (old start said text new count name from : List ℕ) → start ≡ old ++ note_line line → said ≡ start ++ codes "ENDMES is given "
+    → text ≡ said ++ touches_text count name from → new ≡ text ++ 10 ∷ [] → count ≡ decimal f.count → name ≡ f.name → from ≡ start_text f.cylinder
     → new ≡ old ++ note_for (notice line f) (Some Touched)
 unfolding note_start
-notice_is line f old start said text new count name h g k l of called =
+notice_is line f old start said text new count name from h g k l of called way =
     let mark = codes "ENDMES is given " in
-    let told = touches_text (decimal f.count) f.name in
+    let told = touches_text (decimal f.count) f.name (start_text f.cylinder) in
     l ∙ (ap (λ (x : List ℕ). x ++ 10 ∷ []) (parts old (note_line line) mark told start said text text h g
-    (k ∙ (ap (λ (x : List ℕ). said ++ touches_text x name) of ∙ ap (λ (x : List ℕ). said ++ touches_text (decimal f.count) x) called)) refl)
+    (k ∙ (ap (λ (x : List ℕ). said ++ touches_text x name from) of ∙ (ap (λ (x : List ℕ). said ++ touches_text (decimal f.count) x from) called
+    ∙ ap (λ (x : List ℕ). said ++ touches_text (decimal f.count) f.name x) way))) refl)
     ∙ (five old (note_line line) mark told (10 ∷ [])
     ∙ ap (λ (x : List ℕ). old ++ x) (sym (append_assoc (note_line line) given_word (32 ∷ (told ++ 10 ∷ []))))))
 
@@ -326,18 +335,22 @@ record Waits (above : List Statement) (w : Wanted) : Type 0 where
   wanted : bound_count (nearest bound_said above) ≡ Some w.count
   none : touched above ≡ 0
 
-begun_counts : (above : List Statement) (circle : Bool) (r : Result StatementMeaning Refusal) (w : Wanted) → begun circle r ≡ Some w → Counts above r w
-begun_counts above true (Ok (said.Begins name count)) w h =
-    let e : record { name = name; count = count } ≡ w = cc in record { wanted = ap (λ (v : Wanted). Some v.count) e; none = refl }
-begun_counts above false (Ok (said.Begins name count)) w h = absurd cc
-begun_counts above circle (Ok (said.Goes target)) w h = absurd cc
-begun_counts above circle (Ok (said.Touches target direction)) w h = absurd cc
-begun_counts above circle (Ok said.Ends) w h = absurd cc
-begun_counts above circle (Ok (said.Selects name)) w h = absurd cc
-begun_counts above circle (Ok (said.Recalls name)) w h = absurd cc
-begun_counts above circle (Ok said.Closes) w h = absurd cc
-begun_counts above circle (Ok said.Passes) w h = absurd cc
-begun_counts above circle (Err refusal) w h = absurd cc
+begun_counts : (above : List Statement) (circle cylinder : Bool) (r : Result StatementMeaning Refusal) (w : Wanted) → begun circle cylinder r ≡ Some w
+    → Counts above r w
+begun_counts above circle cylinder (Ok (said.Begins name count)) w h = go (circle || cylinder) h
+  where
+    go : (b : Bool) → cond b (Some (record { name = name; count = count; cylinder = cylinder })) None ≡ Some w
+        → Counts above (Ok (said.Begins name count)) w
+    go true g = let e : record { name = name; count = count; cylinder = cylinder } ≡ w = cc in record { wanted = ap (λ (v : Wanted). Some v.count) e; none = refl }
+    go false g = absurd cc
+begun_counts above circle cylinder (Ok (said.Goes target)) w h = absurd cc
+begun_counts above circle cylinder (Ok (said.Touches target direction)) w h = absurd cc
+begun_counts above circle cylinder (Ok said.Ends) w h = absurd cc
+begun_counts above circle cylinder (Ok (said.Selects name)) w h = absurd cc
+begun_counts above circle cylinder (Ok (said.Recalls name)) w h = absurd cc
+begun_counts above circle cylinder (Ok said.Closes) w h = absurd cc
+begun_counts above circle cylinder (Ok said.Passes) w h = absurd cc
+begun_counts above circle cylinder (Err refusal) w h = absurd cc
 
 -- what neither begins nor ends a block, and is no touch
 abbrev is_quiet : Keyword → Bool
@@ -376,7 +389,7 @@ waits (s ∷ above) w h =
     let c = go (keyword_of s.word) (λ g. waits above w g) h in record { wanted = c.wanted; none = c.none }
   where
     go : (k : Keyword) → (waiting above ≡ Some w → Waits above w) → waiting_after (waiting above) k s ≡ Some w → Counts above (said_of k s) w
-    go word.Meas more g = begun_counts above (begins_with (codes "CIRCLE") s.params) (said_of word.Meas s) w g
+    go word.Meas more g = begun_counts above (begins_with (codes "CIRCLE") s.params) (begins_with (codes "CYLNDR") s.params) (said_of word.Meas s) w g
     go word.Ptmeas more g = absurd cc
     go word.Endmes more g = absurd cc
     go word.Dmismn more g = quiet above word.Dmismn (said_of word.Dmismn s) w refl (said_of_if word.Dmismn s) (more g)
@@ -402,24 +415,28 @@ ends_is s m h = go (is_badly_formed word.Endmes s) s.params h
     go false (first ∷ rest) g = absurd cc
 
 enough : (frames : List (List ℕ × Point)) (tool : Option (List ℕ)) (count : ℕ) → settled frames tool (Some count) 0 said.Ends ≡ Ok said.Ends
-    → nat_le 3 count ≡ true → ⊥
-enough frames tool count h g = go (nat_lt 0 count) refl h
+    → (cylinder : Bool) → nat_le (fewest cylinder) count ≡ true → ⊥
+enough frames tool count h cylinder g = go (nat_lt 0 count) refl h
   where
     go : (b : Bool) → nat_lt 0 count ≡ b → cond b (Err TooFewPoints) (Ok said.Ends) ≡ Ok said.Ends → ⊥
     go true e k = absurd cc
-    go false e k = absurd (grind (arith, nat_tests, e, g))
+    go false e k = some cylinder g
+      where
+        some : (b : Bool) → nat_le (fewest b) count ≡ true → ⊥
+        some true f = absurd (grind (arith, nat_tests, e, f))
+        some false f = absurd (grind (arith, nat_tests, e, f))
 
 nothing_given : (frames : List (List ℕ × Point)) (above : List Statement) (line : ℕ) (w : Option Wanted) (bores : List ℕ → Option Bore) → waiting above ≡ w
     → settled frames (context_at frames above).tool (context_at frames above).wanted (context_at frames above).touched said.Ends ≡ Ok said.Ends
     → given_by line (filling_of w bores) ≡ []
 nothing_given frames above line None bores e h = refl
-nothing_given frames above line (Some w) bores e h = go (nat_le 3 w.count) refl
+nothing_given frames above line (Some w) bores e h = go (nat_le (fewest w.cylinder) w.count) refl
   where
-    go : (b : Bool) → nat_le 3 w.count ≡ b → given_by line (cond (b && nat_le w.count 1000) (filling_with w (bores w.name)) None) ≡ []
+    go : (b : Bool) → nat_le (fewest w.cylinder) w.count ≡ b → given_by line (cond (b && nat_le w.count 1000) (filling_with w (bores w.name)) None) ≡ []
     go false g = refl
     go true g =
         let c = waits above w e in
-        absurd (enough frames (context_at frames above).tool w.count (rw (c.wanted, c.none) at h) g)
+        absurd (enough frames (context_at frames above).tool w.count (rw (c.wanted, c.none) at h) w.cylinder g)
 
 pub accepted_as_it_is : (frames : List (List ℕ × Point)) (above : List Statement) (s : Statement) (m : StatementMeaning)
     → judged frames (context_at frames above) s ≡ Ok m → touches_before above s ≡ []
@@ -512,9 +529,56 @@ touches_kept : (line : ℕ) (c : Triple) (touches : List Touch) → length (filt
 touches_kept line c [] = refl
 touches_kept line c (t ∷ touches) = ap suc (touches_kept line c touches)
 
-each_below : (line : ℕ) (c : Triple) (touches : List Touch) (before : Statement) → EachBelow (to_centre line c) before (there_and_back line c touches)
-each_below line c [] before = ((λ e. absurd cc), tt)
-each_below line c (t ∷ touches) before = ((λ e. absurd cc), ((λ e. refl), each_below line c touches _))
+-- what holds of all values of a step holds of the value after it
+bound : {A B : Type 0} (P : B → Type 0) (o : Option A) (f : A → Option B) (b : B) → ((a : A) → f a ≡ Some b → P b) → (o >>= f) ≡ Some b → P b
+bound P None f b more h = absurd cc
+bound P (Some a) f b more h = more a h
+
+made_from : (centre : Triple) (radius : Fraction) (way : Triple) (t : Touch) → touch_on centre radius way ≡ Some t → t.from ≡ centre
+made_from centre radius way t h = bound from (moved_by centre radius way) _ t (λ place. bound from (numbers_in (codes "0" ∷ codes "0" ∷ codes "0" ∷ [])) _ t
+    (λ nowhere. bound from (number_in (codes "-1")) _ t (λ back. bound from (moved_by nowhere back way) _ t
+    (λ direction g. let is : record { from = centre; place = place; direction = direction } ≡ t = cc in sym (ap (λ (x : Touch). x.from) is))))) h
+  where
+    from : Touch → Type 0
+    from x = x.from ≡ centre
+
+-- each touch, from the t-th on, is made from where this move ends
+abbrev MadeFrom : ℕ → (ℕ → Statement) → ℕ → List Touch → Type 0
+MadeFrom line moves t [] = Unit {0}
+MadeFrom line moves t (x ∷ touches) = (to_centre line x.from ≡ moves t) × MadeFrom line moves (suc t) touches
+
+one_more_from : (line : ℕ) (moves : ℕ → Statement) (t u : ℕ) (touches : List Touch) (x : Touch) → MadeFrom line moves t touches
+    → t + length touches ≡ u → to_centre line x.from ≡ moves u → MadeFrom line moves t (touches ++ x ∷ [])
+one_more_from line moves t u [] x h e g = (g ∙ ap moves (sym (let at : t + 0 ≡ u = e in let is : t ≡ u = omega (arith, at) in is)), tt)
+one_more_from line moves t u (y ∷ touches) x h e g =
+    (h.0, one_more_from line moves (suc t) u touches x h.1 (omega (arith, e)) g)
+
+all_from : (bore : Bore) (n line t : ℕ) (touches : List Touch) → touches_to bore n t ≡ Some touches
+    → MadeFrom line (λ u. to_centre line (level_at bore n u).centre) 0 touches
+all_from bore n line zero touches h = let e : [] ≡ touches = cc in
+    subst (λ (ts : List Touch). MadeFrom line (λ u. to_centre line (level_at bore n u).centre) 0 ts) e tt
+all_from bore n line (suc t) touches h = go (touches_to bore n t) (touch_at bore n t) refl refl (λ earlier e. all_from bore n line t earlier e) h
+  where
+    moves : ℕ → Statement
+    moves u = to_centre line (level_at bore n u).centre
+
+    go : (o : Option (List Touch)) (p : Option Touch) → touches_to bore n t ≡ o → touch_at bore n t ≡ p
+        → ((earlier : List Touch) → touches_to bore n t ≡ Some earlier → MadeFrom line moves 0 earlier)
+        → (o >>= λ earlier. (p >>= λ touch. Some (earlier ++ touch ∷ []))) ≡ Some touches → MadeFrom line moves 0 touches
+    go None p e f more g = absurd cc
+    go (Some earlier) None e f more g = absurd cc
+    go (Some earlier) (Some x) e f more g =
+        let is : (earlier ++ x ∷ []) ≡ touches = cc in
+        let from : x.from ≡ (level_at bore n t).centre = bound (λ (y : Touch). y.from ≡ (level_at bore n t).centre)
+        (outward_at bore.plane (angle_text (level_at bore n t).count (level_at bore n t).touch)) (touch_on (level_at bore n t).centre bore.radius) x
+        (λ way k. made_from (level_at bore n t).centre bore.radius way x k) f in
+        subst (λ (ts : List Touch). MadeFrom line moves 0 ts) is (one_more_from line moves 0 t earlier x (more earlier e)
+        (omega (arith, touches_count bore n t earlier e)) (ap (λ (c : Triple). to_centre line c) from))
+
+each_below : (line : ℕ) (end : Triple) (moves : ℕ → Statement) (t : ℕ) (touches : List Touch) (before : Statement) → MadeFrom line moves t touches
+    → EachBelow moves t before (there_and_back line end touches)
+each_below line end moves t [] before h = ((λ e. absurd cc), tt)
+each_below line end moves t (x ∷ touches) before h = ((λ e. absurd cc), ((λ e. h.0), each_below line end moves (suc t) touches _ h.1))
 
 ends_there : (line : ℕ) (c : Triple) (touches : List Touch) (before : Statement) → last_of before (there_and_back line c touches) ≡ to_centre line c
 ends_there line c [] before = refl
@@ -522,45 +586,54 @@ ends_there line c (t ∷ touches) before = ends_there line c touches _
 
 record IsFilled (above : List Statement) (line : ℕ) (w : Wanted) (bore : Option Bore) (given : List Statement) : Type 0 where
   count : (given ≡ [] → ⊥) → length (filter is_touch given) ≡ w.count
-  back : (b : Bore) (before : Statement) → bore ≡ Some b → (given ≡ [] → ⊥) → last_of before given ≡ to_centre line b.centre
-  below : (b : Bore) (before : Statement) → bore ≡ Some b → EachBelow (to_centre line b.centre) before given
+  back : (b : Bore) (before : Statement) → bore ≡ Some b → (given ≡ [] → ⊥) → last_of before given ≡ to_centre line (end_of b)
+  below : (b : Bore) (before : Statement) → bore ≡ Some b → EachBelow (λ t. to_centre line (level_at b w.count t).centre) 0 before given
+
+not_filled : (above : List Statement) (line : ℕ) (w : Wanted) (o : Option Bore) → IsFilled above line w o []
+not_filled above line w o =
+    record { count = λ some. absurd (some refl); back = λ b before h some. absurd (some refl); below = λ b before h. tt }
+
+filled_by : (above : List Statement) (line : ℕ) (w : Wanted) (bore : Bore) (o : Option (List Touch)) → touches_to bore w.count w.count ≡ o
+    → IsFilled above line w (Some bore) (given_by line
+    (o >>= λ touches. Some (record { name = w.name; count = w.count; cylinder = w.cylinder; end = end_of bore; touches = touches })))
+filled_by above line w bore None e = not_filled above line w (Some bore)
+filled_by above line w bore (Some touches) e = record {
+  count = λ some. touches_kept line (end_of bore) touches ∙ touches_count bore w.count w.count touches e;
+  back = λ b before h some. let is : bore ≡ b = cc in ends_there line (end_of bore) touches _ ∙ ap (λ (x : Bore). to_centre line (end_of x)) is;
+  below = λ b before h. let is : bore ≡ b = cc in subst (λ (x : Bore). EachBelow (λ t. to_centre line (level_at x w.count t).centre) 0 before
+      (given_by line (Some (record { name = w.name; count = w.count; cylinder = w.cylinder; end = end_of bore; touches = touches })))) is (
+        (λ g. absurd cc),
+        each_below line (end_of bore) (λ t. to_centre line (level_at bore w.count t).centre) 0 touches _
+            (all_from bore w.count line w.count touches e),
+      );
+}
 
 filled_with : (above : List Statement) (line : ℕ) (w : Wanted) (o : Option Bore) → IsFilled above line w o (given_by line (filling_with w o))
-filled_with above line w None = record { count = λ some. absurd (some refl); back = λ b before e some. absurd cc; below = λ b before e. absurd cc }
-filled_with above line w (Some bore) = go (touches_to bore w.count w.count) refl
+filled_with above line w None = not_filled above line w None
+filled_with above line w (Some bore) = go (is_as_asked w.cylinder bore.far)
   where
-    go : (o : Option (List Touch)) → touches_to bore w.count w.count ≡ o → IsFilled above line w (Some bore)
-        (given_by line (o >>= λ touches. Some (record { name = w.name; count = w.count; centre = bore.centre; touches = touches })))
-    go None e = record { count = λ some. absurd (some refl); back = λ b before h some. absurd (some refl); below = λ b before h. tt }
-    go (Some touches) e = record {
-      count = λ some. touches_kept line bore.centre touches ∙ touches_count bore w.count w.count touches e;
-      back = λ b before h some. let is : bore ≡ b = cc in ends_there line bore.centre touches _ ∙ ap (λ (x : Bore). to_centre line x.centre) is;
-      below = λ b before h. let is : bore ≡ b = cc in subst (λ (x : Bore). EachBelow (to_centre line x.centre) before
-          (given_by line (Some (record { name = w.name; count = w.count; centre = bore.centre; touches = touches })))) is
-          ((λ g. absurd cc), each_below line bore.centre touches _);
-    }
+    go : (b : Bool) → IsFilled above line w (Some bore) (given_by line (cond b (filling_by w bore) None))
+    go true = filled_by above line w bore (touches_to bore w.count w.count) refl
+    go false = not_filled above line w (Some bore)
 
 filled : (above : List Statement) (s : Statement) (w : Wanted) → waiting above ≡ Some w
     → IsFilled above s.line w (bore_named above w.name) (touches_before above s)
-filled above s w e = rw e (go (ends_block (in_manual above) s) (nat_le 3 w.count && nat_le w.count 1000))
+filled above s w e = rw e (go (ends_block (in_manual above) s) (nat_le (fewest w.cylinder) w.count && nat_le w.count 1000))
   where
-    none : IsFilled above s.line w (bore_named above w.name) []
-    none = record { count = λ some. absurd (some refl); back = λ b before h some. absurd (some refl); below = λ b before h. tt }
-
     go : (a b : Bool) → IsFilled above s.line w (bore_named above w.name)
         (cond a (given_by s.line (cond b (filling_with w (bore_named above w.name)) None)) [])
     go true true = filled_with above s.line w (bore_named above w.name)
-    go true false = none
-    go false b = none
+    go true false = not_filled above s.line w (bore_named above w.name)
+    go false b = not_filled above s.line w (bore_named above w.name)
 
 pub asked_count : (above : List Statement) (s : Statement) (w : Wanted) → waiting above ≡ Some w → (touches_before above s ≡ [] → ⊥)
     → length (filter is_touch (touches_before above s)) ≡ w.count
 asked_count above s w e = (filled above s w e).count
 
 pub asked_below : (above : List Statement) (s : Statement) (w : Wanted) (bore : Bore) → waiting above ≡ Some w → bore_named above w.name ≡ Some bore
-    → EachBelow (to_centre s.line bore.centre) s (touches_before above s)
+    → EachBelow (λ t. to_centre s.line (level_at bore w.count t).centre) 0 s (touches_before above s)
 asked_below above s w bore e h = (filled above s w e).below bore s h
 
 pub asked_back : (above : List Statement) (s : Statement) (w : Wanted) (bore : Bore) → waiting above ≡ Some w → bore_named above w.name ≡ Some bore
-    → (touches_before above s ≡ [] → ⊥) → last_of s (touches_before above s) ≡ to_centre s.line bore.centre
+    → (touches_before above s ≡ [] → ⊥) → last_of s (touches_before above s) ≡ to_centre s.line (end_of bore)
 asked_back above s w bore e h some = (filled above s w e).back bore s h some

@@ -48,7 +48,7 @@ use Rattle.program_lowering.proofs.EvenLemmas.{accepted_as_it_is}
 use Rattle.program_lowering.specs.EvenTouches.{all_touched, touched_from}
 use Rattle.program_lowering.specs.Prompts.{Answer, answered}
 use Rattle.program_lowering.proofs.Names.{map}
-use Rattle.program_lowering.specs.Valued.{all_valued, assigned_params, commanding, has_variables, held_or_none, valued, valued_params, with_params}
+use Rattle.program_lowering.specs.Valued.{all_valued, commanded, feature_label, has_variables, valued, valued_as}
 
 -- the steps of some statements, of which one line can hold each text for the operator up to the statement that closes the program
 abbrev ends_there : Result StatementMeaning Refusal → Bool
@@ -313,7 +313,17 @@ plain_word s known = record {
 }
 
 itself : (above : List Statement) (s : Statement) → IsPlainWord s → has_variables above ≡ false → valued above s ≡ s
-itself above s plain none = rw (plain.no_assign, none) refl
+itself above s plain none = go s.label
+  where
+    stays : commanded above s ≡ s
+    stays = rw (plain.no_assign, none) refl
+
+    no_label : (label : List ℕ) → feature_label above s (Some label) ≡ None
+    no_label label = rw none refl
+
+    go : (o : Option (List ℕ)) → valued_as above s (feature_label above s o) ≡ s
+    go None = stays
+    go (Some label) = ap (valued_as above s) (no_label label) ∙ stays
 
 none_then : (above : List Statement) (s : Statement) → IsPlainWord s → has_variables above ≡ false → has_variables (carried above s) ≡ false
 none_then above s plain none = go (is_none (fault_of (kind_said above) (value_said above) s))

@@ -15,6 +15,7 @@ use Rattle.program_lowering.specs.Prompts.{Answer, answered}
 use Rattle.program_lowering.proofs.AnswerLemmas.{answered_short}
 use Rattle.program_lowering.proofs.Names.{map}
 use Rattle.program_lowering.proofs.EvenLemmas.{AllOn, before_on}
+use Rattle.program_lowering.proofs.FeatureLemmas.{valued_line}
 use Rattle.program_lowering.proofs.ValuedLemmas.{same_place}
 use Rattle.program_lowering.specs.EvenTouches.{all_touched, touched_from, touches_before}
 use Rattle.program_lowering.specs.Cartesian.{all_cartesian, cartesian, made_cartesian, no_reference, reference_after}
@@ -22,7 +23,7 @@ use Rattle.program_lowering.specs.declared.cartesian.Reference.{Reference}
 use Rattle.program_flow.specs.Calls.{carried_out}
 use Rattle.program_flow.specs.Flow.{carried}
 use Rattle.program_flow.proofs.Comes.{all_carried_out}
-use Rattle.program_lowering.specs.Valued.{all_valued, new_params}
+use Rattle.program_lowering.specs.Valued.{all_valued}
 use Rattle.program_lowering.specs.Lowering.{counted_at, kept_above, kept_passes, prepared}
 use Rattle.program_lowering.specs.StoredFrames.{is_used}
 use Rattle.program_lowering.proofs.FrameLemmas.{same_line}
@@ -53,7 +54,7 @@ stated_short sources (s ∷ statements) h = (h.0, stated_short (s ∷ sources) s
 valued_short : (above statements : List Statement) → AllByRecursion HasShortLine statements → AllByRecursion HasShortLine (all_valued above statements)
 valued_short above [] h = tt
 valued_short above (s ∷ statements) h =
-    (subst (λ (n : ℕ). n < 2 ^ 64) (sym (same_place s (new_params above s))) h.0, valued_short (carried above s) statements h.1)
+    (subst (λ (n : ℕ). n < 2 ^ 64) (sym (valued_line above s)) h.0, valued_short (carried above s) statements h.1)
 
 cartesian_short : (ref : Reference) (statements : List Statement) → AllByRecursion HasShortLine statements
     → AllByRecursion HasShortLine (all_cartesian ref statements)

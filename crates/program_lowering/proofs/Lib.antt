@@ -26,6 +26,7 @@ pub mod LineCounts
 pub mod Takes
 pub mod LineParts
 pub mod ValuedLemmas
+pub mod FeatureLemmas
 pub mod CartesianLemmas
 pub mod ValueBounds
 pub mod PolarLemmas

@@ -1,7 +1,7 @@
 -- The Cartesian place of a polar point is near to where it is.
 use Rattle.std.proofs.Common.{◌≡◌, ℕ, zero, suc, ◌+◌, ◌*◌, ◌^◌, ◌<◌, ◌≤◌, Bool, true, false, List, [], ◌∷◌, Option, Some, None, Result, Ok, Err}
 use Rattle.std.proofs.Common.{ℤ, pos, negsuc, refl, sym, ap, ◌∙◌, subst, arith, mul-le-mul, mul-le-mul_right}
-use Rattle.std.specs.Prelude.{int_lt, neg_ℤ, unsigned_abs, ◌*ℤ◌, if◌then◌else◌}
+use Rattle.std.specs.Prelude.{codes, option_map, ◌==◌, int_lt, neg_ℤ, unsigned_abs, ◌*ℤ◌, if◌then◌else◌}
 use Rattle.std.specs.Result.{result_ok}
 use Rattle.std.proofs.Math.Nat.{le_of_mul-le-mul_right, le_refl}
 use Rattle.fixed_um.specs.Computed.{rounded}
@@ -10,17 +10,17 @@ use Rattle.program_flow.proofs.NearAngles.{cosine-near, radians-near, sine-near}
 use Rattle.program_flow.proofs.Series.{div-high, div-low}
 use Rattle.program_flow.specs.Angles.{cosine, sine}
 use Rattle.program_flow.specs.Nearness.{Balance, IsHardlyPast, IsWithin, balance, partial_sum, pi_lower, pi_upper, sided, times, turned_with}
-use Rattle.program_flow.specs.Numbers.{Fraction, IsBounded, nearest_millionth, opposite, reduced, rounded_product, signed, whole_number}
+use Rattle.program_flow.specs.Numbers.{Fraction, IsBounded, nearest_millionth, opposite, quotient, reduced, rounded_product, signed, whole_number}
 use Rattle.program_flow.specs.declared.faults.ValueFault.{ValueFault}
 use Rattle.program_flow.specs.declared.faults.ValueFault.TheVariants.{PastBound}
-use Rattle.program_lowering.specs.Cartesian.{◌>>=◌, Triple, in_plane, number_in, numbers_in, polar, radians}
+use Rattle.program_lowering.specs.Cartesian.{◌>>=◌, Triple, angle_in, degrees_by, in_plane, minutes_by, number_in, parted, polar, polar_in, radians, signed_degrees, with_sixtieths}
 use Rattle.program_lowering.specs.PolarNearness.{IsAround, IsCloseTo, IsNearPolar, IsPastBy, IsTurn, by_cosine, by_sine, in_axes}
 use Rattle.program_lowering.specs.declared.cartesian.AngleUnit.{AngleUnit}
-use Rattle.program_lowering.specs.declared.cartesian.AngleUnit.TheVariants.{Degrees, Radians}
+use Rattle.program_lowering.specs.declared.cartesian.AngleUnit.TheVariants.{Degrees, Radians, Sexagesimal}
 use Rattle.program_lowering.specs.declared.cartesian.Plane.{Plane}
 use Rattle.program_lowering.specs.declared.cartesian.Plane.TheVariants.{Xy, Yz, Zx}
 use Rattle.program_lowering.specs.declared.cartesian.Reference.{Reference}
-use Rattle.program_lowering.proofs.ValueBounds.{cosine-bounded, from-ok, mul-some, number-bounded, radians-bounded, sine-bounded}
+use Rattle.program_lowering.proofs.ValueBounds.{cosine-bounded, from-ok, mul-some, number-bounded, opposite-bounded, quotient-bounded, radians-bounded, sine-bounded, sum-bounded}
 
 some-ok : (r : Result Fraction ValueFault) (f : Fraction) → result_ok r ≡ Some f → r ≡ Ok f
 some-ok (Ok g) f e = cc
@@ -32,9 +32,45 @@ bind : {A B : Type 0} (o : Option A) (next : A → Option B) (y : B) (P : Type 0
 bind (Some x) next y P h e = h x refl e
 bind None next y P h e = absurd cc
 
-numbers-bounded : (r a h : List ℕ) (t : Triple) → numbers_in (r ∷ (a ∷ (h ∷ []))) ≡ Some t → IsBounded t.0 × IsBounded t.1
-numbers-bounded r a h t e = bind (number_in r) _ t _ (λ x f. bind (number_in a) _ t _ (λ y g. bind (number_in h) _ t _ (λ z k last.
-    let same : (x, y, z) ≡ t = cc in subst (λ u. IsBounded u.0 × IsBounded u.1) same (number-bounded r x f, number-bounded a y g)))) e
+unless-none : (b : Bool) (o : Option Fraction) (y : Fraction) → (if b then o else None) ≡ Some y → o ≡ Some y
+unless-none true o y e = e
+unless-none false o y e = absurd cc
+
+either-number : (b : Bool) (o p : Option Fraction) (y : Fraction) → (o ≡ Some y → IsBounded y) → (p ≡ Some y → IsBounded y)
+    → (if b then o else p) ≡ Some y → IsBounded y
+either-number true o p y f g e = f e
+either-number false o p y f g e = g e
+
+sixtieths-bounded : (whole : List ℕ) (part : Option Fraction) (y : Fraction) → ((g : Fraction) → part ≡ Some g → IsBounded g)
+    → with_sixtieths whole part ≡ Some y → IsBounded y
+sixtieths-bounded whole part y h e = bind (number_in whole) _ y _ (λ f a. bind part _ y _ (λ g b. bind (number_in (codes "60")) _ y _ (λ n c.
+    bind (result_ok (quotient g n)) _ y _ (λ q d last.
+    let one = from-ok _ q (quotient-bounded g n (h g b) (number-bounded _ n c)) d in from-ok _ y (sum-bounded f q (number-bounded whole f a) one) last)))) e
+
+minutes-bounded : (text : List ℕ) (at : Option (List ℕ × List ℕ)) (y : Fraction) → minutes_by text at ≡ Some y → IsBounded y
+minutes-bounded text None y e = number-bounded text y (unless-none _ _ y e)
+minutes-bounded text (Some p) y e = sixtieths-bounded p.0 _ y (λ g h. number-bounded p.1 g (unless-none _ _ g h)) (unless-none _ _ y e)
+
+degrees-bounded : (at : Option (List ℕ × List ℕ)) (y : Fraction) → degrees_by at ≡ Some y → IsBounded y
+degrees-bounded None y e = absurd cc
+degrees-bounded (Some p) y e = sixtieths-bounded p.0 _ y (λ g h. minutes-bounded p.1 (parted 58 p.1) g h) (unless-none _ _ y e)
+
+turned-bounded : (o : Option Fraction) (y : Fraction) → ((f : Fraction) → o ≡ Some f → IsBounded f) → option_map opposite o ≡ Some y → IsBounded y
+turned-bounded None y h e = absurd cc
+turned-bounded (Some f) y h e = let same : opposite f ≡ y = cc in subst (λ x. IsBounded x) same (opposite-bounded f (h f refl))
+
+signed-bounded : (text : List ℕ) (y : Fraction) → signed_degrees text ≡ Some y → IsBounded y
+signed-bounded [] y e = absurd cc
+signed-bounded (c ∷ cs) y e = either-number (c == 45) _ _ y (turned-bounded _ y (λ f h. degrees-bounded (parted 58 cs) f h)) (degrees-bounded (parted 58 (c ∷ cs)) y) e
+
+angle-bounded : (unit : AngleUnit) (text : List ℕ) (y : Fraction) → angle_in unit text ≡ Some y → IsBounded y
+angle-bounded Degrees text y e = number-bounded text y e
+angle-bounded Radians text y e = number-bounded text y e
+angle-bounded Sexagesimal text y e = either-number _ _ _ y (signed-bounded text y) (number-bounded text y) e
+
+numbers-bounded : (unit : AngleUnit) (r a h : List ℕ) (t : Triple) → polar_in unit r a h ≡ Some t → IsBounded t.0 × IsBounded t.1
+numbers-bounded unit r a h t e = bind (number_in r) _ t _ (λ x f. bind (angle_in unit a) _ t _ (λ y g. bind (number_in h) _ t _ (λ z k last.
+    let same : (x, y, z) ≡ t = cc in subst (λ u. IsBounded u.0 × IsBounded u.1) same (number-bounded r x f, angle-bounded unit a y g)))) e
 
 -- each within half a millionth of the other
 record IsHalf (a b : Balance) : Type 0 where
@@ -200,6 +236,7 @@ around over under unit t turn c x s y room some within turned e f g h =
 
 turn-near : (unit : AngleUnit) (a turn : Fraction) → IsBounded a → radians unit a ≡ Some turn → IsBounded turn × IsTurn unit a turn
 turn-near Degrees a turn h e = (from-ok _ turn (radians-bounded a) e, radians-near a turn h (some-ok _ turn e))
+turn-near Sexagesimal a turn h e = (from-ok _ turn (radians-bounded a) e, radians-near a turn h (some-ok _ turn e))
 turn-near Radians a turn h e = let same : a ≡ turn = cc in (subst (λ x. IsBounded x) same h, same)
 
 along-axes : (plane : Plane) (x y z : Fraction) → (x, y, z) ≡ in_axes plane (in_plane plane x y z)
@@ -211,23 +248,23 @@ taken : {A B : Type 0} (o : Option A) (x : A) (next : A → Option B) (y : B) �
 taken (Some z) x next y w e = let same : z ≡ x = cc in subst (λ v. next v ≡ Some y) same e
 taken None x next y w e = absurd cc
 
-in-reference : (over under : ℕ) (ref : Reference) (plane : Plane) (unit : AngleUnit) (t place : Triple) (x y : Fraction) → ref.plane ≡ Some plane
-    → ref.unit ≡ Some unit → Some (in_plane plane x y t.2) ≡ Some place → IsAround over under unit t (x, y, t.2) → IsNearPolar over under ref t place
-in-reference over under ref plane unit t place x y p u last h =
+in-reference : (over under : ℕ) (ref : Reference) (plane : Plane) (t place : Triple) (x y : Fraction) → ref.plane ≡ Some plane
+    → Some (in_plane plane x y t.2) ≡ Some place → IsAround over under ref.unit t (x, y, t.2) → IsNearPolar over under ref t place
+in-reference over under ref plane t place x y p last h =
     let same : in_plane plane x y t.2 ≡ place = cc in
-    rw (p, u) (subst (λ w. IsAround over under unit t (in_axes plane w)) same (subst (λ w. IsAround over under unit t w) (along-axes plane x y t.2) h))
+    rw p (subst (λ w. IsAround over under ref.unit t (in_axes plane w)) same (subst (λ w. IsAround over under ref.unit t w) (along-axes plane x y t.2) h))
 
 pub polar-near : (over under : ℕ) (ref : Reference) (r a h : List ℕ) (rest : List (List ℕ)) (t place : Triple)
-    → numbers_in (r ∷ (a ∷ (h ∷ []))) ≡ Some t → polar ref (r ∷ (a ∷ (h ∷ rest))) ≡ Some place → IsRoom over under (unsigned_abs t.0.over) t.0.under
+    → polar_in ref.unit r a h ≡ Some t → polar ref (r ∷ (a ∷ (h ∷ rest))) ≡ Some place → IsRoom over under (unsigned_abs t.0.over) t.0.under
     → IsNearPolar over under ref t place
 polar-near over under ref r a h rest t place written e room =
-    let bounded = numbers-bounded r a h t written in
-    bind ref.plane _ place _ (λ plane p e1. bind ref.unit _ place _ (λ unit u e2. bind (radians unit t.1) _ place _ (λ turn v e3.
+    let bounded = numbers-bounded ref.unit r a h t written in
+    bind ref.plane _ place _ (λ plane p e1. bind (radians ref.unit t.1) _ place _ (λ turn v e3.
     bind (result_ok (cosine turn)) _ place _ (λ c k e4. bind (result_ok (rounded_product t.0 c)) _ place _ (λ x f e5.
     bind (result_ok (sine turn)) _ place _ (λ s l e6. bind (result_ok (rounded_product t.0 s)) _ place _ (λ y g last.
-    let near = turn-near unit t.1 turn bounded.1 v in in-reference over under ref plane unit t place x y p u last
-    (around over under unit t turn c x s y room bounded.0.some near.0 near.1 k f l g))
-    e6) e5) e4) e3) (taken (numbers_in (r ∷ (a ∷ (h ∷ [])))) t _ place written e2)) e1) e
+    let near = turn-near ref.unit t.1 turn bounded.1 v in in-reference over under ref plane t place x y p last
+    (around over under ref.unit t turn c x s y room bounded.0.some near.0 near.1 k f l g))
+    e6) e5) e4) e3) (taken (polar_in ref.unit r a h) t _ place written e1)) e
 
 -- examples: a partial sum for a turn up to 1 is from zero to 1, and that for zero is 1
 record IsInUnit (a : Balance) : Type 0 where

@@ -1,11 +1,8 @@
 -- Texts of the bytes that a flat statement is made of.
 use Rattle.program_lowering.proofs.Names.{[], ◌&&◌, ◌==◌, ◌∷◌, ◌≡◌, ◌≤◌, Bool, Flat, if◌then◌else◌, length, List, list_all, may_stand, nat_le, not}
-use Rattle.program_lowering.proofs.Names.{to_ascii_uppercase, true, turned, ℕ}
-
--- a byte from 33 to 126 that opens no text, ends no element and begins no comment, and is no small letter
-abbrev pub is_solid : ℕ → Bool
-is_solid c = (nat_le 33 c && nat_le c 126) && (not (c == 36) && (not (c == 39) && (not (c == 44) && (not (c == 47)
-    && (not (c == 61) && (to_ascii_uppercase c == c))))))
+use Rattle.program_lowering.proofs.Names.{true, turned, ℕ}
+-- each byte is one that no mark is
+pub use Rattle.program_lowering.specs.OperatorTexts.{is_solid}
 
 abbrev pub solid : List ℕ → Bool
 solid = list_all is_solid

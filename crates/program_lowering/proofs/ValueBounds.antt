@@ -16,7 +16,7 @@ use Rattle.program_flow.specs.Parts.{Parts, parts_of}
 use Rattle.program_flow.specs.Parts.Parts.{Both, Called, Leaf, Opposite, Same}
 use Rattle.program_flow.specs.Roots.{root}
 use Rattle.program_flow.specs.Values.{applied, exponent_of, function_of, mantissa_at, mantissa_value, number_after, numeral_at, numeral_value}
-use Rattle.program_flow.specs.Values.{parts_value, pointed_value, value_within}
+use Rattle.program_flow.specs.Values.{Valuation, number_of, parts_value, pointed_value, value_within}
 use Rattle.program_flow.specs.declared.faults.ValueFault.{ValueFault}
 use Rattle.program_flow.specs.declared.faults.ValueFault.TheVariants.{DivisionByZero, PastBound}
 use Rattle.program_flow.specs.declared.places.Operator.{Operator}
@@ -98,16 +98,16 @@ abs-opposite (pos zero) = refl
 abs-opposite (pos (suc n)) = refl
 abs-opposite (negsuc n) = refl
 
-opposite-bounded : (f : Fraction) → IsBounded f → IsBounded (opposite f)
+pub opposite-bounded : (f : Fraction) → IsBounded f → IsBounded (opposite f)
 opposite-bounded f h = record { over = rw (abs-opposite f.over) h.over; some = h.some; under = h.under }
 
 product-bounded : (f g : Fraction) → IsBounded f → IsBounded g → Bounded (product f g)
 product-bounded f g h k = reduced-bounded _ _ (mul-some f.under g.under h.some k.some)
 
-sum-bounded : (f g : Fraction) → IsBounded f → IsBounded g → Bounded (sum f g)
+pub sum-bounded : (f g : Fraction) → IsBounded f → IsBounded g → Bounded (sum f g)
 sum-bounded f g h k = reduced-bounded _ _ (mul-some f.under g.under h.some k.some)
 
-quotient-bounded : (f g : Fraction) → IsBounded f → IsBounded g → Bounded (quotient f g)
+pub quotient-bounded : (f g : Fraction) → IsBounded f → IsBounded g → Bounded (quotient f g)
 quotient-bounded f g h k = go (unsigned_abs g.over == 0) refl
   where
     go : (b : Bool) → (unsigned_abs g.over == 0) ≡ b → Bounded (if b then Err DivisionByZero else product f (inverse g))
@@ -170,7 +170,7 @@ applied-bounded Times f g h k = product-bounded f g h k
 applied-bounded Over f g h k = quotient-bounded f g h k
 applied-bounded Power f g h k = power-bounded f g h
 
-parts-bounded : (said inner : List ℕ → Result Fraction ValueFault) → ((text : List ℕ) → Bounded (said text))
+parts-bounded : (said : Valuation) (inner : List ℕ → Result Fraction ValueFault) → ((text : List ℕ) → Bounded (and_then (said text) number_of))
     → ((text : List ℕ) → Bounded (inner text)) → (parts : Parts) → Bounded (parts_value said inner parts)
 parts-bounded said inner s h (Both left operator right) =
     then-bounded _ _ (h left) (λ f k. then-bounded _ _ (h right) (λ g l. applied-bounded operator f g k l))
@@ -179,7 +179,7 @@ parts-bounded said inner s h (Same rest) = h rest
 parts-bounded said inner s h (Called name text) = then-bounded _ _ (h text) (λ f k. function-bounded name f k)
 parts-bounded said inner s h (Leaf text) = either _ _ _ (numeral-bounded text) (either _ _ _ (s text) (refused _))
 
-value-bounded : (said : List ℕ → Result Fraction ValueFault) → ((text : List ℕ) → Bounded (said text)) → (n : ℕ) (text : List ℕ)
+value-bounded : (said : Valuation) → ((text : List ℕ) → Bounded (and_then (said text) number_of)) → (n : ℕ) (text : List ℕ)
     → Bounded (value_within said n text)
 unfolding value_within
 value-bounded said s zero text = refused _

@@ -9,13 +9,14 @@ use Rattle.std.specs.Prelude.{◌-◌, get_or}
 use Rattle.dmis_text.proofs.LineLaws.{lines_written}
 use Rattle.dmis_program.specs.Keywords.{is_among}
 use Rattle.program_flow.specs.LookBack.{Holds, fault_in, fault_of, is_declaration, kind_said, new_value, target, value_said}
-use Rattle.program_flow.specs.Numbers.{Fraction, and_then, numeral}
+use Rattle.program_flow.specs.Numbers.{and_then}
+use Rattle.program_flow.specs.Values.{Valuation, Value, written}
 use Rattle.program_flow.specs.Variables.{Entry, entry_value}
 use Rattle.program_flow.specs.declared.faults.ValueFault.{ValueFault}
-use Rattle.program_lowering.specs.Carried.{GivesLine, IsRead, Knows, all_pushed, line_with, pair_of, pushed}
+use Rattle.program_lowering.specs.Carried.{GivesLine, IsRead, Knows, Stay, all_pushed, line_with, pair_of, pushed}
 use Rattle.program_lowering.specs.Lowering.{ended}
 use Rattle.program_flow.specs.Flow.{carried}
-use Rattle.program_lowering.specs.Valued.{assigned_params, commanding, has_variables, held, held_or_none, new_params, valued, valued_param, valued_params, with_params}
+use Rattle.program_lowering.specs.Valued.{assigned_params, commanded, commanding, has_variables, held, held_or_none, new_params, valued_param, valued_params, with_params}
 use Rattle.program_lowering.proofs.LineLemmas.{IsHeld, flat_is_line, flat_statement}
 use Rattle.program_lowering.proofs.LineParts.{marked_is}
 use Rattle.program_lowering.proofs.ReadBackLemmas.{line_first}
@@ -34,7 +35,7 @@ next_fails old mid pre mark (Ok q) (Ok qs) plain fault h g = absurd cc
 next_fails old mid pre mark (Ok q) (Err given) plain fault h g = cc
 next_fails old mid pre mark (Err given) b plain fault h g = absurd cc
 
-pub rest_fails : (values : List ℕ → Result Fraction ValueFault) (params : List (List ℕ)) (old mid pre first : List ℕ) (mark : ℕ) (plain : Bool)
+pub rest_fails : (values : Valuation) (params : List (List ℕ)) (old mid pre first : List ℕ) (mark : ℕ) (plain : Bool)
     (fault : ValueFault) → 1 ≤ length params → first ≡ get_or params 0 first → pushed pre (valued_param values first) ≡ Ok (mid, plain)
     → all_pushed mid 44 (valued_params values (take (length params - 1) (drop 1 params))) ≡ Err fault
     → all_pushed old mark (valued_params values params) ≡ Err fault
@@ -48,8 +49,8 @@ rest_fails values (p ∷ ps) old mid pre first mark plain fault some is h g =
 
 -- ---- what the code carries
 
-faulty : (r : Result Fraction ValueFault) (fault : ValueFault) → fault_in r ≡ Some fault → r ≡ Err fault
-faulty (Ok f) fault h = absurd cc
+faulty : (r : Result Value ValueFault) (fault : ValueFault) → fault_in r ≡ Some fault → r ≡ Err fault
+faulty (Ok v) fault h = absurd cc
 faulty (Err given) fault h = cc
 
 same_bytes : (name : List ℕ) → bytes_eq name name ≡ true
@@ -84,7 +85,7 @@ assigned_same above s entries declared done (Some name) l e k d =
     by_fault : (done : Bool) (o : Option ValueFault) → fault_of (kind_said above) (value_said above) s ≡ o
         → Knows (cond (is_none o) (s ∷ above) above) entries declared → done ≡ is_none o
         → held_or_none s.word (pair_of done (entry_value entries) (Some name)) ≡ held_or_none s.word (assigned_params above s (Some name))
-    by_fault true None f k d = ap (λ (values : List ℕ → Result Fraction ValueFault). held_or_none s.word (and_then (values name) (λ f. Ok (name ∷ numeral f ∷ [])))) k.holds.values
+    by_fault true None f k d = ap (λ (values : Valuation). held_or_none s.word (and_then (values name) (λ v. Ok (name ∷ written v ∷ [])))) k.holds.values
     by_fault false None f k d = absurd cc
     by_fault true (Some fault) f k d = absurd cc
     by_fault false (Some fault) f k d =
@@ -135,7 +136,7 @@ commanding_good word e = among_all GoodWord word commanding all e
       ),
     )
 
-first_short : (word : List ℕ) (params : List (List ℕ)) → length (flat_text (flat word params)) ≤ 4000 → length (flat_line (flat word params) 1) ≤ 4096
+pub first_short : (word : List ℕ) (params : List (List ℕ)) → length (flat_text (flat word params)) ≤ 4000 → length (flat_line (flat word params) 1) ≤ 4096
 first_short word params h =
     omega (
       arith,
@@ -174,7 +175,7 @@ made_good : (word : List ℕ) (made : Result (List (List ℕ)) ValueFault) → G
 made_good word (Ok params) good = held_good word params good
 made_good word (Err fault) good = held_none word good
 
-one_line : (f : Flat) → IsHeld f 1 → text_reading (ended (flat_line f 1)) ≡ record { statements = flat_statement f 1 ∷ []; fault = None }
+pub one_line : (f : Flat) → IsHeld f 1 → text_reading (ended (flat_line f 1)) ≡ record { statements = flat_statement f 1 ∷ []; fault = None }
 one_line f h =
     let whole : lines (ended (flat_line f 1)) ≡ flat_line f 1 ∷ [] =
     ap lines (sym (append-nil (ended (flat_line f 1)))) ∙ lines_written (flat_line f 1 ∷ []) (and_from (is_line (flat_line f 1)) true (flat_is_line f 1 1 h) refl) in
@@ -218,27 +219,41 @@ nothing_held word = go (nat_le (length (flat_text (flat word []))) 4000)
 
 -- the line that is given for a statement
 pub gives_made : (above : List Statement) (s : Statement) (made : Result (List (List ℕ)) ValueFault) (line : List ℕ) → GoodWord s.word
-    → new_params above s ≡ Some made → line ≡ line_with s.word made → GivesLine (Some line) s (valued above s)
+    → new_params above s ≡ Some made → line ≡ line_with s.word made → GivesLine (Some line) s (commanded above s)
 gives_made above s made line good is e =
     subst (λ (o : Option (Result (List (List ℕ)) ValueFault)). GivesLine (Some line) s (with_params s o)) (sym is) (read_is s.word line made good e, refl)
 
 pub gives_assigned : (above : List Statement) (s : Statement) (entries : List Entry) (declared done : Bool) (line : List ℕ)
     → bytes_eq s.word (codes "ASSIGN") ≡ true → Knows (carried above s) entries declared
     → done ≡ is_none (fault_of (kind_said above) (value_said above) s) → line ≡ line_with s.word (pair_of done (entry_value entries) s.label)
-    → GivesLine (Some line) s (valued above s)
+    → GivesLine (Some line) s (commanded above s)
 gives_assigned above s entries declared done line is k d e =
     gives_made above s (assigned_params above s s.label) line (assign_good s.word is) (rw is refl)
     (e ∙ ap (λ (ps : List (List ℕ)). ended (flat_line (flat s.word ps) 1)) (pair_same above s entries declared done is k d))
 
 pub gives_valued : (above : List Statement) (s : Statement) (entries : List Entry) (declared : Bool) (line : List ℕ)
     → bytes_eq s.word (codes "ASSIGN") ≡ false → is_none s.label ≡ true → is_among s.word commanding ≡ true → declared ≡ true
-    → Knows above entries declared → line ≡ line_with s.word (valued_params (entry_value entries) s.params) → GivesLine (Some line) s (valued above s)
+    → Knows above entries declared → line ≡ line_with s.word (valued_params (entry_value entries) s.params) → GivesLine (Some line) s (commanded above s)
 gives_valued above s entries declared line other bare is d k e =
     gives_made above s (valued_params (value_said above) s.params) line (commanding_good s.word is) (rw (other, sym k.some, d, bare, is) refl)
-    (e ∙ ap (λ (values : List ℕ → Result Fraction ValueFault). line_with s.word (valued_params values s.params)) k.holds.values)
+    (e ∙ ap (λ (values : Valuation). line_with s.word (valued_params values s.params)) k.holds.values)
+
+none_is : (label : Option (List ℕ)) → is_none label ≡ true → None ≡ label
+none_is None h = refl
+none_is (Some label) h = absurd cc
+
+pub gives_same : (above : List Statement) (s : Statement) (entries : List Entry) (declared : Bool) → bytes_eq s.word (codes "ASSIGN") ≡ false
+    → is_none s.label ≡ true → is_among s.word commanding ≡ true → declared ≡ true → Knows above entries declared
+    → Stay (entry_value entries) 3990 s.params → commanded above s ≡ s
+gives_same above s entries declared other bare is d k stay =
+    let good = commanding_good s.word is in
+    let same : valued_params (value_said above) s.params ≡ Ok s.params = subst (λ (values : Valuation). valued_params values s.params ≡ Ok s.params) k.holds.values stay.same in
+    let fits : nat_le (length (flat_text (flat s.word s.params))) 4000 ≡ true =
+    grind (arith, nat_tests, good.short, length-append s.word (marked 47 s.params), stay.short 47, ap length (ap (λ (xs : List ℕ). s.word ++ xs) (marked_is s.params))) in
+    rw (other, sym k.some, d, bare, is, same, stay.plain, fits) (ap (λ (l : Option (List ℕ)). record s { label = l }) (none_is s.label bare))
 
 pub gives_none : (above : List Statement) (s : Statement) (entries : List Entry) (declared : Bool) → bytes_eq s.word (codes "ASSIGN") ≡ false
-    → (declared && (is_none s.label && is_among s.word commanding)) ≡ false → Knows above entries declared → GivesLine None s (valued above s)
+    → (declared && (is_none s.label && is_among s.word commanding)) ≡ false → Knows above entries declared → GivesLine None s (commanded above s)
 gives_none above s entries declared other none k = rw (other, sym k.some, none) refl
 
 -- a statement keeps its line

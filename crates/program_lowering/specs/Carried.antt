@@ -1,5 +1,5 @@
 -- What the code carries from statement to statement: no public clause cites it. specs/Lowering.antt looks back instead.
-use Rattle.std.specs.Prelude.{◌≡◌, ℕ, ◌+◌, ◌==◌, nat_le, Bool, true, false, List, [], ◌∷◌, ◌++◌, Option, Some, None, OnOk, IfOk, IfErr, Result, Ok, Err, bytes_eq, if◌then◌else◌}
+use Rattle.std.specs.Prelude.{◌≡◌, ◌≤◌, length, ℕ, ◌+◌, ◌==◌, nat_le, Bool, true, false, List, [], ◌∷◌, ◌++◌, Option, Some, None, OnOk, IfOk, IfErr, Result, Ok, Err, bytes_eq, if◌then◌else◌}
 use Rattle.dmis_text.specs.declared.elements.Statement.{Statement}
 use Rattle.fixed_um.specs.declared.frames.Frame.TheVariants.{Machine}
 use Rattle.fixed_um.specs.declared.lengths.Point.{Point}
@@ -22,7 +22,8 @@ use Rattle.std.specs.Map.{lookup}
 use Rattle.std.specs.Option.{option_map, unwrap_or}
 use Rattle.std.specs.Ordering.{nat_cmp}
 use Rattle.program_flow.specs.LookBack.{Holds}
-use Rattle.program_flow.specs.Numbers.{Fraction, and_then, numeral}
+use Rattle.program_flow.specs.Numbers.{and_then}
+use Rattle.program_flow.specs.Values.{Valuation, written}
 use Rattle.program_flow.specs.Variables.{Entry}
 use Rattle.program_flow.specs.declared.faults.ValueFault.{ValueFault}
 use Rattle.program_flow.specs.declared.faults.ValueFault.TheVariants as value
@@ -30,7 +31,7 @@ use Rattle.program_lowering.specs.Prompts.{Answer}
 use Rattle.program_lowering.specs.Flats.{flat, flat_line}
 use Rattle.program_flow.specs.Flow.{carried}
 use Rattle.program_lowering.specs.Cartesian.{Triple, cartesian, reference_after}
-use Rattle.program_lowering.specs.Valued.{has_variables, held_or_none, valued}
+use Rattle.program_lowering.specs.Valued.{has_variables, held_or_none, valued, valued_params, feature_by}
 use Rattle.program_lowering.specs.declared.cartesian.Reference.{Reference}
 use Rattle.program_lowering.specs.EvenTouches.{Filling, bore_said, ends_block, feature_name, filling_of, from_centre, given_by, ends_nominals, to_centre, waiting_after}
 use Rattle.program_lowering.specs.declared.even.Bore.{Bore}
@@ -46,6 +47,7 @@ use Rattle.program_lowering.specs.StoredFrames.{by_frame, frame_end, frame_start
 use Rattle.program_lowering.specs.declared.above.Above.{Above}
 use Rattle.tool_rack.specs.Setups.{has_name}
 use Rattle.program_lowering.specs.declared.lowering.Lowered.{Lowered}
+use Rattle.program_lowering.specs.declared.values.FeatureLines.{FeatureLines}
 use Rattle.program_lowering.specs.declared.words.Choices.{Choices}
 use Rattle.program_lowering.specs.declared.words.Reason.{Reason}
 
@@ -229,11 +231,17 @@ all_pushed old mark made = and_then made (λ qs. Ok (old ++ marked mark qs, list
 abbrev pub Pushes : Result Bool ValueFault → List ℕ → Result (List ℕ × Bool) ValueFault → Type 0
 Pushes result new due = IfOk result (λ plain. due ≡ Ok (new, plain)) × IfErr result (λ fault. (fault ≡ value.Memory → ⊥) → due ≡ Err fault)
 
+-- parameters that stay as they are, with their values too, and are read back so from this much room
+pub record Stay (values : Valuation) (room : ℕ) (params : List (List ℕ)) : Type 0 where
+  pub same : valued_params values params ≡ Ok params
+  pub plain : list_all (is_plain false) params ≡ true
+  pub short : (mark : ℕ) → length (marked mark params) ≤ room
+
 -- an `ASSIGN` that was carried out, by the values then
-abbrev pub pair_of : Bool → (List ℕ → Result Fraction ValueFault) → Option (List ℕ) → Result (List (List ℕ)) ValueFault
+abbrev pub pair_of : Bool → Valuation → Option (List ℕ) → Result (List (List ℕ)) ValueFault
 pair_of false values label = Err value.UnknownName
 pair_of true values None = Err value.UnknownName
-pair_of true values (Some name) = and_then (values name) (λ f. Ok (name ∷ (numeral f ∷ [])))
+pair_of true values (Some name) = and_then (values name) (λ v. Ok (name ∷ (written v ∷ [])))
 
 -- the line from which a statement is read back with its values
 abbrev pub line_with : List ℕ → Result (List (List ℕ)) ValueFault → List ℕ
@@ -249,6 +257,25 @@ pub record IsRead (line : List ℕ) (s : Statement) : Type 0 where
 abbrev pub GivesLine : Option (List ℕ) → Statement → Statement → Type 0
 GivesLine None s v = v ≡ s
 GivesLine (Some line) s v = IsRead line (record v { line = 1 }) × (v.line ≡ s.line)
+
+-- the lines from which a `FEAT` with its values is read back: its label as a word, and the rest; or there are none, and it stays as the other is
+pub record IsFeature (label line : List ℕ) (s v : Statement) : Type 0 where
+  pub name : List ℕ
+  pub params : List (List ℕ)
+  pub named : IsRead label (record { line = 1; label = None; word = name; params = [] })
+  pub read : IsRead line (record { line = 1; label = None; word = s.word; params = params })
+  pub is : v ≡ record { line = s.line; label = Some name; word = s.word; params = params }
+
+abbrev pub AreRead : FeatureLines → Type 0
+AreRead lines = ((s : Statement) × IsRead lines.label.items s) × ((s : Statement) × IsRead lines.line.items s)
+
+abbrev pub named_as : Statement → Statement → Option (List ℕ) → Result (List (List ℕ)) ValueFault → Statement
+named_as s other None made = other
+named_as s other (Some label) made = feature_by s label made
+
+abbrev pub GivesFeature : Option FeatureLines → Statement → Statement → Statement → Type 0
+GivesFeature None s other v = v ≡ other
+GivesFeature (Some lines) s other v = IsFeature lines.label.items lines.line.items s v
 
 -- what is seen of the statements above for touches from the nominal; the features are in the order of the text
 pub record Seen : Type 0 where
@@ -302,9 +329,9 @@ all_steps frames choices c [] = Ok (false, c)
 all_steps frames choices c (s ∷ statements) = unless_closed (step frames choices c s) (λ d. all_steps frames choices d statements)
 
 abbrev pub touch_steps : List (List ℕ × Point) → Choices → ℕ → Triple → Carried → List Touch → Result (Bool × Carried) Refusal
-touch_steps frames choices line centre c [] = step frames choices c (to_centre line centre)
-touch_steps frames choices line centre c (t ∷ touches) =
-    unless_closed (all_steps frames choices c (from_centre line centre t)) (λ d. touch_steps frames choices line centre d touches)
+touch_steps frames choices line end c [] = step frames choices c (to_centre line end)
+touch_steps frames choices line end c (t ∷ touches) =
+    unless_closed (all_steps frames choices c (from_centre line t)) (λ d. touch_steps frames choices line end d touches)
 
 -- a statement after what is given before it
 abbrev pub touched_step : List (List ℕ × Point) → Choices → Seen → Carried → Statement → Result (Bool × Carried) Refusal

@@ -1,9 +1,10 @@
 -- Touches from the nominal (this profile): a block for a bore without a touch is given those that it asks for, evenly spaced on the circle that
--- its `FEAT` says, each from its centre. The first is on the first axis of the plane across the bore, the next ones towards its second (X and
--- Y, Y and Z, Z and X). Looking back is in the statements without those that are given. What a `FEAT` says is in the unit and in the coordinate
--- system that hold there: it counts down to the next statement that selects or makes another.
-use Rattle.std.specs.Prelude.{◌≡◌, ℕ, zero, suc, Bool, true, false, not, ◌&&◌, ◌==◌, nat_le, List, [], ◌∷◌, ◌++◌, codes, decimal, flat_map, map, pos}
-use Rattle.std.specs.Prelude.{int_lt, unsigned_abs, ℤ, Option, Some, None, is_none, Result, Ok, Err, if◌then◌else◌}
+-- its `FEAT` says, each from its centre; for a cylinder on two circles, its levels, at a quarter and at three quarters of its length. The first
+-- is on the first axis of the plane across the bore, the next ones towards its second (X and Y, Y and Z, Z and X). Looking back is in the
+-- statements without those that are given. What a `FEAT` says is in the unit and in the coordinate system that hold there: it counts down to the
+-- next statement that selects or makes another.
+use Rattle.std.specs.Prelude.{◌≡◌, ℕ, zero, suc, ◌-◌, ◌/◌, Bool, true, false, not, ◌&&◌, ◌||◌, ◌==◌, nat_le, nat_lt, List, [], ◌∷◌, ◌++◌, codes, decimal, flat_map, map, pos}
+use Rattle.std.specs.Prelude.{int_lt, unsigned_abs, ℤ, Option, Some, None, is_none, unwrap_or, Result, Ok, Err, if◌then◌else◌}
 use Rattle.std.specs.Result.{result_ok}
 use Rattle.std.specs.Str.{bytes_eq}
 use Rattle.dmis_text.specs.declared.elements.Statement.{Statement}
@@ -22,6 +23,7 @@ use Rattle.program_flow.specs.Texts.{whole_of}
 use Rattle.program_flow.specs.declared.faults.ValueFault.{ValueFault}
 use Rattle.program_lowering.specs.Cartesian.{◌>>=◌, Triple, in_plane, moved_by, number_in, numbers_in}
 use Rattle.program_lowering.specs.Manual.{in_manual}
+use Rattle.program_lowering.specs.Reasons.{start_text}
 use Rattle.program_lowering.specs.Texts.{begins_with}
 use Rattle.program_lowering.specs.Valued.{with_params}
 use Rattle.program_lowering.specs.StoredFrames.{alignments}
@@ -29,17 +31,19 @@ use Rattle.program_lowering.specs.Words.{given_word, names_frame}
 use Rattle.program_lowering.specs.declared.cartesian.Plane.{Plane}
 use Rattle.program_lowering.specs.declared.cartesian.Plane.TheVariants.{Xy, Yz, Zx}
 use Rattle.program_lowering.specs.declared.even.Bore.{Bore}
+use Rattle.program_lowering.specs.declared.even.Level.{Level}
 use Rattle.program_lowering.specs.declared.even.Touch.{Touch}
 use Rattle.program_lowering.specs.declared.even.Wanted.{Wanted}
 use Rattle.program_lowering.specs.declared.words.Choices.{Choices}
 
--- the block of a circle that is open and has no touch
-abbrev pub begun : Bool → Result StatementMeaning Refusal → Option Wanted
-begun circle (Ok (said.Begins name count)) = if circle then Some (record { name = name; count = count }) else None
-begun circle _ = None
+-- the block of a circle or a cylinder that is open and has no touch
+abbrev pub begun : Bool → Bool → Result StatementMeaning Refusal → Option Wanted
+begun circle cylinder (Ok (said.Begins name count)) =
+    if circle || cylinder then Some (record { name = name; count = count; cylinder = cylinder }) else None
+begun circle cylinder _ = None
 
 abbrev pub waiting_after : Option Wanted → Keyword → Statement → Option Wanted
-waiting_after block word.Meas s = begun (begins_with (codes "CIRCLE") s.params) (said_of word.Meas s)
+waiting_after block word.Meas s = begun (begins_with (codes "CIRCLE") s.params) (begins_with (codes "CYLNDR") s.params) (said_of word.Meas s)
 waiting_after block word.Ptmeas s = None
 waiting_after block word.Endmes s = None
 waiting_after block _ s = block
@@ -59,7 +63,7 @@ are_along f g h = has_size 1 (whole_of f) && (has_size 0 (whole_of g) && has_siz
 abbrev pub plane_across : Triple → Option Plane
 plane_across d = if are_along d.2 d.0 d.1 then Some Xy else if are_along d.0 d.1 d.2 then Some Yz else if are_along d.1 d.2 d.0 then Some Zx else None
 
--- half of a diameter above zero
+-- half of a length above zero
 abbrev pub is_above_zero : Result ℤ ValueFault → Bool
 is_above_zero (Ok z) = int_lt (pos 0) z
 is_above_zero (Err fault) = false
@@ -67,19 +71,30 @@ is_above_zero (Err fault) = false
 abbrev pub half : Fraction → Option Fraction
 half f = if is_above_zero (and_then (quotient f (magnitude f)) whole_of) then (number_in (codes "2") >>= λ two. result_ok (quotient f two)) else None
 
--- the bore that a `FEAT/CIRCLE,INNER,CART,x,y,z,i,j,k,diameter` says
+-- the bore that a `FEAT/CIRCLE,INNER,CART,x,y,z,i,j,k,diameter` says, or a `FEAT/CYLNDR,..,diameter,length`: this is along i, j, k from a point
+-- on the axis, so the first level is at a quarter of it, and the second by its half farther
+abbrev pub levels_in : Bore → Triple → List (List ℕ) → Option Bore
+levels_in bore axis [] = Some bore
+levels_in bore axis (l ∷ []) = number_in l >>= λ length. (half length >>= λ apart. (half apart >>= λ depth.
+    (moved_by bore.centre depth axis >>= λ near. (moved_by near apart axis >>= λ far. Some (record bore { centre = near; far = Some far })))))
+levels_in bore axis _ = None
+
 abbrev pub wall_in : Triple → List (List ℕ) → Option Bore
-wall_in centre (i ∷ (j ∷ (k ∷ (d ∷ [])))) = numbers_in (i ∷ j ∷ k ∷ []) >>= λ axis. (plane_across axis >>= λ plane. (number_in d >>= λ diameter.
-    (half diameter >>= λ radius. Some (record { centre = centre; plane = plane; radius = radius }))))
-wall_in centre _ = None
+wall_in point (i ∷ (j ∷ (k ∷ (d ∷ rest)))) = numbers_in (i ∷ j ∷ k ∷ []) >>= λ axis. (plane_across axis >>= λ plane. (number_in d >>= λ diameter.
+    (half diameter >>= λ radius. levels_in (record { centre = point; far = None; plane = plane; radius = radius }) axis rest)))
+wall_in point _ = None
 
 abbrev pub bore_in : List (List ℕ) → Option Bore
-bore_in (x ∷ (y ∷ (z ∷ wall))) = numbers_in (x ∷ y ∷ z ∷ []) >>= λ centre. wall_in centre wall
+bore_in (x ∷ (y ∷ (z ∷ wall))) = numbers_in (x ∷ y ∷ z ∷ []) >>= λ point. wall_in point wall
 bore_in _ = None
 
+abbrev pub is_kind : List ℕ → Option Triple → Bool
+is_kind kind None = bytes_eq kind (codes "CIRCLE")
+is_kind kind (Some far) = bytes_eq kind (codes "CYLNDR")
+
 abbrev pub bore_of : List (List ℕ) → Option Bore
-bore_of (kind ∷ (side ∷ (form ∷ rest))) =
-    if bytes_eq kind (codes "CIRCLE") && (bytes_eq side (codes "INNER") && bytes_eq form (codes "CART")) then bore_in rest else None
+bore_of (kind ∷ (side ∷ (form ∷ rest))) = if bytes_eq side (codes "INNER") && bytes_eq form (codes "CART")
+    then (bore_in rest >>= λ bore. (if is_kind kind bore.far then Some bore else None)) else None
 bore_of _ = None
 
 abbrev pub bore_said : Statement → Option Bore
@@ -105,7 +120,22 @@ bore_named [] name = None
 bore_named (s ∷ above) name =
     if ends_nominals (keyword_of s.word) s then None else bore_at name (feature_name s.label) (bore_said s) (bore_named above name)
 
--- the way outwards for touch t of n, counted from 0: its angle is 360 t / n degrees
+-- the level of touch t of n, counted from 0, with its place among those of the level: of two, the first has the half of n rounded up
+abbrev pub half_up : ℕ → ℕ
+half_up n = n - n / 2
+
+abbrev pub on_level : Triple → Option Triple → ℕ → ℕ → Level
+on_level centre None n t = record { centre = centre; count = n; touch = t }
+on_level centre (Some far) n t = if nat_lt t (half_up n) then record { centre = centre; count = half_up n; touch = t } else
+    record { centre = far; count = n / 2; touch = t - half_up n }
+
+abbrev pub level_at : Bore → ℕ → ℕ → Level
+level_at bore n t = on_level bore.centre bore.far n t
+
+abbrev pub end_of : Bore → Triple
+end_of bore = unwrap_or bore.far bore.centre
+
+-- the way outwards for touch t of n of a level: its angle is 360 t / n degrees
 unfoldable pub angle_text : ℕ → ℕ → List ℕ
 angle_text n t = codes "360*" ++ (line_digits t ++ (codes "/" ++ line_digits n))
 
@@ -114,12 +144,16 @@ outward_at plane text = number_in text >>= λ angle. (result_ok (in_radians angl
     (result_ok (sine turn) >>= λ s. (number_in (codes "0") >>= λ nil. Some (in_plane plane c s nil)))))
 
 -- the touch is at the end of the radius, and made from within: in the direction back to the centre
-abbrev pub touch_on : Bore → Triple → Option Touch
-touch_on bore way = moved_by bore.centre bore.radius way >>= λ place. (numbers_in (codes "0" ∷ codes "0" ∷ codes "0" ∷ []) >>= λ nowhere.
-    (number_in (codes "-1") >>= λ back. (moved_by nowhere back way >>= λ direction. Some (record { place = place; direction = direction }))))
+abbrev pub touch_on : Triple → Fraction → Triple → Option Touch
+touch_on centre radius way = moved_by centre radius way >>= λ place. (numbers_in (codes "0" ∷ codes "0" ∷ codes "0" ∷ []) >>= λ nowhere.
+    (number_in (codes "-1") >>= λ back. (moved_by nowhere back way >>= λ direction.
+    Some (record { from = centre; place = place; direction = direction }))))
+
+abbrev pub touch_by : Bore → Level → Option Touch
+touch_by bore level = outward_at bore.plane (angle_text level.count level.touch) >>= touch_on level.centre bore.radius
 
 abbrev pub touch_at : Bore → ℕ → ℕ → Option Touch
-touch_at bore n t = outward_at bore.plane (angle_text n t) >>= touch_on bore
+touch_at bore n t = touch_by bore (level_at bore n t)
 
 -- the first t of n touches, if all have values
 abbrev pub touches_to : Bore → ℕ → ℕ → Option (List Touch)
@@ -130,42 +164,54 @@ touches_to bore n (suc t) = touches_to bore n t >>= λ earlier. (touch_at bore n
 pub record Filling : Type 0 where
   pub name : List ℕ
   pub count : ℕ
-  pub centre : Triple
+  pub cylinder : Bool
+  pub end : Triple
   pub touches : List Touch
 
+-- a bore of the kind that the block names, and touches enough for each level
+abbrev pub is_as_asked : Bool → Option Triple → Bool
+is_as_asked cylinder None = not cylinder
+is_as_asked cylinder (Some far) = cylinder
+
+abbrev pub fewest : Bool → ℕ
+fewest cylinder = if cylinder then 6 else 3
+
+abbrev pub filling_by : Wanted → Bore → Option Filling
+filling_by w bore = touches_to bore w.count w.count >>= λ touches.
+    Some (record { name = w.name; count = w.count; cylinder = w.cylinder; end = end_of bore; touches = touches })
+
 abbrev pub filling_with : Wanted → Option Bore → Option Filling
-filling_with w found = found >>= λ bore. (touches_to bore w.count w.count >>= λ touches.
-    Some (record { name = w.name; count = w.count; centre = bore.centre; touches = touches }))
+filling_with w found = found >>= λ bore. (if is_as_asked w.cylinder bore.far then filling_by w bore else None)
 
 abbrev pub filling_of : Option Wanted → (List ℕ → Option Bore) → Option Filling
 filling_of None bores = None
-filling_of (Some w) bores = if nat_le 3 w.count && nat_le w.count 1000 then filling_with w (bores w.name) else None
+filling_of (Some w) bores = if nat_le (fewest w.cylinder) w.count && nat_le w.count 1000 then filling_with w (bores w.name) else None
 
 -- the words of the statements for it
 abbrev pub moving : List (List ℕ)
 moving = codes "GOTO" ∷ codes "PTMEAS" ∷ []
 
--- the statements for it: one that is noted and not written, whose last parameter is empty, and a move to the centre before each touch and after
--- the last one
+-- the statements for it: one that is noted and not written, whose last parameter is empty, and a move to the centre of its level before each touch
+-- and after the last one
 abbrev pub made_at : ℕ → List ℕ → List Fraction → Statement
 made_at line name numbers = with_params (record { line = line; label = None; word = name; params = [] }) (Some (Ok (codes "CART" ∷ map numeral numbers)))
 
 abbrev pub to_centre : ℕ → Triple → Statement
 to_centre line c = made_at line (codes "GOTO") (c.0 ∷ c.1 ∷ c.2 ∷ [])
 
-abbrev pub from_centre : ℕ → Triple → Touch → List Statement
-from_centre line c t = to_centre line c
+abbrev pub from_centre : ℕ → Touch → List Statement
+from_centre line t = to_centre line t.from
     ∷ made_at line (codes "PTMEAS") (t.place.0 ∷ t.place.1 ∷ t.place.2 ∷ t.direction.0 ∷ t.direction.1 ∷ t.direction.2 ∷ []) ∷ []
 
 abbrev pub there_and_back : ℕ → Triple → List Touch → List Statement
-there_and_back line c touches = flat_map (from_centre line c) touches ++ to_centre line c ∷ []
+there_and_back line end touches = flat_map (from_centre line) touches ++ to_centre line end ∷ []
 
 abbrev pub notice : ℕ → Filling → Statement
-notice line f = record { line = line; label = None; word = given_word; params = decimal f.count ∷ f.name ∷ [] ∷ [] }
+notice line f = record { line = line; label = None; word = given_word; params = decimal f.count ∷ f.name ∷ start_text f.cylinder ∷ [] ∷ [] }
 
 abbrev pub given_by : ℕ → Option Filling → List Statement
 given_by line None = []
-given_by line (Some f) = notice line f ∷ there_and_back line f.centre f.touches
+given_by line (Some f) = notice line f ∷ there_and_back line f.end f.touches
 
 -- what is given before a statement: something before the `ENDMES` of such a block alone, and where the operator does not measure
 abbrev pub is_endmes : Keyword → Bool
@@ -195,10 +241,10 @@ abbrev pub last_of : Statement → List Statement → Statement
 last_of before [] = before
 last_of before (s ∷ below) = last_of s below
 
--- each touch is directly below this statement
+-- touch t is directly below this statement
 abbrev pub is_touch : Statement → Bool
 is_touch s = bytes_eq s.word (codes "PTMEAS")
 
-abbrev pub EachBelow : Statement → Statement → List Statement → Type 0
-EachBelow move before [] = Unit {0}
-EachBelow move before (s ∷ below) = (is_touch s ≡ true → before ≡ move) × EachBelow move s below
+abbrev pub EachBelow : (ℕ → Statement) → ℕ → Statement → List Statement → Type 0
+EachBelow moves t before [] = Unit {0}
+EachBelow moves t before (s ∷ below) = (is_touch s ≡ true → before ≡ moves t) × EachBelow moves (if is_touch s then suc t else t) s below

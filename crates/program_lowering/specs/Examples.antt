@@ -1,5 +1,5 @@
 -- What the examples of this crate speak of.
-use Rattle.std.specs.Prelude.{ℕ, List, [], ◌∷◌, ◌++◌, codes, decimal, map, true, false, Option, None, Some, Result, Ok}
+use Rattle.std.specs.Prelude.{ℕ, List, [], ◌∷◌, ◌++◌, codes, decimal, drop, map, true, false, Option, None, Some, Result, Ok}
 use Rattle.dmis_text.specs.declared.elements.Statement.{Statement}
 use Rattle.program_flow.specs.declared.faults.ValueFault.{ValueFault}
 use Rattle.program_lowering.specs.Cartesian.{no_reference, reference_after}
@@ -93,6 +93,13 @@ assign name text = record { line = 1; label = Some name; word = codes "ASSIGN"; 
 abbrev pub x_is_five : List Statement
 x_is_five = assign (codes "X") (codes "5") ∷ declare_x ∷ []
 
+-- likewise a variable of letters
+abbrev pub declare_t : Statement
+declare_t = bare (codes "DECL") (codes "GLOBAL" ∷ codes "CHAR" ∷ codes "4" ∷ codes "T" ∷ [])
+
+abbrev pub t_is_bore : List Statement
+t_is_bore = assign (codes "T") (codes "'BORE'") ∷ declare_t ∷ []
+
 -- a move to a place, in polar coordinates and by 10, the parameters of a Cartesian one, and what follows statements refers to
 abbrev pub a_move : Statement
 a_move = bare (codes "GOTO") (codes "CART" ∷ codes "1" ∷ codes "2.5" ∷ codes "3" ∷ [])
@@ -110,9 +117,13 @@ abbrev pub below : List Statement → Reference
 below [] = no_reference
 below (s ∷ above) = reference_after (below above) s
 
--- a feature named A, a bore of a diameter of 50 with an axis, and a block for A; what is given before its end, and a touch from the centre
+-- a feature named A, a bore of a diameter of 50 with an axis, or one of a length, and a block for A; what is given before its end, and a touch from
+-- the centre at a depth
+abbrev pub feature_named : List ℕ → List (List ℕ) → Statement
+feature_named label params = record { line = 1; label = Some label; word = codes "FEAT"; params = params }
+
 abbrev pub feature_a : List (List ℕ) → Statement
-feature_a params = record { line = 1; label = Some (codes "F(A)"); word = codes "FEAT"; params = params }
+feature_a params = feature_named (codes "F(A)") params
 
 abbrev pub bore_a : List ℕ → List ℕ → List ℕ → Statement
 bore_a i j k = feature_a (codes "CIRCLE" ∷ codes "INNER" ∷ codes "CART" ∷ codes "0" ∷ codes "0" ∷ codes "-5" ∷ i ∷ j ∷ k ∷ codes "50" ∷ [])
@@ -120,11 +131,27 @@ bore_a i j k = feature_a (codes "CIRCLE" ∷ codes "INNER" ∷ codes "CART" ∷ 
 abbrev pub upright : Statement
 upright = bore_a (codes "0") (codes "0") (codes "1")
 
+abbrev pub along : List (List ℕ) → List ℕ → List ℕ → Statement
+along axis side length = feature_a (codes "CYLNDR" ∷ side ∷ codes "CART" ∷ codes "0" ∷ codes "0" ∷ codes "-5" ∷ (axis ++ codes "50" ∷ length ∷ []))
+
+abbrev pub downwards : List (List ℕ)
+downwards = codes "0" ∷ codes "0" ∷ codes "-1" ∷ []
+
+abbrev pub deep : Statement
+deep = along downwards (codes "INNER") (codes "40")
+
 abbrev pub block_a : List ℕ → List ℕ → Statement
 block_a kind count = bare (codes "MEAS") (kind ∷ codes "F(A)" ∷ count ∷ [])
 
+abbrev pub two_ways : List Statement
+two_ways = along (codes "1" ∷ codes "0" ∷ codes "0" ∷ []) (codes "INNER") (codes "40")
+    ∷ along (codes "-1" ∷ codes "0" ∷ codes "0" ∷ []) (codes "INNER") (codes "40") ∷ []
+
 abbrev pub three_of_a : Statement
 three_of_a = block_a (codes "CIRCLE") (codes "3")
+
+abbrev pub six_of_a : Statement
+six_of_a = block_a (codes "CYLNDR") (codes "6")
 
 abbrev pub end_of_block : Statement
 end_of_block = bare (codes "ENDMES") []
@@ -132,8 +159,20 @@ end_of_block = bare (codes "ENDMES") []
 abbrev pub given_below : List Statement → List Statement
 given_below above = touches_before above end_of_block
 
-abbrev pub told_of : ℕ → Statement
-told_of n = bare (codes "ENDMES is given") (decimal n ∷ codes "A" ∷ [] ∷ [])
+abbrev pub told_of : ℕ → List ℕ → Statement
+told_of n start = bare (codes "ENDMES is given") (decimal n ∷ codes "A" ∷ start ∷ [] ∷ [])
+
+abbrev pub told_of_circle : ℕ → Statement
+told_of_circle n = told_of n (codes "its centre")
+
+-- a feature whose label and place have values, and what has none
+abbrev pub feature_by_x : Statement
+feature_by_x = feature_named (codes "F(B@X)") (codes "CIRCLE" ∷ codes "X+1" ∷ [])
+
+abbrev pub without_values : List Statement
+without_values = feature_named (codes "F(@Y)") (codes "X+1" ∷ []) ∷ feature_named (codes "F(B,@X)") (codes "X+1" ∷ [])
+    ∷ feature_named [] (codes "X+1" ∷ []) ∷ record feature_by_x { params = codes "'@X" ∷ [] } ∷ record feature_by_x { label = None }
+    ∷ record feature_by_x { word = codes "TOL" } ∷ []
 
 -- statements on lines; and a round over a bore that is given its touches, with a statement that is left out
 abbrev pub on_line : ℕ → Statement → Statement
@@ -151,14 +190,27 @@ two_rounds = start ∷ on_line 2 upright ∷ (bore_round ++ bore_round)
 abbrev pub minus : ℕ → List ℕ
 minus n = codes "-" ++ decimal n
 
-abbrev pub to_five : List Statement
-to_five = bare (codes "GOTO") (codes "CART" ∷ decimal 0 ∷ decimal 0 ∷ minus 5 ∷ []) ∷ []
+abbrev pub to_place : List (List ℕ) → List Statement
+to_place numbers = bare (codes "GOTO") (codes "CART" ∷ numbers) ∷ []
+
+abbrev pub to_depth : ℕ → List Statement
+to_depth d = to_place (decimal 0 ∷ decimal 0 ∷ minus d ∷ [])
 
 abbrev pub from_five : List (List ℕ) → List Statement
-from_five numbers = to_five ++ bare (codes "PTMEAS") (codes "CART" ∷ numbers) ∷ []
+from_five numbers = to_depth 5 ++ bare (codes "PTMEAS") (codes "CART" ∷ numbers) ∷ []
 
-abbrev pub on_wall : List ℕ → List ℕ → List ℕ → List ℕ → List Statement
-on_wall x y i j = from_five (x ∷ y ∷ minus 5 ∷ i ∷ j ∷ decimal 0 ∷ [])
+abbrev pub on_wall : ℕ → List ℕ → List ℕ → List ℕ → List ℕ → List Statement
+on_wall d x y i j = to_depth d ++ bare (codes "PTMEAS") (codes "CART" ∷ x ∷ y ∷ minus d ∷ i ∷ j ∷ decimal 0 ∷ []) ∷ []
+
+-- four touches at a depth, and three
+abbrev pub four_at : ℕ → List Statement
+four_at d = on_wall d (decimal 25) (decimal 0) (minus 1) (decimal 0) ++ (on_wall d (decimal 0) (decimal 25) (decimal 0) (minus 1)
+    ++ (on_wall d (minus 25) (decimal 0) (decimal 1) (decimal 0) ++ on_wall d (decimal 0) (minus 25) (decimal 0) (decimal 1)))
+
+abbrev pub three_at : ℕ → List Statement
+three_at d = on_wall d (decimal 25) (decimal 0) (minus 1) (decimal 0)
+    ++ (on_wall d (minus 12 ++ codes ".500000") (decimal 21 ++ codes ".650635") (decimal 0 ++ codes ".500000") (minus 0 ++ codes ".866025")
+    ++ on_wall d (minus 12 ++ codes ".500000") (minus 21 ++ codes ".650635") (decimal 0 ++ codes ".500000") (decimal 0 ++ codes ".866025"))
 
 -- features and blocks for which nothing is given
 abbrev pub another_a : List ℕ → List ℕ → List ℕ → Statement
@@ -170,8 +222,15 @@ no_bores = another_a (codes "CIRCLE") (codes "OUTER") (codes "50") ∷ another_a
     ∷ bore_a (codes "0.6") (codes "0") (codes "0.8") ∷ bore_a (codes "1") (codes "0") (codes "1") ∷ bore_a (codes "0") (codes "0") (codes "2")
     ∷ record upright { label = Some (codes "F(B)") } ∷ record upright { word = codes "TOL" } ∷ []
 
+abbrev pub no_cylinders : List Statement
+no_cylinders = upright ∷ another_a (codes "CYLNDR") (codes "INNER") (codes "50") ∷ along downwards (codes "OUTER") (codes "40")
+    ∷ along downwards (codes "INNER") (codes "0") ∷ along downwards (codes "INNER") (codes "-40")
+    ∷ along (codes "0" ∷ codes "0.6" ∷ codes "0.8" ∷ []) (codes "INNER") (codes "40")
+    ∷ record deep { params = codes "CIRCLE" ∷ drop 1 deep.params } ∷ record deep { params = deep.params ++ codes "40" ∷ [] } ∷ []
+
 abbrev pub no_blocks : List (List Statement)
-no_blocks = (block_a (codes "CIRCLE") (codes "2") ∷ []) ∷ (block_a (codes "CIRCLE") (codes "1001") ∷ []) ∷ (block_a (codes "CYLNDR") (codes "3") ∷ [])
+no_blocks = (block_a (codes "CIRCLE") (codes "2") ∷ []) ∷ (block_a (codes "CIRCLE") (codes "1001") ∷ []) ∷ (block_a (codes "CYLNDR") (codes "6") ∷ [])
+    ∷ (block_a (codes "SPHERE") (codes "6") ∷ [])
     ∷ (a_touch ∷ three_of_a ∷ []) ∷ (end_of_block ∷ three_of_a ∷ []) ∷ (three_of_a ∷ mode_man ∷ []) ∷ (three_of_a ∷ bare (codes "UNITS") [] ∷ [])
     ∷ (three_of_a ∷ bare (codes "RECALL") (codes "D(B)" ∷ []) ∷ []) ∷ (three_of_a ∷ bare (codes "RECALL") (codes "DA(B)" ∷ []) ∷ [])
     ∷ (three_of_a ∷ bare (codes "TRANS") [] ∷ []) ∷ []

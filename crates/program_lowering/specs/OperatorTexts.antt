@@ -27,6 +27,11 @@ flat_meant s meaning = if is_operator_text s then Some (as_read s) else flat_sai
 abbrev pub is_outer : ℕ → Bool
 is_outer c = (nat_le 33 c && nat_le c 126) && (not (c == 36) && (not (c == 44) && (to_ascii_uppercase c == c)))
 
+-- and opens no text and ends no element: an apostrophe is 39, a `/` 47, a `=` 61
+abbrev pub is_solid : ℕ → Bool
+is_solid c = (nat_le 33 c && nat_le c 126) && (not (c == 36) && (not (c == 39) && (not (c == 44) && (not (c == 47)
+    && (not (c == 61) && (to_ascii_uppercase c == c))))))
+
 -- each byte of a parameter is such a byte or in a text, and each text in it is closed
 abbrev pub is_plain : Bool → List ℕ → Bool
 is_plain inside [] = not inside

@@ -5,7 +5,7 @@ use Rattle.program_flow.specs.Nearness.{Balance, IsInRadians, balance, partial_s
 use Rattle.program_flow.specs.Numbers.{Fraction, whole_number}
 use Rattle.program_lowering.specs.Cartesian.{Triple, no_reference}
 use Rattle.program_lowering.specs.declared.cartesian.AngleUnit.{AngleUnit}
-use Rattle.program_lowering.specs.declared.cartesian.AngleUnit.TheVariants.{Degrees, Radians}
+use Rattle.program_lowering.specs.declared.cartesian.AngleUnit.TheVariants.{Radians}
 use Rattle.program_lowering.specs.declared.cartesian.Plane.{Plane}
 use Rattle.program_lowering.specs.declared.cartesian.Plane.TheVariants.{Xy, Yz, Zx}
 use Rattle.program_lowering.specs.declared.cartesian.Reference.{Reference}
@@ -20,10 +20,10 @@ pub record IsCloseTo (over under : ℕ) (lower upper d : Balance) : Type 0 where
   pub below : IsPastBy over under upper d
   pub above : IsPastBy over under d lower
 
--- the angle in radians: within 10 ^ -12, if it is in degrees
+-- the angle in radians: within 10 ^ -12, unless it is in radians
 abbrev pub IsTurn : AngleUnit → Fraction → Fraction → Type 0
-IsTurn Degrees angle turn = IsInRadians angle turn
 IsTurn Radians angle turn = angle ≡ turn
+IsTurn _ angle turn = IsInRadians angle turn
 
 -- the radius times a partial sum of the cosine, and of the sine, of a turn; radius and turn without their signs (see `Nearness`)
 abbrev pub by_cosine : Fraction → Fraction → ℕ → Balance
@@ -54,7 +54,7 @@ in_axes Zx place = (place.2, place.0, place.1)
 
 -- a radius, an angle and a height, and a place
 abbrev pub IsNearPolar : ℕ → ℕ → Reference → Triple → Triple → Type 0
-IsNearPolar over under ref polar place = IsSomeAnd ref.plane (λ plane. IsSomeAnd ref.unit (λ unit. IsAround over under unit polar (in_axes plane place)))
+IsNearPolar over under ref polar place = IsSomeAnd ref.plane (λ plane. IsAround over under ref.unit polar (in_axes plane place))
 
 -- for examples: polar coordinates with radius 10 and height 5, a place at this height in millionths, and radians
 abbrev pub turned_by : ℕ → Triple
@@ -64,4 +64,4 @@ abbrev pub placed_at : ℤ → ℤ → Triple
 placed_at x y = (record { over = x; under = 1000000 }, record { over = y; under = 1000000 }, whole_number (pos 5))
 
 abbrev pub by_radians : Reference
-by_radians = record no_reference { unit = Some Radians }
+by_radians = record no_reference { unit = Radians }

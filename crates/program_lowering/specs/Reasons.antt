@@ -1,5 +1,5 @@
 -- The reasons as they are printed (this profile).
-use Rattle.std.specs.Prelude.{List, [], ◌∷◌, ◌++◌, ℕ, codes}
+use Rattle.std.specs.Prelude.{Bool, true, false, List, [], ◌∷◌, ◌++◌, ℕ, codes}
 use Rattle.program_lowering.specs.declared.words.Reason.{Reason}
 use Rattle.program_lowering.specs.declared.words.Reason.TheVariants.{Printing, Naming, Evaluating, Motion, Clearing, Uncompensated}
 use Rattle.program_lowering.specs.declared.words.Reason.TheVariants.{Compensated, Manual, Passed, Stored, Declared, Assigned, Leads, Touched}
@@ -25,7 +25,7 @@ abbrev pub joint : Reason → List ℕ
 joint Touched = codes " "
 joint _ = codes " is left out: "
 
--- and what follows: the name of a variable with its value, a line, or how many touches of what a block is given
+-- and what follows: the name of a variable with its value, a line, or how many touches of what a block is given, and from where
 abbrev pub assigned_text : List (List ℕ) → List ℕ
 assigned_text (name ∷ (value ∷ [])) = name ++ (codes " is " ++ value)
 assigned_text _ = []
@@ -34,11 +34,16 @@ abbrev pub first_param : List (List ℕ) → List ℕ
 first_param [] = []
 first_param (line ∷ others) = line
 
-unfoldable pub touches_text : List ℕ → List ℕ → List ℕ
-touches_text count name = count ++ (codes " touches of F(" ++ (name ++ codes "), each from its centre: see that the way there is free"))
+abbrev pub start_text : Bool → List ℕ
+start_text true = codes "its axis, on two levels"
+start_text false = codes "its centre"
+
+unfoldable pub touches_text : List ℕ → List ℕ → List ℕ → List ℕ
+touches_text count name start =
+    count ++ (codes " touches of F(" ++ (name ++ (codes "), each from " ++ (start ++ codes ": see that the way there is free"))))
 
 abbrev pub given_text : List (List ℕ) → List ℕ
-given_text (count ∷ (name ∷ rest)) = touches_text count name
+given_text (count ∷ (name ∷ (start ∷ rest))) = touches_text count name start
 given_text _ = []
 
 abbrev pub detail : Reason → List (List ℕ) → List ℕ

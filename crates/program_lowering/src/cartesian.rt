@@ -1,7 +1,8 @@
 // Polar and incremental coordinates.
 
-ghost use Rattle.std.specs.Prelude.{◌≡◌, ◌≤◌, ◌*◌, ◌++◌, ◌∷◌, [], ℕ, List, IfOk, Ok, bytes_eq, codes, drop, false, map, option_map, unsigned_abs};
-ghost use Rattle.std.specs.List.{list_all, list_any};
+ghost use Rattle.std.specs.Prelude.{◌≡◌, ◌≤◌, ◌<◌, ◌==◌, ◌*◌, ◌++◌, IfSome, length, ◌∷◌, [], ℕ, List, IfOk, Ok, bytes_eq, codes, drop, false, map, option_map, unsigned_abs};
+ghost use Rattle.std.specs.Char.{is_ascii_digit};
+ghost use Rattle.std.specs.List.{list_all, list_any, position};
 ghost use Rattle.program_flow.specs.Numbers.{numeral};
 ghost use Rattle.program_lowering.specs.OperatorTexts.{is_plain, marked};
 ghost use Rattle.fixed_um.specs.Limits.{component_limit};
@@ -31,6 +32,8 @@ pub(crate) enum Plane {
 pub(crate) enum AngleUnit {
     Degrees,
     Radians,
+    /// Degrees, minutes and seconds.
+    Sexagesimal,
 }
 
 /// Three coordinates, or the components of a direction.
@@ -40,7 +43,7 @@ pub(crate) type Triple = (Number, Number, Number);
 #[derive(Clone, Copy)]
 pub(crate) struct Reference {
     pub(crate) plane: Option<Plane>,
-    pub(crate) unit: Option<AngleUnit>,
+    pub(crate) unit: AngleUnit,
     /// Where the machine is, if a `GOTO` ended there.
     pub(crate) place: Option<Triple>,
     /// Whether the block that is open has no touch.
@@ -63,6 +66,118 @@ pub(crate) fn numbers_in(alloc: Global, first: &[u8], second: &[u8], third: &[u8
     Some((first, second, third))
 }
 
+/// Where a byte is first.
+fn first_place(mark: u8, text: &[u8]) -> Option<usize>
+    ensures value { result ≡ position (λ b. b == mark) text.now }
+    ensures within { IfSome result (λ i. i < length text.now) }
+{
+    text.iter().position(|byte| *byte == mark)
+}
+
+/// The texts around the first mark.
+fn parted(mark: u8, text: &[u8]) -> Option<(&[u8], &[u8])>
+    ensures { option_map (λ p. (p.0.now, p.1.now)) result ≡ spec.parted mark text.now }
+{
+    let Some(place) = first_place(mark, text) else {
+        return None;
+    };
+    let (before, _) = text.split_at(place);
+    let (_, after) = text.split_at(place + 1);
+    Some((before, after))
+}
+
+fn are_digits(text: &[u8]) -> bool
+    ensures { result ≡ list_all is_ascii_digit text.now }
+{
+    text.iter().all(|byte| byte.is_ascii_digit())
+}
+
+/// Whether a text is a number below 60: one digit, or two.
+fn is_sixtieth(text: &[u8]) -> bool
+    ensures { result ≡ spec.is_sixtieth text.now }
+{
+    match text {
+        [only] => only.is_ascii_digit(),
+        [first, second] => first.is_ascii_digit() && *first <= b'5' && second.is_ascii_digit(),
+        _ => false,
+    }
+}
+
+/// The seconds that a text writes, with decimals or without.
+fn seconds_in(alloc: Global, text: &[u8]) -> Option<Number>
+    ensures { result ≡ spec.seconds_in text.now }
+{
+    let taken = match parted(b'.', text) {
+        Some((whole, decimals)) => is_sixtieth(whole) && are_digits(decimals),
+        None => is_sixtieth(text),
+    };
+    if !taken {
+        return None;
+    }
+    number_in(alloc, text)
+}
+
+/// A number with that many sixtieths.
+fn with_sixtieths(alloc: Global, whole: &[u8], part: Option<Number>) -> Option<Number>
+    ensures { result ≡ spec.with_sixtieths whole.now part }
+{
+    let whole = number_in(alloc, whole)?;
+    let part = part?.quotient(number_in(alloc, b"60")?).ok()?;
+    whole.sum(part).ok()
+}
+
+/// The minutes that a text writes, with seconds or without.
+fn minutes_in(alloc: Global, text: &[u8]) -> Option<Number>
+    ensures { result ≡ spec.minutes_in text.now }
+{
+    match parted(b':', text) {
+        Some((minutes, seconds)) if is_sixtieth(minutes) => {
+            with_sixtieths(alloc, minutes, seconds_in(alloc, seconds))
+        }
+        None if is_sixtieth(text) => number_in(alloc, text),
+        _ => None,
+    }
+}
+
+/// The degrees that a text writes with minutes.
+fn degrees_in(alloc: Global, text: &[u8]) -> Option<Number>
+    ensures { result ≡ spec.degrees_in text.now }
+{
+    let (degrees, minutes) = parted(b':', text)?;
+    if !are_digits(degrees) {
+        return None;
+    }
+    with_sixtieths(alloc, degrees, minutes_in(alloc, minutes))
+}
+
+/// The degrees that a text writes with minutes, and with a minus or without one.
+fn signed_degrees(alloc: Global, text: &[u8]) -> Option<Number>
+    ensures { result ≡ spec.signed_degrees text.now }
+{
+    match text {
+        [] => None,
+        [b'-', rest @ ..] => Some(degrees_in(alloc, rest)?.opposite()),
+        _ => degrees_in(alloc, text),
+    }
+}
+
+fn has_colon(text: &[u8]) -> bool
+    ensures { result ≡ list_any (λ b. b == 58) text.now }
+{
+    text.iter().any(|byte| *byte == b':')
+}
+
+/// The number of an angle in this unit.
+fn angle_in(alloc: Global, unit: AngleUnit, text: &[u8]) -> Option<Number>
+    ensures { result ≡ spec.angle_in unit text.now }
+{
+    match unit {
+        AngleUnit::Degrees | AngleUnit::Radians => number_in(alloc, text),
+        AngleUnit::Sexagesimal if !has_colon(text) => number_in(alloc, text),
+        AngleUnit::Sexagesimal => signed_degrees(alloc, text),
+    }
+}
+
 /// The plane that a `WKPLAN` names.
 fn plane_named(params: &[Text]) -> Option<Plane>
     ensures { result ≡ spec.plane_named params.now }
@@ -82,15 +197,15 @@ fn has_word(params: &[Text], word: &str) -> bool
 }
 
 /// The unit of angles that a `UNITS` names.
-fn unit_named(params: &[Text]) -> Option<AngleUnit>
+fn unit_named(params: &[Text]) -> AngleUnit
     ensures { result ≡ spec.unit_named params.now }
 {
     if has_word(params, "ANGDMS") {
-        None
+        AngleUnit::Sexagesimal
     } else if has_word(params, "ANGRAD") {
-        Some(AngleUnit::Radians)
+        AngleUnit::Radians
     } else {
-        Some(AngleUnit::Degrees)
+        AngleUnit::Degrees
     }
 }
 
@@ -112,8 +227,8 @@ fn radians(unit: AngleUnit, angle: Number) -> Option<Number>
     ensures { result ≡ spec.radians unit angle }
 {
     match unit {
-        AngleUnit::Degrees => in_radians(angle).ok(),
         AngleUnit::Radians => Some(angle),
+        AngleUnit::Degrees | AngleUnit::Sexagesimal => in_radians(angle).ok(),
     }
 }
 
@@ -227,7 +342,7 @@ impl Reference {
     {
         Reference {
             plane: Some(Plane::Xy),
-            unit: Some(AngleUnit::Degrees),
+            unit: AngleUnit::Degrees,
             place: None,
             untouched: false,
         }
@@ -275,12 +390,13 @@ impl Reference {
             return None;
         };
         let plane = self.plane?;
-        let unit = self.unit?;
-        let written = numbers_in(alloc, radius, angle, height)?;
-        let turn = radians(unit, written.1)?;
-        let first = written.0.rounded_product(cosine(turn).ok()?).ok()?;
-        let second = written.0.rounded_product(sine(turn).ok()?).ok()?;
-        Some(in_plane(plane, first, second, written.2))
+        let radius = number_in(alloc, radius)?;
+        let angle = angle_in(alloc, self.unit, angle)?;
+        let height = number_in(alloc, height)?;
+        let turn = radians(self.unit, angle)?;
+        let first = radius.rounded_product(cosine(turn).ok()?).ok()?;
+        let second = radius.rounded_product(sine(turn).ok()?).ok()?;
+        Some(in_plane(plane, first, second, height))
     }
 
     /// The place after a move by a distance in a direction.

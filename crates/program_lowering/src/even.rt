@@ -27,22 +27,37 @@ use std::marker::Model;
 #[derive(Clone, Copy)]
 pub(crate) struct Bore {
     pub(crate) centre: Triple,
+    /// The centre of the second level of a cylinder; `centre` is that of the first.
+    pub(crate) far: Option<Triple>,
     pub(crate) plane: Plane,
     pub(crate) radius: Number,
+}
+
+/// The level of a touch.
+#[derive(Clone, Copy)]
+pub(crate) struct Level {
+    pub(crate) centre: Triple,
+    /// How many touches it has.
+    pub(crate) count: u64,
+    /// Which of them this is, counted from 0.
+    pub(crate) touch: u64,
 }
 
 /// A touch from within.
 #[derive(Clone, Copy)]
 pub(crate) struct Touch {
+    /// The centre of its level.
+    pub(crate) from: Triple,
     pub(crate) place: Triple,
     pub(crate) direction: Triple,
 }
 
-/// An open block of a circle without a touch: its feature, and how many touches it asks for.
+/// An open block of a circle or a cylinder without a touch: its feature, and how many touches it asks for.
 #[derive(Drop)]
 pub(crate) struct Wanted {
     pub(crate) name: Name,
     pub(crate) count: u64,
+    pub(crate) cylinder: bool,
 }
 
 /// A feature, with its bore if it is one.
@@ -57,7 +72,9 @@ pub(crate) struct Feature {
 pub(crate) struct Filling {
     pub(crate) name: Name,
     pub(crate) count: u64,
-    pub(crate) centre: Triple,
+    pub(crate) cylinder: bool,
+    /// Where it ends.
+    pub(crate) end: Triple,
     pub(crate) touches: Vec<Touch>,
 }
 
@@ -66,7 +83,13 @@ impl Model for Filling {
 
     ghost Value = { Filling };
 
-    ghost view = { λ f. record { name = f.name; count = f.count; centre = f.centre; touches = f.touches.items } };
+    ghost view = { λ f. record {
+      name = f.name;
+      count = f.count;
+      cylinder = f.cylinder;
+      end = f.end;
+      touches = f.touches.items;
+    } };
 }
 
 /// What the statements above leave for the next block.
@@ -86,16 +109,22 @@ impl Model for Even {
     ghost view = { λ e. record { waiting = e.waiting; features = e.features.items; manual = e.manual } };
 }
 
-/// The block that a `MEAS` begins, if it is of a circle.
+/// The block that a `MEAS` begins, if it is of a circle or a cylinder.
 fn begun(alloc: Global, statement: &Statement) -> Result<Option<Wanted>, AllocError>
-    ensures { IfOk result (λ block. block ≡ spec.begun (begins_with (codes "CIRCLE")
-        statement.now.params) (said_of Keyword.Meas statement.now)) }
+    ensures { IfOk result (λ block. block ≡ spec.begun
+        (begins_with (codes "CIRCLE") statement.now.params)
+        (begins_with (codes "CYLNDR") statement.now.params) (said_of Keyword.Meas statement.now)) }
 {
     let circle = begins_with("CIRCLE", &statement.params);
+    let cylinder = begins_with("CYLNDR", &statement.params);
     match said_of(alloc, Keyword::Meas, statement) {
         Ok(StatementMeaning::Begins(name, count)) => {
-            if circle {
-                Ok(Some(Wanted { name, count }))
+            if circle || cylinder {
+                Ok(Some(Wanted {
+                    name,
+                    count,
+                    cylinder,
+                }))
             } else {
                 Ok(None)
             }
@@ -145,43 +174,77 @@ fn is_above_zero(number: Number) -> bool
     }
 }
 
-/// Half of a diameter above zero.
-fn half(alloc: Global, diameter: Number) -> Option<Number>
-    ensures { result ≡ spec.half diameter }
+/// Half of a length above zero.
+fn half(alloc: Global, length: Number) -> Option<Number>
+    ensures { result ≡ spec.half length }
 {
-    if !is_above_zero(diameter) {
+    if !is_above_zero(length) {
         return None;
     }
-    diameter.quotient(number_in(alloc, b"2")?).ok()
+    length.quotient(number_in(alloc, b"2")?).ok()
 }
 
-/// The bore around a centre, of an axis and a diameter.
-fn wall_in(alloc: Global, centre: Triple, params: &[Text]) -> Option<Bore>
-    ensures { result ≡ spec.wall_in centre params.now }
+/// The bore on its level, or with two if these parameters are a length.
+fn levels_in(alloc: Global, bore: Bore, axis: Triple, params: &[Text]) -> Option<Bore>
+    ensures { result ≡ spec.levels_in bore axis params.now }
 {
-    let [i, j, k, diameter] = params else {
+    match params {
+        [] => Some(bore),
+        [length] => {
+            let apart = half(alloc, number_in(alloc, length)?)?;
+            let depth = half(alloc, apart)?;
+            let near = moved_by(bore.centre, depth, axis)?;
+            let far = moved_by(near, apart, axis)?;
+            Some(Bore {
+                centre: near,
+                far: Some(far),
+                plane: bore.plane,
+                radius: bore.radius,
+            })
+        }
+        _ => None,
+    }
+}
+
+/// The bore at a point, of an axis, a diameter and perhaps a length.
+fn wall_in(alloc: Global, point: Triple, params: &[Text]) -> Option<Bore>
+    ensures { result ≡ spec.wall_in point params.now }
+{
+    let [i, j, k, diameter, rest @ ..] = params else {
         return None;
     };
     let axis = numbers_in(alloc, i, j, k)?;
     let plane = plane_across(axis)?;
     let radius = half(alloc, number_in(alloc, diameter)?)?;
-    Some(Bore {
-        centre,
+    let wall = Bore {
+        centre: point,
+        far: None,
         plane,
         radius,
-    })
+    };
+    levels_in(alloc, wall, axis, rest)
 }
 
-/// The bore of a centre, an axis and a diameter.
+/// The bore of a point, an axis, a diameter and perhaps a length.
 fn bore_in(alloc: Global, params: &[Text]) -> Option<Bore>
     ensures { result ≡ spec.bore_in params.now }
 {
     match params {
         [x, y, z, wall @ ..] => {
-            let centre = numbers_in(alloc, x, y, z)?;
-            wall_in(alloc, centre, wall)
+            let point = numbers_in(alloc, x, y, z)?;
+            wall_in(alloc, point, wall)
         }
         _ => None,
+    }
+}
+
+/// Whether this word is that for a bore with this second level, or with none.
+fn is_kind(kind: &[u8], far: Option<Triple>) -> bool
+    ensures { result ≡ spec.is_kind kind.now far }
+{
+    match far {
+        None => is_text(kind, "CIRCLE"),
+        Some(_) => is_text(kind, "CYLNDR"),
     }
 }
 
@@ -190,9 +253,13 @@ fn bore_of(alloc: Global, params: &[Text]) -> Option<Bore>
     ensures { result ≡ spec.bore_of params.now }
 {
     match params {
-        [kind, side, form, rest @ ..]
-            if is_text(kind, "CIRCLE") && is_text(side, "INNER") && is_text(form, "CART") => {
-            bore_in(alloc, rest)
+        [kind, side, form, rest @ ..] if is_text(side, "INNER") && is_text(form, "CART") => {
+            let bore = bore_in(alloc, rest)?;
+            if is_kind(kind, bore.far) {
+                Some(bore)
+            } else {
+                None
+            }
         }
         _ => None,
     }
@@ -221,6 +288,34 @@ fn ends_nominals(keyword: Keyword, statement: &Statement) -> bool
     }
 }
 
+/// The level of one of n touches.
+fn level_at(bore: &Bore, count: u64, touch: u64) -> Level
+    ensures { result ≡ spec.level_at bore.now count touch }
+{
+    let centre = bore.centre;
+    let Some(far) = bore.far else {
+        return Level {
+            centre,
+            count,
+            touch,
+        };
+    };
+    let first = count - count / 2;
+    if touch < first {
+        Level {
+            centre,
+            count: first,
+            touch,
+        }
+    } else {
+        Level {
+            centre: far,
+            count: count / 2,
+            touch: touch - first,
+        }
+    }
+}
+
 /// The angle of one of n touches, in degrees, as an expression.
 fn angle_text(alloc: Global, count: u64, touch: u64) -> Result<Vec<u8>, AllocError>
     ensures { IfOk result (λ text. text.items ≡ spec.angle_text count touch) }
@@ -242,23 +337,28 @@ fn outward(alloc: Global, plane: Plane, angle: &[u8]) -> Option<Triple>
     Some(in_plane(plane, first, second, number_in(alloc, b"0")?))
 }
 
-/// The touch where this way outwards meets the wall.
-fn touch_on(alloc: Global, bore: &Bore, way: Triple) -> Option<Touch>
-    ensures { result ≡ spec.touch_on bore.now way }
+/// The touch where this way outwards from a centre meets the wall.
+fn touch_on(alloc: Global, from: Triple, radius: Number, way: Triple) -> Option<Touch>
+    ensures { result ≡ spec.touch_on from radius way }
 {
-    let place = moved_by(bore.centre, bore.radius, way)?;
+    let place = moved_by(from, radius, way)?;
     let nowhere = numbers_in(alloc, b"0", b"0", b"0")?;
     let direction = moved_by(nowhere, number_in(alloc, b"-1")?, way)?;
-    Some(Touch { place, direction })
+    Some(Touch {
+        from,
+        place,
+        direction,
+    })
 }
 
 /// One of n touches.
 fn touch_at(alloc: Global, bore: &Bore, count: u64, touch: u64) -> Result<Option<Touch>, AllocError>
     ensures { IfOk result (λ made. made ≡ spec.touch_at bore.now count touch) }
 {
-    let angle = angle_text(alloc, count, touch)?;
+    let level = level_at(bore, count, touch);
+    let angle = angle_text(alloc, level.count, level.touch)?;
     Ok(match outward(alloc, bore.plane, &angle) {
-        Some(way) => touch_on(alloc, bore, way),
+        Some(way) => touch_on(alloc, level.centre, bore.radius, way),
         None => None,
     })
 }
@@ -291,6 +391,39 @@ fn latest(features: &[Feature], name: &Name) -> Option<Bore>
     found
 }
 
+/// Whether a bore with this second level, or with none, is of the kind that is asked for.
+fn is_as_asked(cylinder: bool, far: Option<Triple>) -> bool
+    ensures { result ≡ spec.is_as_asked cylinder far }
+{
+    match far {
+        None => !cylinder,
+        Some(_) => cylinder,
+    }
+}
+
+/// The fewest touches that a block is given.
+fn fewest(cylinder: bool) -> u64
+    ensures { result ≡ spec.fewest cylinder }
+{
+    if cylinder { 6 } else { 3 }
+}
+
+/// What a block is given in a bore.
+fn filling_by(alloc: Global, wanted: &Wanted, bore: &Bore) -> Result<Option<Filling>, AllocError>
+    ensures { IfOk result (λ filling. filling ≡ spec.filling_by wanted.now bore.now) }
+{
+    let Some(touches) = touches_of(alloc, bore, wanted.count)? else {
+        return Ok(None);
+    };
+    Ok(Some(Filling {
+        name: wanted.name.copy(alloc)?,
+        count: wanted.count,
+        cylinder: wanted.cylinder,
+        end: bore.far.unwrap_or(bore.centre),
+        touches,
+    }))
+}
+
 impl Even {
     /// Before any statement.
     pub(crate) fn none(alloc: Global) -> Even
@@ -311,21 +444,16 @@ impl Even {
         let Some(wanted) = &self.waiting else {
             return Ok(None);
         };
-        if wanted.count < 3 || wanted.count > 1000 {
+        if wanted.count < fewest(wanted.cylinder) || wanted.count > 1000 {
             return Ok(None);
         }
         let Some(bore) = latest(&self.features, &wanted.name) else {
             return Ok(None);
         };
-        let Some(touches) = touches_of(alloc, &bore, wanted.count)? else {
+        if !is_as_asked(wanted.cylinder, bore.far) {
             return Ok(None);
-        };
-        Ok(Some(Filling {
-            name: wanted.name.copy(alloc)?,
-            count: wanted.count,
-            centre: bore.centre,
-            touches,
-        }))
+        }
+        filling_by(alloc, wanted, &bore)
     }
 
     /// What is given before a statement with this keyword.

@@ -1,5 +1,5 @@
 // What follows from the definitions alone. Each function has laws for its contract and does nothing.
-ghost use Rattle.std.specs.Prelude.{◌≡◌, ◌<◌, ◌^◌, ◌++◌, ◌∷◌, ◌*◌, ◌+◌, ◌==◌, [], ℕ, ℤ, pos, neg_ℤ, int_lt, unsigned_abs, Bool, Err, List, filter, length, map, codes, decimal, false, true, take, Some, None, Ok};
+ghost use Rattle.std.specs.Prelude.{◌≡◌, ◌<◌, ◌^◌, ◌++◌, ◌∷◌, ◌*◌, ◌+◌, ◌==◌, [], ℕ, ℤ, pos, neg_ℤ, int_lt, unsigned_abs, Bool, Err, List, filter, length, map, codes, decimal, drop, false, true, take, Some, None, Ok, negsuc};
 ghost use Rattle.std.specs.List.{AllByRecursion};
 ghost use Rattle.std.specs.Option.{option_map};
 ghost use Rattle.dmis_program.specs.Keywords.{keyword_of};
@@ -17,13 +17,14 @@ ghost use Rattle.fixed_um.specs.Numerals.{IsRounded, signed};
 ghost use Rattle.fixed_um.specs.declared.lengths.Point.{Point};
 ghost use Rattle.program_lowering.specs.Texts.{is_operator_text};
 ghost use Rattle.dmis_program.specs.Parameters.{is_other_coordinates};
-ghost use Rattle.program_lowering.specs.Cartesian.{cartesian, made_cartesian, no_reference, plane_named, unit_named};
-ghost use Rattle.program_lowering.specs.declared.cartesian.AngleUnit.TheVariants.{Degrees, Radians};
+ghost use Rattle.program_flow.specs.Numbers.{whole_number};
+ghost use Rattle.program_lowering.specs.Cartesian.{angle_in, cartesian, made_cartesian, no_reference, plane_named, unit_named};
+ghost use Rattle.program_lowering.specs.declared.cartesian.AngleUnit.TheVariants.{Degrees, Radians, Sexagesimal};
 ghost use Rattle.program_lowering.specs.declared.cartesian.Plane.TheVariants.{Xy, Yz, Zx};
 ghost use Rattle.program_lowering.specs.declared.cartesian.Reference.{Reference};
 ghost use Rattle.program_lowering.specs.Acts.{acts_of};
-ghost use Rattle.program_lowering.specs.Examples.{all_choices, assign, bare, declare_x, first_by_hand, manual_front, measured, mode_man, mode_prog, plain_choices, start, to_operator, a_touch, make_a, make_a_on_7, make_b, recall_a, naming_a, naming_none, of_setup, saving, two_frames, labelled, x_is_five, a_move, around, below, by_ten, placed, bore_a, block_a, end_of_block, given_below, minus, moves_on, no_blocks, no_bores, on_line, on_wall, three_of_a, to_five, told_of, two_rounds, upright, from_five, answers_n, ask_n, only_m};
-ghost use Rattle.program_lowering.specs.EvenTouches.{EachBelow, all_touched, bore_named, is_touch, last_of, to_centre, touches_before, waiting};
+ghost use Rattle.program_lowering.specs.Examples.{all_choices, assign, bare, declare_x, first_by_hand, manual_front, measured, mode_man, mode_prog, plain_choices, start, to_operator, a_touch, make_a, make_a_on_7, make_b, recall_a, naming_a, naming_none, of_setup, saving, two_frames, labelled, x_is_five, a_move, around, below, by_ten, placed, bore_a, block_a, end_of_block, given_below, minus, moves_on, no_blocks, no_bores, on_line, three_of_a, told_of, two_rounds, upright, from_five, answers_n, ask_n, only_m, deep, four_at, no_cylinders, six_of_a, three_at, to_depth, to_place, told_of_circle, two_ways, feature_a, feature_by_x, feature_named, without_values, declare_t, t_is_bore};
+ghost use Rattle.program_lowering.specs.EvenTouches.{EachBelow, all_touched, bore_named, is_touch, last_of, to_centre, touches_before, waiting, end_of, level_at};
 ghost use Rattle.program_lowering.specs.declared.even.Bore.{Bore};
 ghost use Rattle.program_lowering.specs.declared.even.Wanted.{Wanted};
 ghost use Rattle.program_lowering.specs.Flats.{flat, flat_text, with_pass};
@@ -34,7 +35,7 @@ ghost use Rattle.program_lowering.specs.Manual.{in_manual, is_skipped};
 ghost use Rattle.program_lowering.specs.OperatorTexts.{TextsFit, flat_meant, text_refusal};
 ghost use Rattle.program_lowering.specs.Prompts.{Answer, answer_of, answered, asked};
 ghost use Rattle.program_lowering.specs.StoredFrames.{by_frame, frame_note, frame_notes, is_used, stored_frame};
-ghost use Rattle.program_lowering.specs.Reasons.{detail};
+ghost use Rattle.program_lowering.specs.Reasons.{detail, start_text};
 ghost use Rattle.program_flow.specs.Flow.{carried};
 ghost use Rattle.program_lowering.specs.Valued.{held, new_params, valued};
 ghost use Rattle.program_lowering.specs.Words.{left_out};
@@ -96,8 +97,20 @@ pub fn examples_of_values()
         ≡ [] }
     ensures feature { new_params x_is_five (bare (codes "FEAT") (codes "X+1" ∷ [])) ≡ None }
     ensures labelled { new_params x_is_five (labelled (codes "A") (codes "GOTO")) ≡ None }
+    ensures named { valued x_is_five feature_by_x ≡ feature_named
+        (codes "F(B" ++ (decimal 5 ++ codes ")")) (codes "CIRCLE" ∷ (decimal 6 ∷ [])) }
+    ensures faulty_feature { map (λ p. valued x_is_five (feature_a (p ∷ []))) (codes "@Y"
+        ∷ (codes "A B" ∷ [])) ≡ feature_a [] ∷ (feature_a [] ∷ []) }
+    ensures no_values { map (valued x_is_five) without_values ≡ without_values }
+    ensures no_variables { valued [] feature_by_x ≡ feature_by_x }
     ensures assigned { new_params (declare_x ∷ []) (assign (codes "X") (codes "2+3"))
         ≡ Some (Ok (codes "X" ∷ (decimal 5 ∷ []))) }
+    ensures assigned_letters { new_params (declare_t ∷ [])
+        (assign (codes "T") (codes "'O''K'"))
+        ≡ Some (Ok (codes "T" ∷ (codes "'O''K'" ∷ []))) }
+    ensures named_letters { new_params t_is_bore
+        (bare (codes "MEAS") (codes "F(@T)" ∷ (codes "T" ∷ [])))
+        ≡ Some (Ok (codes "F(BORE)" ∷ (codes "T" ∷ []))) }
     ensures faulty { (valued x_is_five (assign (codes "Y") (codes "5"))).params ≡ [] }
     ensures not_carried { carried x_is_five (assign (codes "Y") (codes "5")) ≡ x_is_five }
     ensures carried { carried (declare_x ∷ []) (assign (codes "X") (codes "5")) ≡ x_is_five }
@@ -106,6 +119,7 @@ pub fn examples_of_values()
     ensures blank { held (codes "SNSLCT") (codes "S(A B)" ∷ []) ≡ [] }
     ensures plain { held (codes "SNSLCT") (codes "S(A)" ∷ []) ≡ codes "S(A)" ∷ [] }
     ensures declares { left_out plain_choices declare_x ≡ Some reason.Declared }
+    ensures declares_letters { left_out plain_choices declare_t ≡ Some reason.Declared }
     ensures texts { left_out plain_choices
         (bare (codes "DECL") (codes "GLOBAL" ∷ (codes "CHAR" ∷ []))) ≡ None }
     ensures assigns { left_out plain_choices (bare (codes "ASSIGN") (codes "X" ∷ (codes "5" ∷ [])))
@@ -139,11 +153,17 @@ pub fn examples_of_polar_coordinates()
     ensures third_plane { made_cartesian (record no_reference { plane = Some Zx })
         (around (codes "10") (codes "30") (codes "7"))
         ≡ placed (decimal 5) (decimal 7) (decimal 8 ++ codes ".660254") }
-    ensures radians { made_cartesian (record no_reference { unit = Some Radians })
+    ensures radians { made_cartesian (record no_reference { unit = Radians })
         (around (codes "10") (codes ".5") (codes "0"))
         ≡ placed (decimal 8 ++ codes ".775826") (decimal 4 ++ codes ".794255") (decimal 0) }
-    ensures no_unit { made_cartesian (record no_reference { unit = None })
-        (around (codes "10") (codes "0") (codes "5")) ≡ None }
+    ensures minutes { made_cartesian (record no_reference { unit = Sexagesimal })
+        (around (codes "10") (codes "-12:30") (codes "5"))
+        ≡ placed (decimal 9 ++ codes ".762960") (codes "-" ++ (decimal 2 ++ codes ".164396")) (decimal 5) }
+    ensures degrees { made_cartesian (record no_reference { unit = Sexagesimal })
+        (around (codes "10") (codes "30") (codes "5"))
+        ≡ placed (decimal 8 ++ codes ".660254") (decimal 5) (decimal 5) }
+    ensures no_minutes { made_cartesian no_reference (around (codes "10") (codes "12:30") (codes "5"))
+        ≡ None }
     ensures no_plane { made_cartesian (record no_reference { plane = None })
         (around (codes "10") (codes "0") (codes "5")) ≡ None }
     ensures touch { made_cartesian no_reference (bare (codes "PTMEAS") (codes "POL" ∷ (codes "10"
@@ -154,6 +174,26 @@ pub fn examples_of_polar_coordinates()
         (codes "5")) { label = Some (codes "A") }) ≡ None }
     ensures feature { made_cartesian no_reference (record (around (codes "10") (codes "0")
         (codes "5")) { word = codes "MEAS" }) ≡ None }
+{}
+
+/// Examples: angles in degrees, minutes and seconds.
+#[tactic(auto, unfolding(program_flow::specs::Values::value_within, program_flow::specs::Values::numeral_value, program_flow::specs::Parts::parts_of, program_flow::specs::Numbers::reduced, program_flow::specs::Numbers::gcd_within))]
+pub fn examples_of_angles()
+    ensures seconds { angle_in Sexagesimal (codes "12:30:45")
+        ≡ Some (record { over = pos 1001; under = 80 }) }
+    ensures decimals { angle_in Sexagesimal (codes "0:00:00.9")
+        ≡ Some (record { over = pos 1; under = 4000 }) }
+    ensures negative { angle_in Sexagesimal (codes "-1:30")
+        ≡ Some (record { over = negsuc 2; under = 2 }) }
+    ensures expression { angle_in Sexagesimal (codes "-1+3") ≡ Some (whole_number (pos 2)) }
+    ensures most { angle_in Sexagesimal (codes "1:59:59")
+        ≡ Some (record { over = pos 7199; under = 3600 }) }
+    ensures others { map (angle_in Sexagesimal) (codes "1:60" ∷ (codes "1:0:60"
+        ∷ (codes "1:000" ∷ (codes "1:-3" ∷ (codes "+1:30" ∷ (codes "1:30.5" ∷ (codes "1:" ∷ (codes ":3"
+        ∷ (codes "1:2:3:4" ∷ []))))))))) ≡ None ∷ (None ∷ (None ∷ (None ∷ (None ∷ (None ∷ (None ∷ (None
+        ∷ (None ∷ [])))))))) }
+    ensures units { map (λ unit. angle_in unit (codes "1:30")) (Degrees ∷ (Radians ∷ []))
+        ≡ None ∷ (None ∷ []) }
 {}
 
 /// Examples: a move by a distance, from where a `GOTO` ends.
@@ -197,9 +237,9 @@ pub fn examples_of_references()
     ensures planes { map plane_named ((codes "XYPLAN" ∷ []) ∷ ((codes "YZPLAN" ∷ [])
         ∷ ((codes "XZPLAN" ∷ []) ∷ []))) ≡ Some Xy ∷ (Some Yz ∷ (None ∷ [])) }
     ensures unit { (below (a_move ∷ (bare (codes "UNITS") (codes "MM" ∷ (codes "ANGRAD" ∷ []))
-        ∷ []))).unit ≡ Some Radians }
+        ∷ []))).unit ≡ Radians }
     ensures units { map unit_named ((codes "MM" ∷ (codes "ANGDMS" ∷ [])) ∷ ((codes "MM"
-        ∷ (codes "ANGDEC" ∷ [])) ∷ [])) ≡ None ∷ (Some Degrees ∷ []) }
+        ∷ (codes "ANGDEC" ∷ [])) ∷ [])) ≡ Sexagesimal ∷ (Degrees ∷ []) }
 {}
 
 /// Unless it is chosen, no block is given touches.
@@ -216,18 +256,19 @@ pub fn blocks_with_touches_stay()
         → touches_before (since ++ touch ∷ above) s ≡ [] }
 {}
 
-/// A block that is given something is given the touches that it asks for, each directly between moves to the centre of its bore.
+/// A block that is given something is given the touches that it asks for, each directly between moves to the centre of its level.
 pub fn blocks_are_given_what_they_ask_for()
     ensures count { (above : List Statement) (s : Statement) (w : Wanted) → waiting above ≡ Some w
         → (touches_before above s ≡ [] → ⊥)
         → length (filter is_touch (touches_before above s)) ≡ w.count }
     ensures from_centre { (above : List Statement) (s : Statement) (w : Wanted) (bore : Bore)
         → waiting above ≡ Some w → bore_named above w.name ≡ Some bore
-        → EachBelow (to_centre s.line bore.centre) s (touches_before above s) }
+        → EachBelow (λ t. to_centre s.line (level_at bore w.count t).centre) 0 s
+        (touches_before above s) }
     ensures back { (above : List Statement) (s : Statement) (w : Wanted) (bore : Bore)
         → waiting above ≡ Some w → bore_named above w.name ≡ Some bore
         → (touches_before above s ≡ [] → ⊥)
-        → last_of s (touches_before above s) ≡ to_centre s.line bore.centre }
+        → last_of s (touches_before above s) ≡ to_centre s.line (end_of bore) }
     ensures others { (above : List Statement) (s : Statement) → waiting above ≡ None
         → touches_before above s ≡ [] }
 {}
@@ -236,27 +277,38 @@ pub fn blocks_are_given_what_they_ask_for()
 #[tactic(auto, unfolding(program_flow::specs::Values::value_within, program_flow::specs::Values::numeral_value, program_flow::specs::Parts::parts_of, program_flow::specs::Numbers::reduced, program_flow::specs::Numbers::gcd_within, program_flow::specs::Numbers::nearest_millionth, program_flow::specs::Angles::cosine, program_flow::specs::Angles::sine, program_flow::specs::Angles::in_radians, program_flow::specs::Angles::series, program_flow::specs::Calls::line_digits, dmis_program::specs::Keywords::keyword_of, dmis_program::specs::Parameters::name_within, dmis_program::specs::Parameters::count_of, dmis_program::specs::Sayings::said_of, dmis_program::specs::Sayings::said_by, fixed_um::specs::Written::written_component, crate::specs::EvenTouches::angle_text, crate::specs::Reasons::touches_text))]
 pub fn examples_of_even_touches()
     ensures four { given_below (block_a (codes "CIRCLE") (codes "4") ∷ (upright ∷ []))
-        ≡ told_of 4 ∷ (on_wall (decimal 25) (decimal 0) (minus 1) (decimal 0)
-        ++ (on_wall (decimal 0) (decimal 25) (decimal 0) (minus 1)
-        ++ (on_wall (minus 25) (decimal 0) (decimal 1) (decimal 0)
-        ++ (on_wall (decimal 0) (minus 25) (decimal 0) (decimal 1) ++ to_five)))) }
+        ≡ told_of_circle 4 ∷ (four_at 5 ++ to_depth 5) }
     ensures three { given_below (three_of_a ∷ (upright ∷ []))
-        ≡ told_of 3 ∷ (on_wall (decimal 25) (decimal 0) (minus 1) (decimal 0)
-        ++ (on_wall (minus 12 ++ codes ".500000") (decimal 21 ++ codes ".650635")
-        (decimal 0 ++ codes ".500000") (minus 0 ++ codes ".866025")
-        ++ (on_wall (minus 12 ++ codes ".500000") (minus 21 ++ codes ".650635")
-        (decimal 0 ++ codes ".500000") (decimal 0 ++ codes ".866025") ++ to_five))) }
+        ≡ told_of_circle 3 ∷ (three_at 5 ++ to_depth 5) }
     ensures second_plane { take 3 (given_below (three_of_a
         ∷ (bore_a (codes "1") (codes "0") (codes "0") ∷ [])))
-        ≡ told_of 3 ∷ from_five (decimal 0 ∷ (decimal 25 ∷ (minus 5
+        ≡ told_of_circle 3 ∷ from_five (decimal 0 ∷ (decimal 25 ∷ (minus 5
         ∷ (decimal 0 ∷ (minus 1 ∷ (decimal 0 ∷ [])))))) }
     ensures third_plane { take 3 (given_below (three_of_a
         ∷ (bore_a (codes "0") (codes "-1") (codes "0") ∷ [])))
-        ≡ told_of 3 ∷ from_five (decimal 0 ∷ (decimal 0 ∷ (decimal 20
+        ≡ told_of_circle 3 ∷ from_five (decimal 0 ∷ (decimal 0 ∷ (decimal 20
         ∷ (decimal 0 ∷ (decimal 0 ∷ (minus 1 ∷ [])))))) }
     ensures nearest { length (given_below (three_of_a ∷ (upright ∷ no_bores))) ≡ 8 }
-    ensures noted { detail reason.Touched (codes "4" ∷ (codes "A" ∷ [])) ≡ codes
-        "4 touches of F(A), each from its centre: see that the way there is free" }
+    ensures noted { map (detail reason.Touched) ((codes "4" ∷ (codes "A"
+        ∷ (start_text false ∷ []))) ∷ ((codes "6" ∷ (codes "A" ∷ (start_text true ∷ []))) ∷ []))
+        ≡ codes "4 touches of F(A), each from its centre: see that the way there is free"
+        ∷ (codes "6 touches of F(A), each from its axis, on two levels: see that the way there is free"
+        ∷ []) }
+{}
+
+/// Examples: the touches of a cylinder, on two levels; an even number of them, and its axis in both directions.
+#[tactic(auto, unfolding(program_flow::specs::Values::value_within, program_flow::specs::Values::numeral_value, program_flow::specs::Parts::parts_of, program_flow::specs::Numbers::reduced, program_flow::specs::Numbers::gcd_within, program_flow::specs::Numbers::nearest_millionth, program_flow::specs::Angles::cosine, program_flow::specs::Angles::sine, program_flow::specs::Angles::in_radians, program_flow::specs::Angles::series, program_flow::specs::Calls::line_digits, dmis_program::specs::Keywords::keyword_of, dmis_program::specs::Parameters::name_within, dmis_program::specs::Parameters::count_of, dmis_program::specs::Sayings::said_of, dmis_program::specs::Sayings::said_by, fixed_um::specs::Written::written_component, crate::specs::EvenTouches::angle_text, crate::specs::Reasons::touches_text))]
+pub fn examples_of_levels()
+    ensures seven { given_below (block_a (codes "CYLNDR") (codes "7") ∷ (deep ∷ []))
+        ≡ told_of 7 (codes "its axis, on two levels") ∷ (four_at 15 ++ (three_at 35 ++ to_depth 35)) }
+    ensures six { given_below (six_of_a ∷ (deep ∷ []))
+        ≡ told_of 6 (codes "its axis, on two levels") ∷ (three_at 15 ++ (three_at 35 ++ to_depth 35)) }
+    ensures first_way { map (λ s. take 1 (drop 1 (given_below (six_of_a ∷ (s ∷ []))))) two_ways
+        ≡ to_place (decimal 10 ∷ (decimal 0 ∷ (minus 5 ∷ []))) ∷ (to_place (minus 10
+        ∷ (decimal 0 ∷ (minus 5 ∷ []))) ∷ []) }
+    ensures last_way { map (λ s. drop 13 (given_below (six_of_a ∷ (s ∷ [])))) two_ways
+        ≡ to_place (decimal 30 ∷ (decimal 0 ∷ (minus 5 ∷ []))) ∷ (to_place (minus 30
+        ∷ (decimal 0 ∷ (minus 5 ∷ []))) ∷ []) }
 {}
 
 /// Statements on one line that follow one another are of one pass, as what a block is given and its end. Where none follows another on its line,
@@ -294,7 +346,12 @@ pub fn examples_of_blocks_that_stay()
         ∷ ([] ∷ [])))))))) }
     ensures unknown { given_below (three_of_a ∷ []) ≡ [] }
     ensures blocks { map (λ b. given_below (b ++ upright ∷ [])) no_blocks
-        ≡ [] ∷ ([] ∷ ([] ∷ ([] ∷ ([] ∷ ([] ∷ ([] ∷ ([] ∷ ([] ∷ ([] ∷ []))))))))) }
+        ≡ [] ∷ ([] ∷ ([] ∷ ([] ∷ ([] ∷ ([] ∷ ([] ∷ ([] ∷ ([] ∷ ([] ∷ ([] ∷ [])))))))))) }
+    ensures cylinders { map (λ f. given_below (six_of_a ∷ (f ∷ []))) no_cylinders
+        ≡ [] ∷ ([] ∷ ([] ∷ ([] ∷ ([] ∷ ([] ∷ ([] ∷ ([] ∷ []))))))) }
+    ensures of_cylinders { map (λ b. given_below (b ∷ (deep ∷ []))) (three_of_a
+        ∷ (block_a (codes "CIRCLE") (codes "6") ∷ (block_a (codes "CYLNDR") (codes "5") ∷ [])))
+        ≡ [] ∷ ([] ∷ ([] ∷ [])) }
     ensures sensor { given_below (three_of_a ∷ (bare (codes "RECALL") (codes "SA(T)" ∷ [])
         ∷ (upright ∷ []))) ≡ given_below (three_of_a ∷ (upright ∷ [])) }
     ensures others { map (touches_before (three_of_a ∷ (upright ∷ [])))

@@ -29,9 +29,10 @@ use crate::passes::PassTable;
 use crate::prompts::{Answer, answered};
 use crate::stored::{FrameNotes, FrameUses, stored_frame};
 use crate::texts::is_operator_text;
-use crate::values::{Values, read_back};
+use crate::values::{Values, labelled, read_back};
 use crate::words::{
     Choices, Reason, joint, left_out, passed_reason, push_detail, push_touches, reason_text,
+    start_text,
 };
 use dmis_program::{
     Frames, Keyword, ProgramFault, Refusal, StatementFault, StatementMeaning, keyword_of_word,
@@ -111,7 +112,8 @@ fn push_notice(notes: &mut Vec<u8>, line: u64, filling: &Filling) -> Result<(), 
     push_number(&mut count, filling.count)?;
     push_note_line(notes, line)?;
     notes.extend_from_slice(b"ENDMES is given ")?;
-    push_touches(notes, &count, filling.name.as_bytes())?;
+    let start = start_text(filling.cylinder);
+    push_touches(notes, &count, filling.name.as_bytes(), start)?;
     notes.extend_from_slice(b"\n")?;
     Ok(())
 }
@@ -320,19 +322,18 @@ impl Lowering {
         self.take(choices, frames, &made)
     }
 
-    /// Takes a move to a centre, and a touch.
+    /// Takes a move to where a touch is made from, and the touch.
     fn take_touch(
         &mut self,
         choices: Choices,
         frames: &Frames,
         line: u64,
-        centre: &Triple,
         touch: &Touch,
     ) -> Result<bool, StatementFault>
         ensures { GivesStep result self.new (all_steps frames.now choices self.old
-            (from_centre line centre.now touch.now)) }
+            (from_centre line touch.now)) }
     {
-        let start = [centre.0, centre.1, centre.2];
+        let start = [touch.from.0, touch.from.1, touch.from.2];
         if self.take_made(choices, frames, line, b"GOTO", &start)? {
             return Ok(true);
         }
@@ -342,26 +343,26 @@ impl Lowering {
         self.take_made(choices, frames, line, b"PTMEAS", &numbers)
     }
 
-    /// Likewise for each touch of these, and then a move to the centre.
+    /// Likewise for each touch of these, and then a move to the end.
     fn take_touches(
         &mut self,
         choices: Choices,
         frames: &Frames,
         line: u64,
-        centre: &Triple,
+        end: &Triple,
         touches: &[Touch],
     ) -> Result<bool, StatementFault>
-        ensures { GivesStep result self.new (touch_steps frames.now choices line centre.now self.old
+        ensures { GivesStep result self.new (touch_steps frames.now choices line end.now self.old
             touches.now) }
     {
         let [first, rest @ ..] = touches else {
-            let end = [centre.0, centre.1, centre.2];
+            let end = [end.0, end.1, end.2];
             return self.take_made(choices, frames, line, b"GOTO", &end);
         };
-        if self.take_touch(choices, frames, line, centre, first)? {
+        if self.take_touch(choices, frames, line, first)? {
             return Ok(true);
         }
-        self.take_touches(choices, frames, line, centre, rest)
+        self.take_touches(choices, frames, line, end, rest)
     }
 
     /// Notes what a block is given.
@@ -389,7 +390,7 @@ impl Lowering {
             return Err(StatementFault::Refused(Refusal::NotDmis));
         }
         self.note(line, filling)?;
-        self.take_touches(choices, frames, line, &filling.centre, &filling.touches)
+        self.take_touches(choices, frames, line, &filling.end, &filling.touches)
     }
 
     /// The refusal of a text that ends here, without an `ENDFIL`, for this fault or for none, and has that many lines.
@@ -493,10 +494,19 @@ fn take_valued(
         values.new.variables values.new.declared above statement.now
         (touched_step frames.now choices even.old lowering.old) (seen_by choices even.old) }
 {
-    let Some(line) = values.take(lowering.alloc, statement)? else {
+    let alloc = lowering.alloc;
+    let feature = values.feature_lines(alloc, statement)?;
+    let line = values.take(alloc, statement)?;
+    if let Some(lines) = feature {
+        let named = read_back(alloc, statement.line, &lines.label)?;
+        let read = read_back(alloc, statement.line, &lines.line)?;
+        let valued = labelled(named, read);
+        return take_cartesian(lowering, reference, even, choices, frames, &valued);
+    }
+    let Some(line) = line else {
         return take_cartesian(lowering, reference, even, choices, frames, statement);
     };
-    let valued = read_back(lowering.alloc, statement.line, &line)?;
+    let valued = read_back(alloc, statement.line, &line)?;
     take_cartesian(lowering, reference, even, choices, frames, &valued)
 }
 

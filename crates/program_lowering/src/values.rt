@@ -1,6 +1,6 @@
 // Statements with the values of variables.
 
-ghost use Rattle.std.specs.Prelude.{◌≡◌, ◌++◌, ◌∷◌, [], ℕ, List, bytes_eq, codes, IfOk, IfErr, IfSome, false, is_none};
+ghost use Rattle.std.specs.Prelude.{◌≡◌, ◌++◌, ◌∷◌, [], ℕ, List, bytes_eq, codes, IfOk, IfErr, IfSome, IsTrue, Some, false, is_none, true};
 ghost use Rattle.std.specs.List.{list_all};
 ghost use Rattle.std.specs.Option.{option_map};
 ghost use Rattle.dmis_text.specs.declared.elements.Statement.{Statement};
@@ -8,10 +8,11 @@ ghost use Rattle.dmis_program.specs.Keywords.{is_among};
 ghost use Rattle.program_flow.specs.Flow.{carried};
 ghost use Rattle.program_flow.specs.LookBack.{fault_of, kind_said, value_said};
 ghost use Rattle.program_flow.specs.Numbers.{numeral};
+ghost use Rattle.program_flow.specs.Texts.{Appends, expanded};
 ghost use Rattle.program_flow.specs.Variables.{entry_value};
 ghost use Rattle.program_lowering.specs.Flats.{flat, flat_line};
 ghost use Rattle.program_lowering.specs.Lowering.{ended};
-ghost use Rattle.program_lowering.specs.OperatorTexts.{is_plain, marked};
+ghost use Rattle.program_lowering.specs.OperatorTexts.{is_plain, is_solid, marked};
 ghost use Rattle.program_lowering.specs.Carried as code;
 ghost use Rattle.program_lowering.specs.Valued as spec;
 
@@ -19,11 +20,17 @@ use crate::lines::{is_plain, push_comment};
 use crate::texts::is_among;
 use dmis_program::StatementFault;
 use dmis_text::{Statement, Statements, Text, TextFault};
-use program_flow::{Number, ValueFault, Variables, computed, expanded, is_declaration, is_text};
+use program_flow::{
+    Number, ValueFault, Variables, expanded, has_names, has_value, is_declaration, is_text,
+    push_computed,
+};
 use std::alloc::{AllocError, Global};
 
 /// The most bytes of a statement with its values (this profile).
 const MOST_BYTES: usize = 4000;
+
+/// The room for its parameters: a word that commands has at most ten bytes.
+const ROOM: usize = MOST_BYTES - 10;
 
 /// The variables as the statements above leave them.
 #[derive(Drop)]
@@ -33,6 +40,40 @@ pub(crate) struct Values {
     pub(crate) declared: bool,
 }
 
+/// The lines from which a `FEAT` is read with its values: one with its label as its word, and one with its parameters.
+#[derive(Drop)]
+pub(crate) struct FeatureLines {
+    pub(crate) label: Vec<u8>,
+    pub(crate) line: Vec<u8>,
+}
+
+/// Whether a byte may be in a word.
+fn is_solid(byte: u8) -> bool
+    ensures { result ≡ is_solid byte }
+{
+    byte >= 33
+        && byte <= 126
+        && byte != b'$'
+        && byte != b'\''
+        && byte != b','
+        && byte != b'/'
+        && byte != b'='
+        && byte.to_ascii_uppercase() == byte
+}
+
+fn are_solid(text: &[u8]) -> bool
+    ensures { result ≡ list_all is_solid text.now }
+{
+    text.iter().all(|byte| is_solid(*byte))
+}
+
+/// Whether a line holds this text as its word.
+fn is_word(text: &[u8]) -> bool
+    ensures { result ≡ spec.is_word text.now }
+{
+    are_solid(text) && (text.len() >= 1 && text.len() <= MOST_BYTES)
+}
+
 /// Whether a word commands a move, a touch or a selection.
 fn is_commanding(word: &[u8]) -> bool
     ensures { result ≡ is_among word.now spec.commanding }
@@ -40,16 +81,28 @@ fn is_commanding(word: &[u8]) -> bool
     is_among(word, &["GOTO", "PTMEAS", "MEAS", "SNSLCT", "RECALL"])
 }
 
+/// Appends a parameter with its values.
+fn push_valued(out: &mut Vec<u8>, param: &[u8], variables: &Variables) -> Result<(), ValueFault>
+    ensures { Appends result out.old.items out.new.items
+        (spec.valued_param (entry_value variables.now) param.now) }
+{
+    if !has_names(param) {
+        return Ok(push_computed(out, param, variables)?);
+    }
+    let mut text = Vec::new(*out.allocator());
+    expanded(&mut text, param, variables)?;
+    Ok(push_computed(out, &text, variables)?)
+}
+
 /// Appends a parameter with its values. Whether it is read back as it is written.
 fn push_param(out: &mut Vec<u8>, param: &[u8], variables: &Variables) -> Result<bool, ValueFault>
     ensures { code.Pushes result out.new.items (code.pushed out.old.items
         (spec.valued_param (entry_value variables.now) param.now)) }
 {
-    let mut text = Vec::new(*out.allocator());
-    expanded(&mut text, param, variables)?;
-    let text = computed(text, variables)?;
-    out.extend_from_slice(&text)?;
-    Ok(is_plain(&text))
+    let start = out.len();
+    push_valued(out, param, variables)?;
+    let (_, added) = out.as_slice().split_at(start);
+    Ok(is_plain(added))
 }
 
 /// Appends parameters with their values, each after its mark. Whether all are read back as they are written.
@@ -73,6 +126,20 @@ fn push_params(
     }
 }
 
+/// Whether all parameters stay as they are, with their values too, and are read back so from a line of that many bytes.
+fn all_stay(room: usize, params: &[Text], variables: &Variables) -> bool
+    ensures { IsTrue result → code.Stay (entry_value variables.now) room params.now }
+{
+    let [first, rest @ ..] = params else {
+        return true;
+    };
+    let param: &[u8] = first;
+    if has_names(param) || param.len() >= room || !is_plain(param) || has_value(param, variables) {
+        return false;
+    }
+    all_stay(room - param.len() - 1, rest, variables)
+}
+
 /// Appends a number after a comma. Whether it is read back as it is written.
 pub(crate) fn push_number(out: &mut Vec<u8>, number: Number) -> Result<bool, AllocError>
     ensures { IfOk result (λ plain. (out.new.items ≡ out.old.items ++ 44 ∷ numeral number)
@@ -86,15 +153,17 @@ pub(crate) fn push_number(out: &mut Vec<u8>, number: Number) -> Result<bool, All
 }
 
 /// Appends the name of a variable and its value. Whether both are read back as they are written.
-fn push_pair(out: &mut Vec<u8>, name: &[u8], number: Number) -> Result<bool, AllocError>
-    ensures { IfOk result (λ plain. (out.new.items ≡ out.old.items
-        ++ marked 47 (name.now ∷ (numeral number ∷ [])))
-        × (plain ≡ list_all (is_plain false) (name.now ∷ (numeral number ∷ [])))) }
+fn push_pair(out: &mut Vec<u8>, name: &[u8], variables: &Variables) -> Result<bool, ValueFault>
+    ensures { code.Pushes result out.new.items (code.all_pushed out.old.items 47
+        (code.pair_of true (entry_value variables.now) (Some name.now))) }
 {
-    out.push(b'/')?;
+    let mut text = Vec::new(*out.allocator());
+    variables.push_value(&mut text, name)?;
+    out.extend_from_slice(b"/")?;
     out.extend_from_slice(name)?;
-    let plain = push_number(out, number)?;
-    Ok(is_plain(name) && plain)
+    out.extend_from_slice(b",")?;
+    out.extend_from_slice(&text)?;
+    Ok(is_plain(name) && is_plain(&text))
 }
 
 /// The line of a word with these parameters, of which each is read back or not; without them if it is too long or they are not.
@@ -166,6 +235,54 @@ impl Values {
         }
     }
 
+    /// The lines of a `FEAT` with this label, by the variables as they are, if a line holds the label with its values.
+    fn named_lines(
+        &self,
+        alloc: Global,
+        statement: &Statement,
+        label: &[u8],
+    ) -> Result<Option<FeatureLines>, AllocError>
+        requires { bytes_eq statement.now.word (codes "FEAT") ≡ true }
+        ensures { (other : Statement) → IfOk result (λ lines. code.GivesFeature lines statement.now
+            other (code.named_as statement.now other
+            (spec.word_in (expanded (entry_value self.now.variables) label.now))
+            (spec.valued_params (entry_value self.now.variables) statement.now.params))) }
+    {
+        let mut name = Vec::new(alloc);
+        match expanded(&mut name, label, &self.variables) {
+            Ok(()) => {}
+            Err(ValueFault::Memory) => return Err(AllocError),
+            Err(_) => return Ok(None),
+        }
+        if !is_word(&name) {
+            return Ok(None);
+        }
+        let label = bare_line(alloc, &name)?;
+        let line = self.valued_line(alloc, statement)?;
+        Ok(Some(FeatureLines { label, line }))
+    }
+
+    /// Likewise of a statement, if it is a `FEAT` with such a label.
+    pub(crate) fn feature_lines(
+        &self,
+        alloc: Global,
+        statement: &Statement,
+    ) -> Result<Option<FeatureLines>, AllocError>
+        ensures read { IfOk result (λ lines. IfSome lines (λ f. code.AreRead f)) }
+        ensures valued { (above : List Statement)
+            → code.Knows above self.now.variables self.now.declared → IfOk result (λ lines.
+            code.GivesFeature lines statement.now (spec.commanded above statement.now)
+            (spec.valued above statement.now)) }
+    {
+        if !self.declared || !is_text(&statement.word, "FEAT") || statement.is_open() {
+            return Ok(None);
+        }
+        match &statement.label {
+            Some(label) => self.named_lines(alloc, statement, label),
+            None => Ok(None),
+        }
+    }
+
     /// The line of an `ASSIGN`, by the variables after it.
     fn assigned_line(
         &self,
@@ -176,15 +293,18 @@ impl Values {
         ensures { IfOk result (λ line. line.items ≡ code.line_with statement.now.word
             (code.pair_of done (entry_value self.now.variables) statement.now.label)) }
     {
-        if done
-            && let Some(name) = &statement.label
-            && let Ok(number) = self.variables.value(name)
-        {
-            let mut text = Vec::from_slice(alloc, &statement.word)?;
-            let plain = push_pair(&mut text, name, number)?;
-            return line_of(alloc, &statement.word, text, plain);
+        let Some(name) = &statement.label else {
+            return bare_line(alloc, &statement.word);
+        };
+        if !done {
+            return bare_line(alloc, &statement.word);
         }
-        bare_line(alloc, &statement.word)
+        let mut text = Vec::from_slice(alloc, &statement.word)?;
+        match push_pair(&mut text, name, &self.variables) {
+            Ok(plain) => line_of(alloc, &statement.word, text, plain),
+            Err(ValueFault::Memory) => Err(AllocError),
+            Err(_) => bare_line(alloc, &statement.word),
+        }
     }
 
     /// The line of a statement that is no `ASSIGN`, if it has values.
@@ -199,12 +319,15 @@ impl Values {
             → bytes_eq statement.now.word (codes "ASSIGN") ≡ false
             → code.Knows above self.now.variables self.now.declared → IfOk result (λ line.
             code.GivesLine (option_map (λ l. l.items) line) statement.now
-            (spec.valued above statement.now)) }
+            (spec.commanded above statement.now)) }
     {
         if !self.declared {
             return Ok(None);
         }
         if statement.label.is_some() || !is_commanding(&statement.word) {
+            return Ok(None);
+        }
+        if all_stay(ROOM, &statement.params, &self.variables) {
             return Ok(None);
         }
         Ok(Some(self.valued_line(alloc, statement)?))
@@ -222,7 +345,7 @@ impl Values {
             → code.Knows above self.old.variables self.old.declared
             → IfOk result (λ line. code.Knows (carried above statement.now)
             self.new.variables self.new.declared × code.GivesLine
-            (option_map (λ l. l.items) line) statement.now (spec.valued above statement.now)) }
+            (option_map (λ l. l.items) line) statement.now (spec.commanded above statement.now)) }
     {
         if is_text(&statement.word, "ASSIGN") {
             let done = self.carry_out(statement)?;
@@ -231,6 +354,16 @@ impl Values {
         let line = self.other_line(alloc, statement)?;
         self.carry_out(statement)?;
         Ok(line)
+    }
+}
+
+/// The second statement, with the word of the first as its label.
+pub(crate) fn labelled<'a>(named: Statement<'a>, read: Statement<'a>) -> Statement<'a>
+    ensures { result ≡ record read.entry { label = Some named.entry.word } }
+{
+    Statement {
+        label: Some(named.word),
+        ..read
     }
 }
 

@@ -2,7 +2,7 @@
 
 ghost use Rattle.std.specs.Prelude.{◌≡◌, ◌++◌, OnOk};
 ghost use Rattle.dmis_program.specs.Keywords.{is_among, keyword_of};
-ghost use Rattle.program_lowering.specs.Reasons.{assigned_text, detail, joint, reason_text, touches_text};
+ghost use Rattle.program_lowering.specs.Reasons.{assigned_text, detail, joint, reason_text, start_text, touches_text};
 ghost use Rattle.program_lowering.specs.Words.{compensation, every, left_out, naming, is_assigned, passed_motion, passed_reason, reason_for, reason_of, is_of_setup, names_frame};
 
 use crate::texts::is_among;
@@ -245,14 +245,33 @@ pub(crate) fn joint(reason: Reason) -> &'static [u8]
     }
 }
 
-/// Appends how many touches of what a block is given.
-pub(crate) fn push_touches(out: &mut Vec<u8>, count: &[u8], name: &[u8]) -> Result<(), AllocError>
-    ensures { OnOk result (out.new.items ≡ out.old.items ++ touches_text count.now name.now) }
+/// From where the touches of a circle or a cylinder are made.
+pub(crate) fn start_text(cylinder: bool) -> &'static [u8]
+    ensures { result.now ≡ start_text cylinder }
+{
+    if cylinder {
+        b"its axis, on two levels"
+    } else {
+        b"its centre"
+    }
+}
+
+/// Appends how many touches of what a block is given, and from where.
+pub(crate) fn push_touches(
+    out: &mut Vec<u8>,
+    count: &[u8],
+    name: &[u8],
+    start: &[u8],
+) -> Result<(), AllocError>
+    ensures { OnOk result (out.new.items
+        ≡ out.old.items ++ touches_text count.now name.now start.now) }
 {
     out.extend_from_slice(count)?;
     out.extend_from_slice(b" touches of F(")?;
     out.extend_from_slice(name)?;
-    out.extend_from_slice(b"), each from its centre: see that the way there is free")?;
+    out.extend_from_slice(b"), each from ")?;
+    out.extend_from_slice(start)?;
+    out.extend_from_slice(b": see that the way there is free")?;
     Ok(())
 }
 
@@ -283,7 +302,7 @@ pub(crate) fn push_detail(
             [] => Ok(()),
         },
         Reason::Touched => match params {
-            [count, name, ..] => push_touches(out, count, name),
+            [count, name, start, ..] => push_touches(out, count, name, start),
             _ => Ok(()),
         },
         _ => Ok(()),

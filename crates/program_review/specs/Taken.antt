@@ -23,17 +23,17 @@ use Rattle.program_review.specs.declared.taking.Taken.TheVariants as taken
 
 -- before any statement nobody measures manually, and no block is open
 abbrev pub nothing_around : Around
-nothing_around = record { manual = false; circle = false }
+nothing_around = record { manual = false; bore = false }
 
--- whether the block that is open is of a circle, and has no touch
-abbrev pub circle_after : Bool → Keyword → List (List ℕ) → Bool
-circle_after circle word.Meas params = begins_with (codes "CIRCLE") params
-circle_after circle word.Ptmeas params = false
-circle_after circle word.Endmes params = false
-circle_after circle _ params = circle
+-- whether the block that is open is of a circle or a cylinder, and has no touch
+abbrev pub bore_after : Bool → Keyword → List (List ℕ) → Bool
+bore_after bore word.Meas params = begins_with (codes "CIRCLE") params || begins_with (codes "CYLNDR") params
+bore_after bore word.Ptmeas params = false
+bore_after bore word.Endmes params = false
+bore_after bore _ params = bore
 
 abbrev pub around_after : Around → Statement → Around
-around_after around s = record { manual = manual_after around.manual s; circle = circle_after around.circle (keyword_of s.word) s.params }
+around_after around s = record { manual = manual_after around.manual s; bore = bore_after around.bore (keyword_of s.word) s.params }
 
 -- coordinates that Cartesian ones stand for
 abbrev pub is_other_place : Keyword → List (List ℕ) → Bool
@@ -66,7 +66,7 @@ abbrev pub taken_with : Around → (computed : Bool) → Refusal → Statement �
 taken_with around true refusal s = taken.Written
 taken_with around false Unsupported s = taken_unread s
 taken_with around false NotMillimetres s = if begins_with (codes "INCH") s.params then taken.Written else taken.No
-taken_with around false TooFewPoints s = if around.circle then taken.With choice.EvenTouches else taken.No
+taken_with around false TooFewPoints s = if around.bore then taken.With choice.EvenTouches else taken.No
 taken_with around false _ s = taken.No
 
 -- what the operator would measure is left out but for the first statement, which begins the program

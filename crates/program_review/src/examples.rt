@@ -211,11 +211,13 @@ pub fn refused_statements_that_options_take()
         false Unsupported (unlabelled (codes "GOHOME") []) ≡ taken.With SkipManual }
     ensures circle { taken_by (around_after nothing_around (alone (codes "MEAS") (codes "CIRCLE")))
         false TooFewPoints ending ≡ taken.With EvenTouches }
+    ensures cylinder { taken_by (around_after nothing_around (alone (codes "MEAS") (codes "CYLNDR")))
+        false TooFewPoints ending ≡ taken.With EvenTouches }
     ensures other_block { taken_by (around_after nothing_around (beginning 1))
         false TooFewPoints ending ≡ taken.No }
-    ensures touched { around_after (record { manual = false; circle = true }) (touching 1)
+    ensures touched { around_after (record { manual = false; bore = true }) (touching 1)
         ≡ nothing_around }
-    ensures ended { around_after (record { manual = false; circle = true }) ending
+    ensures ended { around_after (record { manual = false; bore = true }) ending
         ≡ nothing_around }
 {}
 

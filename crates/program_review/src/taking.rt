@@ -43,8 +43,8 @@ pub enum Taken {
 pub(crate) struct Around {
     /// The operator measures.
     pub(crate) manual: bool,
-    /// A block of a circle without a touch is open.
-    pub(crate) circle: bool,
+    /// A block of a circle or a cylinder without a touch is open.
+    pub(crate) bore: bool,
 }
 
 impl Around {
@@ -53,17 +53,17 @@ impl Around {
     {
         Around {
             manual: false,
-            circle: false,
+            bore: false,
         }
     }
 
-    fn circle_after(self, keyword: Keyword, params: &[Text]) -> bool
-        ensures { result ≡ spec.circle_after self.circle keyword params.now }
+    fn bore_after(self, keyword: Keyword, params: &[Text]) -> bool
+        ensures { result ≡ spec.bore_after self.bore keyword params.now }
     {
         match keyword {
-            Keyword::Meas => begins_with("CIRCLE", params),
+            Keyword::Meas => begins_with("CIRCLE", params) || begins_with("CYLNDR", params),
             Keyword::Ptmeas | Keyword::Endmes => false,
-            _ => self.circle,
+            _ => self.bore,
         }
     }
 
@@ -73,7 +73,7 @@ impl Around {
     {
         Around {
             manual: manual_after(self.manual, keyword, statement),
-            circle: self.circle_after(keyword, &statement.params),
+            bore: self.bore_after(keyword, &statement.params),
         }
     }
 }
@@ -150,7 +150,7 @@ pub(crate) fn taken_by(
         _ if computed => Taken::Written,
         Refusal::Unsupported => return taken_unread(alloc, keyword, statement),
         Refusal::NotMillimetres if begins_with("INCH", &statement.params) => Taken::Written,
-        Refusal::TooFewPoints if around.circle => Taken::With(Choice::EvenTouches),
+        Refusal::TooFewPoints if around.bore => Taken::With(Choice::EvenTouches),
         _ => Taken::No,
     };
     Ok(taken)

@@ -3,9 +3,10 @@ use Rattle.program_flow.specs.Flow.{carried}
 use Rattle.program_flow.specs.Left.{IsGiven, left_of}
 use Rattle.program_lowering.specs.Cartesian.{all_cartesian, cartesian, made_cartesian}
 use Rattle.program_lowering.specs.EvenTouches.{touched_from}
-use Rattle.program_lowering.specs.Valued.{all_valued, new_params, valued}
+use Rattle.program_lowering.specs.Valued.{all_valued, valued}
 use Rattle.program_lowering.proofs.EndLemmas.{at_end, at_statement, closes_at, finished, goes_round, split_next, written_of}
 use Rattle.program_lowering.proofs.EvenLemmas.{due_on, no_more}
+use Rattle.program_lowering.proofs.FeatureLemmas.{valued_line}
 use Rattle.program_lowering.proofs.ValuedLemmas.{same_place}
 use Rattle.program_lowering.proofs.lowering.lines_of.Goals as goal
 
@@ -56,7 +57,7 @@ returns-in-Err c =
     c.loop-next.reference c.loop-next.even next.0 known.2.1 next.2 in
     let on = due_on c.args.choices c.loop-next.even s in
     let v = valued known.0 next.0 in
-    let line = same_place v (made_cartesian c.loop-next.reference v) ∙ same_place next.0 (new_params known.0 next.0) in
+    let line = same_place v (made_cartesian c.loop-next.reference v) ∙ valued_line known.0 next.0 in
     rw c.fault_at.ensures (subst (λ (n : ℕ). GivesLines c.args.frames.now c.args.choices c.args.answers.now c.args.bytes.now (Err (fault_at c.in-Err.fault n)))
     (line ∙ sym (c.line_of.ensures next.0 of)) (at_statement c.args.frames.now c.args.choices c.args.answers.now c.args.bytes.now c.in-Err.fault
     (text_reading c.args.bytes.now).fault (length (lines c.args.bytes.now)) s.line _ _ _ c.loop-next.lowering c.take_given.new.lowering split on

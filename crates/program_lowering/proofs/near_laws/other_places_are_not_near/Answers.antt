@@ -30,5 +30,5 @@ returns-clause-no_number c y h = let e = h.first.some in omega (arith, e)
 pub returns-clause-no_plane : goal.returns-clause-no_plane
 returns-clause-no_plane c place h = h
 
-pub returns-clause-no_unit : goal.returns-clause-no_unit
-returns-clause-no_unit c place h = h
+pub returns-clause-sexagesimal : goal.returns-clause-sexagesimal
+returns-clause-sexagesimal c h = near.no-degrees _ _ _ _ h.some h.turned h.second.above

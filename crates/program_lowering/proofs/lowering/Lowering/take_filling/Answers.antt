@@ -8,5 +8,5 @@ returns-then-self-eq0 c = filling_first c.args.frames.now c.args.choices c.args.
 pub returns : goal.returns
 returns c =
     filling_next c.args.frames.now c.args.choices c.args.self.now c.note.new.self c.take_touches.new.self c.args.line c.args.filling.now
-    c.filling.inside.centre c.deref.result.now c.take_touches.result c.in_ok-note.ensures c.take_touches.ensures (search rules) (search rules)
+    c.filling.inside.end c.deref.result.now c.take_touches.result c.in_ok-note.ensures c.take_touches.ensures (search rules) (search rules)
     (search rules)

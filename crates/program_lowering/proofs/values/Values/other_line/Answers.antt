@@ -3,7 +3,7 @@ use Rattle.dmis_program.specs.Keywords.{is_among}
 use Rattle.program_flow.specs.Variables.{entry_value}
 use Rattle.program_lowering.specs.Valued.{commanding, held_or_none, valued_params}
 use Rattle.program_lowering.proofs.LineLemmas.{flat_statement}
-use Rattle.program_lowering.proofs.ValuedLemmas.{commanding_good, gives_valued, read_is}
+use Rattle.program_lowering.proofs.ValuedLemmas.{commanding_good, gives_same, gives_valued, read_is}
 use Rattle.program_lowering.proofs.values.Values.other_line.Goals as goal
 
 pub returns-clause-read : goal.returns-clause-read
@@ -21,3 +21,10 @@ returns-clause-valued c above other k =
     let some : c.args.self.now.declared ≡ true = search rules in
     gives_valued above c.args.statement.now c.args.self.now.variables c.args.self.now.declared c.in_ok-valued_line.field-0.items other bare is some k
     c.in_ok-valued_line.ensures
+
+pub returns-then-all_stay-clause-valued : goal.returns-then-all_stay-clause-valued
+returns-then-all_stay-clause-valued c above other k =
+    let is : is_among c.args.statement.now.word commanding ≡ true = search rules in
+    let bare : is_none c.args.statement.now.label ≡ true = search rules in
+    let some : c.args.self.now.declared ≡ true = search rules in
+    gives_same above c.args.statement.now c.args.self.now.variables c.args.self.now.declared other bare is some k (rw c.deref-2.ensures at (c.all_stay.ensures c.if-all_stay.true))
