@@ -7,7 +7,7 @@ use Rattle.run_session.proofs.ClientCalls.{or_false, or_true}
 use Rattle.run_session.specs.Errors.{Talk}
 use Rattle.run_session.specs.Errors.Records.{takes_all, takes_none}
 use Rattle.run_session.specs.Records.{forgets, says}
-use Rattle.run_session.specs.Records.{answered, Grown, is_done, is_record, Listed, marked, marked_at, Origin, Record, Report, Whole, with_marks, Write}
+use Rattle.run_session.specs.Records.{answered, Grown, is_done, is_record, Listed, marked, marked_at, Origin, Record, replaced, Report, Stood, Whole, with_marks, Write}
 use Rattle.run_session.proofs.Names.{[], ◌++◌, ◌∙◌, ◌∷◌, ◌≡◌, ◌≤◌, ◌⊎◌, Act, AddsErrors, ap, append-nil, append_assoc, arith, At, begins, Book, Bool}
 use Rattle.run_session.proofs.Names.{Bytes, calls, ClientEnd, cond, confirms, Done, drop, drop-append_seam, End, Err, error_note, Failed, false}
 use Rattle.run_session.proofs.Names.{false≢true, filed, filed_by, Found, GoesOn, Growth, HasReported, HaveLines, inl, inr, IsKept, IsQuiet, IsRun, IsRunOf, IsSafe, Keeps, lacking}
@@ -274,7 +274,8 @@ record_of (Some (Record forced)) is = (forced, refl)
 record_of (Some Grown) is = absurd (false≢true is)
 record_of (Some Listed) is = absurd (false≢true is)
 record_of (Some Report) is = absurd (false≢true is)
-record_of (Some Whole) is = absurd (false≢true is)
+record_of (Some Stood) is = absurd (false≢true is)
+record_of (Some (Whole kept)) is = absurd (false≢true is)
 
 pub lost_goes : (s t : State) (reply : Reply) → is_record (writes s.stage) ≡ true → IsSame s t → t.book ≡ record (s.book) { lost = true } → GoesOn s reply t
 lost_goes s t reply is same book = λ first before o n k.
@@ -406,7 +407,8 @@ other_file (Some (Record forced)) is n text reply o = absurd (false≢true (sym 
 other_file (Some Grown) is n text reply o = refl
 other_file (Some Listed) is n text reply o = refl
 other_file (Some Report) is n text reply o = refl
-other_file (Some Whole) is n text reply o = refl
+other_file (Some Stood) is n text reply o = refl
+other_file (Some (Whole kept)) is n text reply o = refl
 
 -- later ones after an answer by which another file was written, or not
 pub noted_goes : (v s t : State) (reply : Reply) → v ≡ s → is_record (writes v.stage) ≡ false → Keeps (answered s reply) t
@@ -437,9 +439,13 @@ pub noted : (s : State) (reply : Reply) (w : Option Write) (done : Bool) → wri
 noted s reply w done at is = sym (ap (λ (x : Option Write). with_marks (marked x (is_done reply) s s.reports.marks) s) at
     ∙ ap (λ (b : Bool). with_marks (marked w b s s.reports.marks) s) is)
 
-pub whole_noted : (s : State) (reply : Reply) (done : Bool) → writes s.stage ≡ Some Whole → is_done reply ≡ done
-    → with_marks (marked (Some Whole) done s s.reports.marks) s ≡ answered s reply
-whole_noted s reply done at is = noted s reply (Some Whole) done at is
+pub whole_noted : (s : State) (reply : Reply) (done : Bool) → writes s.stage ≡ Some (Whole (replaced s.stage)) → is_done reply ≡ done
+    → with_marks (marked (Some (Whole (replaced s.stage))) done s s.reports.marks) s ≡ answered s reply
+whole_noted s reply done at is = noted s reply (Some (Whole (replaced s.stage))) done at is
+
+pub stood_noted : (s : State) (reply : Reply) (done : Bool) → s.stage ≡ Stage.Standing → is_done reply ≡ done
+    → with_marks (marked (Some Stood) done s s.reports.marks) s ≡ answered s reply
+stood_noted s reply done at is = noted s reply (Some Stood) done (ap writes at) is
 
 pub report_noted : (s : State) (reply : Reply) (done : Bool) → s.stage ≡ Stage.Printing → is_done reply ≡ done
     → with_marks (marked (Some Report) done s s.reports.marks) s ≡ answered s reply

@@ -1,5 +1,5 @@
 -- What a run's client and its record are after any answers, and what the record's file has (this profile).
-use Rattle.std.specs.Prelude.{◌≡◌, ◌≤◌, ◌&&◌, ◌||◌, ◌⊎◌, ⊤, ℕ, Bool, true, false, not, Result, Ok, Err, if◌then◌else◌, Option, None, Some, List, [], ◌∷◌, ◌++◌, ◌<◌, length, map, take, drop}
+use Rattle.std.specs.Prelude.{◌≡◌, ◌≤◌, ◌&&◌, ◌||◌, ◌⊎◌, ⊤, ℕ, Bool, true, false, not, Result, Ok, Err, if◌then◌else◌, Option, None, Some, is_some, List, [], ◌∷◌, ◌++◌, ◌<◌, length, map, take, drop}
 use Rattle.std.specs.Str.{bytes_eq}
 use Rattle.client_core.specs.Calls.{Call, Abort, Send as Sends, behind_call, done_by, Leave as Leaves}
 use Rattle.contact_ledger.specs.ContactTexts.{contacts_text}
@@ -25,6 +25,10 @@ use Rattle.order_parts.specs.Kept.{IsFeaturesText}
 use Rattle.run_session.specs.Errors as errors
 use Rattle.run_session.specs.Errors.{noted_by, Records, Talk}
 use Rattle.run_session.specs.Evidence.{Course, Notes, can_note, can_say, ended, given_due, has_due, is_over, made, passed}
+use Rattle.run_session.specs.declared.runs.Kept as which
+use Rattle.run_session.specs.declared.runs.Kept.TheVariants as whole
+use Rattle.run_session.specs.declared.runs.Output.{Output}
+use Rattle.run_session.specs.declared.runs.Written.{Written}
 use Rattle.run_session.specs.declared.stages.Stage.{Stage}
 use Rattle.run_session.specs.declared.stages.Stage.TheVariants as stage
 
@@ -97,7 +101,22 @@ pub record Marks : Type 0 where
   pub listed : ℕ  -- how many features are in their file, forced to the device
   pub lists : Bool  -- whether that file grows, and could be kept
   pub printed : Bool  -- whether the report was printed
-  pub failed : Bool  -- whether a file was not written at the end
+  pub written : Written  -- which files have their whole text at the end
+
+abbrev pub none_written : Written
+none_written = record { features = None; kept = None; contacts = None }
+
+-- a file has its whole text, or could not be written
+abbrev pub with_written : which.Kept → (done : Bool) → Written → Written
+with_written whole.Features done w = record w { features = Some done }
+with_written whole.Record done w = record w { kept = Some done }
+with_written whole.Contacts done w = record w { contacts = Some done }
+
+-- the files that are named
+pub record Files : Type 0 where
+  pub features : Option Output
+  pub kept : Option Output  -- the record
+  pub contacts : Option Output
 
 -- the file of reported contacts
 pub record Reports : Type 0 where
@@ -114,6 +133,8 @@ pub record State : Type 0 where
   pub reports : Reports
   pub talk : Talk
   pub course : Course
+  pub files : Files
+  pub begun : Bool  -- whether its client has come to the connection
   pub text : List ℕ  -- what is printed at the end
   pub list : List ℕ  -- what the features file is to have
   pub held : ℕ  -- how many features it has then
@@ -141,7 +162,7 @@ first_reports named lists number before = record {
     listed = 0;
     lists = lists;
     printed = false;
-    failed = false;
+    written = none_written;
   };
 }
 
@@ -190,13 +211,14 @@ abbrev pub lacking : State → List ℕ
 lacking s = if s.book.lost then [] else drop s.book.filed s.pair.recording.text
 
 -- what a stage writes: to the record's file, which is forced to the device or not; to that of contacts; to that of features; the report; and a
--- whole file
+-- whole file, unless the record stands already
 pub data Write : Type 0 where
   Record : (forced : Bool) → Write
   Grown : Write
   Listed : Write
   Report : Write
-  Whole : Write
+  Stood : Write
+  Whole : which.Kept → Write
 
 abbrev pub writes : Stage → Option Write
 writes stage.Recording = Some (Record false)
@@ -205,10 +227,17 @@ writes stage.Reporting = Some Grown
 writes stage.BeginningFeatures = Some Listed
 writes stage.Listing = Some Listed
 writes stage.Printing = Some Report
-writes stage.ReplacingFeatures = Some Whole
-writes stage.ReplacingRecord = Some Whole
-writes stage.ReplacingContacts = Some Whole
+writes stage.Standing = Some Stood
+writes stage.ReplacingFeatures = Some (Whole whole.Features)
+writes stage.ReplacingRecord = Some (Whole whole.Record)
+writes stage.ReplacingContacts = Some (Whole whole.Contacts)
 writes s = None
+
+-- the file that a stage replaces
+abbrev pub replaced : Stage → which.Kept
+replaced stage.ReplacingFeatures = whole.Features
+replaced stage.ReplacingRecord = whole.Record
+replaced s = whole.Contacts
 
 -- the file after an answer; one that was not written has the first bytes of what was to be added, n of them
 abbrev pub appended : ℕ → List ℕ → Reply → Outside → Outside
@@ -226,7 +255,8 @@ outcome_by n (Some (Record true)) text reply o = kept n text reply o
 outcome_by n (Some Grown) text reply o = o
 outcome_by n (Some Listed) text reply o = o
 outcome_by n (Some Report) text reply o = o
-outcome_by n (Some Whole) text reply o = o
+outcome_by n (Some Stood) text reply o = o
+outcome_by n (Some (Whole which)) text reply o = o
 
 abbrev pub is_done : Reply → Bool
 is_done Done = true
@@ -242,8 +272,9 @@ marked (Some Listed) true s m = record m { listed = s.held }
 marked (Some Listed) false s m = record m { lists = false }
 marked (Some Report) true s m = record m { printed = true }
 marked (Some Report) false s m = m
-marked (Some Whole) true s m = m
-marked (Some Whole) false s m = record m { failed = true }
+marked (Some Stood) true s m = record m { written = with_written whole.Record true m.written }
+marked (Some Stood) false s m = m
+marked (Some (Whole kept)) done s m = record m { written = with_written kept done m.written }
 
 abbrev pub marked_at : State → Reply → Marks → Marks
 marked_at s reply m = marked (writes s.stage) (is_done reply) s m
@@ -498,11 +529,18 @@ abbrev pub IsAdd : Ask → Type 0
 IsAdd (Add text) = ⊤
 IsAdd ask = ⊥
 
--- the client has measured all that was asked for, its report was printed, and no file was left unwritten at the end
+-- a file that is named has its whole text, and none could not be written
+abbrev pub is_written : (named : Bool) → Option Bool → Bool
+is_written named None = not named
+is_written named (Some done) = done
+
+-- the client has measured all that was asked for, its report was printed, and each file that is named was written whole
 pub record HasDone (s : State) : Type 0 where
   pub done : s.pair.end.client.state ≡ state.Done
   pub printed : s.reports.marks.printed ≡ true
-  pub written : s.reports.marks.failed ≡ false
+  pub features : is_written (is_some s.files.features) s.reports.marks.written.features ≡ true
+  pub recorded : is_written s.book.keeps s.reports.marks.written.kept ≡ true
+  pub contacts : is_written s.reports.named s.reports.marks.written.contacts ≡ true
 
 -- the exit status is 0 only then
 abbrev pub IsExit : State → Ask → Type 0
@@ -560,9 +598,22 @@ Asks s ask = AsksAt s.stage s ask
 abbrev pub IsPaused : State → Type 0
 IsPaused s = (1 ≤ length s.book.pauses) × (length s.pair.end.client.table.tally.todo ≤ held s.book.pauses)
 
--- what holds besides before an effect is asked for: what is printed is the client's report; what replaces the features file are the features
--- that the client holds; what is added to the record without being forced completes no feature; nothing is added to a file of contacts that
--- could not be kept; the operator is asked at a pause; and what is shown as complete is on the device
+-- whether a whole file that is named was written, or could not be
+abbrev pub is_tried : (named : Bool) → Option Bool → Bool
+is_tried named mark = is_some mark || not named
+
+abbrev pub HasTriedFeatures : State → Type 0
+HasTriedFeatures s = is_tried (is_some s.files.features) s.reports.marks.written.features ≡ true
+
+-- the record, and that of contacts if its client has come to the connection
+abbrev pub HasTried : State → Type 0
+HasTried s = (is_tried s.book.keeps s.reports.marks.written.kept ≡ true)
+    × (is_tried (s.begun && s.reports.named) s.reports.marks.written.contacts ≡ true)
+
+-- what holds besides before an effect is asked for: what is printed is the client's report, after its features file; what replaces the features
+-- file are the features that the client holds; what is added to the record without being forced completes no feature; nothing is added to a
+-- file of contacts that could not be kept; the operator is asked at a pause; what is shown as complete is on the device; and what is said last
+-- follows all files
 pub data Want : Type 0 where
   Shown : Want
   Features : Want
@@ -570,6 +621,7 @@ pub data Want : Type 0 where
   Kept : Want
   Pause : Want
   Complete : Want
+  Tried : Want
 
 abbrev pub wants : Stage → Option Want
 wants stage.Printing = Some Shown
@@ -580,6 +632,7 @@ wants stage.Reporting = Some Kept
 wants stage.Awaiting = Some Pause
 wants stage.Returning = Some Pause
 wants stage.Showing = Some Complete
+wants stage.Ending = Some Tried
 wants s = None
 
 -- how many features may be shown as complete: those that are in the record on the device, if it could be kept; else those in the features file
@@ -590,12 +643,13 @@ complete s = if s.book.keeps && not s.book.lost then s.book.settled
 
 abbrev pub IsDueBy : Option Want → State → Type 0
 IsDueBy None s = ⊤
-IsDueBy (Some Shown) s = s.text ≡ report_text (end_shown s.pair.end)
+IsDueBy (Some Shown) s = (s.text ≡ report_text (end_shown s.pair.end)) × HasTriedFeatures s
 IsDueBy (Some Features) s = IsFeaturesText s.pair.end.client.table.tally.features s.list
 IsDueBy (Some Unforced) s = s.pair.recording.telling.counted.features ≤ s.book.settled
 IsDueBy (Some Kept) s = s.reports.marks.lost ≡ false
 IsDueBy (Some Pause) s = IsPaused s
 IsDueBy (Some Complete) s = s.shown ≤ complete s
+IsDueBy (Some Tried) s = HasTried s
 
 abbrev pub IsDue : State → Type 0
 IsDue s = IsDueBy (wants s.stage) s

@@ -45,6 +45,7 @@ impl Session {
     }
 
     fn print(&mut self) -> Result<(), AllocError>
+        requires { spec.HasTriedFeatures self.old }
         ensures quiet { spec.IsQuiet self.old self.new }
         ensures due { OnOk result (spec.IsDue self.new) }
         ensures followed { OnOk result (spec.FollowsApart self.old self.new) }
@@ -55,7 +56,9 @@ impl Session {
     }
 
     /// The file that has its whole text at the end.
-    fn replaced_file(&self) -> Kept {
+    fn replaced_file(&self) -> Kept
+        ensures { result ≡ spec.replaced self.now.stage }
+    {
         match self.stage {
             Stage::ReplacingFeatures => Kept::Features,
             Stage::ReplacingRecord => Kept::Record,
@@ -66,15 +69,16 @@ impl Session {
     /// A file was written at the end, or not: then that is what is said last, unless something else is.
     #[tactic(auto, using(crate::proofs::Filing::undone, crate::proofs::Filing::whole_noted))]
     fn note_replaced(&mut self, answer: Answer<'_>) -> Result<(), AllocError>
-        requires { spec.writes self.old.stage ≡ Some spec.Whole }
+        requires { spec.writes self.old.stage ≡ Some (spec.Whole (spec.replaced self.old.stage)) }
         ensures { self.new ≡ spec.answered self.old (the_reply answer.entry) }
     {
+        let kept = self.replaced_file();
         if let Answer::Done = answer {
+            self.written.note(kept, true);
             return Ok(());
         }
-        self.is_unwritten = true;
-        let name = self.run.name(self.replaced_file());
-        let line = unwritten_line(self.alloc, name, answer)?;
+        self.written.note(kept, false);
+        let line = unwritten_line(self.alloc, self.run.name(kept), answer)?;
         if self.verdict.is_empty() {
             self.verdict = line;
             self.status = 1;
@@ -85,7 +89,7 @@ impl Session {
 
     /// A file has its whole text, or could not be written.
     pub(crate) fn has_replaced(&mut self, answer: Answer<'_>) -> Result<(), AllocError>
-        requires { spec.writes self.old.stage ≡ Some spec.Whole }
+        requires { spec.writes self.old.stage ≡ Some (spec.Whole (spec.replaced self.old.stage)) }
         ensures quiet { spec.IsQuiet (spec.answered self.old (the_reply answer.entry)) self.new }
         ensures due { OnOk result (spec.IsDue self.new) }
         ensures followed { OnOk result (spec.FollowsApart self.old self.new) }
@@ -93,8 +97,7 @@ impl Session {
         self.note_replaced(answer)?;
         match self.stage {
             Stage::ReplacingFeatures => self.print(),
-            Stage::ReplacingRecord => self.close_contacts(),
-            _ => self.say_last(),
+            _ => self.close(),
         }
     }
 
@@ -130,7 +133,7 @@ impl Session {
         Ok(())
     }
 
-    /// The connection is left: what comes before the record is whole.
+    /// The connection is left: the record gets its whole text unless it stands, and then the file of contacts, if it has begun.
     pub(crate) fn close(&mut self) -> Result<(), AllocError>
         ensures quiet { spec.IsQuiet self.old self.new }
         ensures due { OnOk result (spec.IsDue self.new) }
@@ -140,39 +143,42 @@ impl Session {
             self.tell();
             return Ok(());
         }
-        if self.run.record.is_none() {
-            return self.close_contacts();
+        if self.run.record.is_some() && self.written.kept.is_none() {
+            self.stage = if self.is_lost {
+                Stage::ReplacingRecord
+            } else {
+                Stage::Standing
+            };
+            return Ok(());
         }
-        self.stage = if self.is_lost {
-            Stage::ReplacingRecord
-        } else {
-            Stage::Standing
-        };
-        Ok(())
+        if self.has_begun && self.run.contacts.is_some() && self.written.contacts.is_none() {
+            self.stage = Stage::ReplacingContacts;
+            return Ok(());
+        }
+        self.say_last()
     }
 
-    /// The file of contacts gets its whole text, if it has begun.
-    fn close_contacts(&mut self) -> Result<(), AllocError>
-        ensures quiet { spec.IsQuiet self.old self.new }
-        ensures due { OnOk result (spec.IsDue self.new) }
-        ensures followed { OnOk result (spec.FollowsApart self.old self.new) }
+    /// A record that stands has its whole text.
+    #[tactic(auto, using(crate::proofs::Filing::undone, crate::proofs::Filing::stood_noted))]
+    fn note_stood(&mut self, answer: Answer<'_>)
+        requires { self.old.stage ≡ Stage.Standing }
+        ensures { self.new ≡ spec.answered self.old (the_reply answer.entry) }
     {
-        if self.has_begun && self.run.contacts.is_some() {
-            self.stage = Stage::ReplacingContacts;
-            Ok(())
-        } else {
-            self.say_last()
+        if let Answer::Done = answer {
+            self.written.note(Kept::Record, true);
         }
     }
 
     /// Whether the record stands is known: one that does not gets its whole text.
     pub(crate) fn has_stood(&mut self, answer: Answer<'_>) -> Result<(), AllocError>
-        ensures quiet { spec.IsQuiet self.old self.new }
+        requires { self.old.stage ≡ Stage.Standing }
+        ensures quiet { spec.IsQuiet (spec.answered self.old (the_reply answer.entry)) self.new }
         ensures due { OnOk result (spec.IsDue self.new) }
         ensures followed { OnOk result (spec.FollowsApart self.old self.new) }
     {
+        self.note_stood(answer);
         if let Answer::Done = answer {
-            return self.close_contacts();
+            return self.close();
         }
         self.stage = Stage::ReplacingRecord;
         Ok(())

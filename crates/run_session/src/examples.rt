@@ -25,8 +25,9 @@ ghost use Rattle.run_session.specs.ErrorRows.{row, two};
 ghost use Rattle.run_session.specs.Errors.{Hears, Records, Talk, error_kept, error_line, new_talk, touch_text, with_about, with_written};
 ghost use Rattle.run_session.specs.Progress.{cell, clock, full_cells, left, pace_line, paced};
 ghost use Rattle.run_session.specs.declared.progress.Pace.{Pace};
+ghost use Rattle.run_session.specs.declared.runs.Output.{Output};
 ghost use Rattle.session_telling.specs.Dialogues.{Reported};
-ghost use Rattle.run_session.specs.declared.stages.Stage.TheVariants.{Checking, Peeking, Recording, Settling, Reporting, ReplacingContacts, Listing, Showing, Sending, Receiving, Awaiting, Returning, Noting, Printing, Closing, Leaving, Ending, Telling, Exiting};
+ghost use Rattle.run_session.specs.declared.stages.Stage.TheVariants.{Checking, Peeking, Recording, Settling, Reporting, Standing, ReplacingFeatures, ReplacingRecord, ReplacingContacts, Listing, Showing, Sending, Receiving, Awaiting, Returning, Noting, Printing, Closing, Leaving, Ending, Telling, Exiting};
 
 /// What was added is in the file, and on the device only if it was forced there; of what was not written the file has the first bytes, and
 /// what was safe stays so.
@@ -43,8 +44,8 @@ pub fn file_rows()
 {}
 
 /// What completes a feature is not added without being forced; each file is written by its own stages only, and gets what is due; nothing is
-/// added to a file that could not be kept; an exit with status 0 is that of a client that is Done, with its report printed and no file left
-/// unwritten at the end; and no other stage sends, asks the operator, replaces, removes, prints or ends.
+/// added to a file that could not be kept; an exit with status 0 is that of a client that is Done, with its report printed; and no other stage
+/// sends, asks the operator, replaces, removes, prints or ends.
 pub fn ask_rows()
     ensures unforced { (s : State) → s.pair.recording.telling.counted.features ≡ 2
         → s.book.settled ≡ 1 → IsDueBy (Some Unforced) s → ⊥ }
@@ -57,7 +58,6 @@ pub fn ask_rows()
         → AsksAt Reporting s (Append Contacts (7 ∷ 8 ∷ [])) → ⊥ }
     ensures lost { (s : State) → s.book.lost ≡ true → lacking s ≡ [] }
     ensures exit { (s : State) → s.pair.end.client.state ≡ Running → AsksAt Exiting s (Exit 0) → ⊥ }
-    ensures unwritten { (s : State) → s.reports.marks.failed ≡ true → AsksAt Exiting s (Exit 0) → ⊥ }
     ensures unreported { (s : State) → s.reports.marks.printed ≡ false → AsksAt Exiting s (Exit 0) → ⊥ }
     ensures failure { (s : State) → AsksAt Exiting s (Exit 3) }
     ensures early { (s : State) → AsksAt Ending s (Exit 0) → ⊥ }
@@ -67,6 +67,39 @@ pub fn ask_rows()
     ensures unkept { (s : State) → s.stage ≡ Reporting → s.reports.marks.lost ≡ true → IsDue s → ⊥ }
     ensures removed { (s : State) → AsksAt Leaving s (Remove []) → ⊥ }
     ensures replaced { (s : State) → AsksAt Listing s (Replace [] [] []) → ⊥ }
+{}
+
+/// A file counts as written whole once that was answered as done, at its own stage; a record also if it stands; and nothing else marks one. Each
+/// file that is named is marked in a session that ends with status 0; and none is left out before what is said last.
+pub fn whole_rows()
+    ensures replaced { (s : State) (m : Marks) → s.stage ≡ ReplacingFeatures
+        → (marked_at s Done m).written ≡ record (m.written) { features = Some true } }
+    ensures other { (s : State) (m : Marks) → s.stage ≡ ReplacingRecord
+        → (marked_at s Done m).written ≡ record (m.written) { kept = Some true } }
+    ensures failed { (s : State) (m : Marks) → s.stage ≡ ReplacingContacts
+        → (marked_at s Short m).written ≡ record (m.written) { contacts = Some false } }
+    ensures stands { (s : State) (m : Marks) → s.stage ≡ Standing
+        → (marked_at s Done m).written ≡ record (m.written) { kept = Some true } }
+    ensures differs { (s : State) (m : Marks) → s.stage ≡ Standing → marked_at s Missing m ≡ m }
+    ensures elsewhere { (s : State) (m : Marks) → s.stage ≡ Settling → marked_at s Done m ≡ m }
+    ensures done { (s : State) → s.pair.end.client.state ≡ Completed → s.reports.marks.printed ≡ true
+        → s.reports.marks.written
+        ≡ record { features = Some true; kept = Some true; contacts = Some true }
+        → AsksAt Exiting s (Exit 0) }
+    ensures unlisted { (s : State) (file : Output) → s.files.features ≡ Some file
+        → s.reports.marks.written.features ≡ None → AsksAt Exiting s (Exit 0) → ⊥ }
+    ensures unrecorded { (s : State) → s.book.keeps ≡ true → s.reports.marks.written.kept ≡ None
+        → AsksAt Exiting s (Exit 0) → ⊥ }
+    ensures unreported { (s : State) → s.reports.named ≡ true
+        → s.reports.marks.written.contacts ≡ None → AsksAt Exiting s (Exit 0) → ⊥ }
+    ensures unwritten { (s : State) → s.reports.marks.written.kept ≡ Some false
+        → AsksAt Exiting s (Exit 0) → ⊥ }
+    ensures early { (s : State) (file : Output) → s.stage ≡ Printing → s.files.features ≡ Some file
+        → s.reports.marks.written.features ≡ None → IsDue s → ⊥ }
+    ensures left_out { (s : State) → s.stage ≡ Ending → s.book.keeps ≡ true
+        → s.reports.marks.written.kept ≡ None → IsDue s → ⊥ }
+    ensures skipped { (s : State) → s.stage ≡ Ending → s.begun ≡ true → s.reports.named ≡ true
+        → s.reports.marks.written.contacts ≡ None → IsDue s → ⊥ }
 {}
 
 /// What is to be in the file of contacts: the acts that were reported before, and then those that the client has counted on its connection, as

@@ -2,6 +2,7 @@
 
 ghost use Rattle.std.specs.Prelude.{◌≡◌, false};
 ghost use Rattle.std.specs.Option.{option_map_or};
+ghost use Rattle.run_session.specs.Records as spec;
 
 use crate::evidence::Noted;
 
@@ -61,6 +62,48 @@ pub(crate) enum Kept {
     Features,
     Contacts,
     Record,
+}
+
+/// Whether each file has its whole text at the end, once that was asked for; `false` for one that could not be written.
+#[derive(Clone, Copy, Debug, PartialEq, Eq)]
+pub(crate) struct Written {
+    pub features: Option<bool>,
+    /// The record.
+    pub kept: Option<bool>,
+    pub contacts: Option<bool>,
+}
+
+impl Written {
+    pub fn new() -> Written
+        ensures { result ≡ spec.none_written }
+    {
+        Written {
+            features: None,
+            kept: None,
+            contacts: None,
+        }
+    }
+
+    /// A file has its whole text, or could not be written.
+    pub fn note(&mut self, kept: Kept, is_done: bool)
+        ensures { self.new ≡ spec.with_written kept is_done self.old }
+    {
+        match kept {
+            Kept::Features => self.features = Some(is_done),
+            Kept::Record => self.kept = Some(is_done),
+            Kept::Contacts => self.contacts = Some(is_done),
+        }
+    }
+}
+
+/// Whether a file has its whole text, if it is named.
+pub(crate) fn is_written(named: bool, mark: Option<bool>) -> bool
+    ensures { result ≡ spec.is_written named mark }
+{
+    match mark {
+        Some(is_done) => is_done,
+        None => !named,
+    }
 }
 
 impl Run {

@@ -16,7 +16,7 @@ use crate::evidence::Noting;
 use crate::listed::Listed;
 use crate::progress::Pacing;
 use crate::reported::Reported;
-use crate::runs::Kept;
+use crate::runs::{Kept, Written, is_written};
 use crate::{Run, Stage};
 use client_core::{Client, ClientFault, State};
 use contact_ledger::ServerLedger;
@@ -50,7 +50,7 @@ pub struct Begun {
 }
 
 impl Model for Begun {
-    ghost use Rattle.run_session.specs.Records.{Start};
+    ghost use Rattle.run_session.specs.Records.{Start, none_written};
     ghost use Rattle.run_session.specs.Evidence.{given_notes};
 
     ghost Value = { Start };
@@ -72,7 +72,7 @@ impl Model for Begun {
           listed = b.listed.settled;
           lists = b.listed.is_kept;
           printed = false;
-          failed = false;
+          written = none_written;
         };
       };
       talk = b.errors;
@@ -192,9 +192,9 @@ pub struct Session {
     pub(crate) has_ended: bool,
     /// How often it has looked whether a server that is left leaves, too.
     pub(crate) looks: u32,
-    /// Whether the report was printed, and whether a file was not written at the end.
+    /// Whether the report was printed, and which files were written whole at the end.
     pub(crate) is_printed: bool,
-    pub(crate) is_unwritten: bool,
+    pub(crate) written: Written,
     /// What is added to the log, or printed.
     pub(crate) text: Vec<u8>,
     /// What is said last, and the verdict in it.
@@ -241,7 +241,7 @@ impl Model for Session {
           listed = s.listed.settled;
           lists = s.listed.is_kept;
           printed = s.is_printed;
-          failed = s.is_unwritten;
+          written = s.written;
         };
       };
       talk = s.errors;
@@ -251,6 +251,12 @@ impl Model for Session {
         lapsed = is_some s.lapse;
         stopped = s.is_stopped;
       };
+      files = record {
+        features = s.run.features;
+        kept = s.run.record;
+        contacts = s.run.contacts;
+      };
+      begun = s.has_begun;
       text = s.text.items;
       list = s.listed.text.items;
       held = s.listed.held;
@@ -343,7 +349,7 @@ impl Session {
             has_ended: false,
             looks: 0,
             is_printed: false,
-            is_unwritten: false,
+            written: Written::new(),
             text: Vec::new(alloc),
             said: String::new(alloc),
             verdict: String::new(alloc),
@@ -430,13 +436,27 @@ impl Session {
         }
     }
 
+    /// Whether each file that is named was written whole.
+    fn has_written(&self) -> bool
+        ensures features { result ≡ true → spec.is_written (is_some self.now.files.features)
+            self.now.reports.marks.written.features ≡ true }
+        ensures recorded { result ≡ true → spec.is_written self.now.book.keeps
+            self.now.reports.marks.written.kept ≡ true }
+        ensures contacts { result ≡ true → spec.is_written self.now.reports.named
+            self.now.reports.marks.written.contacts ≡ true }
+    {
+        is_written(self.run.features.is_some(), self.written.features)
+            && is_written(self.run.record.is_some(), self.written.kept)
+            && is_written(self.run.contacts.is_some(), self.written.contacts)
+    }
+
     /// The exit status: 0 only once all that was asked for is measured and written.
     fn exit_status(&self) -> u8
         ensures { result ≡ 0 → spec.HasDone self.now }
     {
         if self.status != 0 {
             self.status
-        } else if self.is_printed && !self.is_unwritten && self.client.state() == State::Done {
+        } else if self.is_printed && self.has_written() && self.client.state() == State::Done {
             0
         } else {
             NOT_DONE

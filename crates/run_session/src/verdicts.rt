@@ -47,6 +47,7 @@ impl Session {
 
     /// What has failed is said, and what to do next; and the run ends.
     pub(crate) fn say_last(&mut self) -> Result<(), AllocError>
+        requires { spec.HasTried self.old }
         ensures quiet { spec.IsQuiet self.old self.new }
         ensures due { OnOk result (spec.IsDue self.new) }
         ensures followed { OnOk result (spec.FollowsApart self.old self.new) }

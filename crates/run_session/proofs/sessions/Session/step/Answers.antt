@@ -58,9 +58,8 @@ returns-in-Printing-clause-goes c = quiet_goes _ c.args.self.now c.has_printed.n
     (is_other c.self.inside.stage Stage.Printing refl c.in-Printing.is) c.has_printed.ensures.quiet
 
 pub returns-in-Standing-clause-goes : goal.returns-in-Standing-clause-goes
-returns-in-Standing-clause-goes c = arm _ c.args.self.now c.has_stood.new.self (the_reply c.args.answer) c.self.view_is
-    (is_quiet c.self.inside.stage Stage.Standing refl c.in-Standing.is) (quiet_keeps c.args.self.now c.has_stood.new.self c.has_stood.ensures.quiet)
-    (ap (λ (s : State). s.book) c.has_stood.ensures.quiet)
+returns-in-Standing-clause-goes c = quiet_goes _ c.args.self.now c.has_stood.new.self (the_reply c.args.answer) c.self.view_is
+    (is_other c.self.inside.stage Stage.Standing refl c.in-Standing.is) c.has_stood.ensures.quiet
 
 pub returns-in-ReplacingFeatures-clause-goes : goal.returns-in-ReplacingFeatures-clause-goes
 returns-in-ReplacingFeatures-clause-goes c = quiet_goes _ c.args.self.now c.has_replaced.new.self (the_reply c.args.answer) c.self.view_is
@@ -213,7 +212,7 @@ returns-in-DiscardingFeatures-clause-stops c = still c.leave_on-in-DiscardingFea
 pub returns-in-Standing-clause-stops : goal.returns-in-Standing-clause-stops
 returns-in-Standing-clause-stops c = still c.has_stood.result _ c.args.self.now c.has_stood.new.self (the_reply c.args.answer) c.self.view_is
     (is_still (the_reply c.args.answer) c.self.inside.stage Stage.Standing (refl, refl) c.in-Standing.is)
-    (later c.args.self.now c.has_stood.new.self (quiet_keeps c.args.self.now c.has_stood.new.self c.has_stood.ensures.quiet))
+    (answered_later c.args.self.now c.has_stood.new.self (the_reply c.args.answer) (quiet_keeps (answered c.args.self.now (the_reply c.args.answer)) c.has_stood.new.self c.has_stood.ensures.quiet))
     (ap (λ (s : State). s.book) c.has_stood.ensures.quiet)
 
 pub returns-in-ReplacingFeatures-clause-stops : goal.returns-in-ReplacingFeatures-clause-stops

@@ -11,5 +11,5 @@ returns-clause-ran c = tells_reports c.follow.result _ _ c.follow.new.self.text.
       listed = c.self.inside.listed.settled;
       lists = c.self.inside.listed.is_kept;
       printed = c.self.inside.is_printed;
-      failed = c.self.inside.is_unwritten;
+      written = c.self.inside.written;
     }) c.follow.ensures.same)
