@@ -1,5 +1,5 @@
 -- What a run's client and its record are after any answers, and what the record's file has (this profile).
-use Rattle.std.specs.Prelude.{◌≡◌, ◌≤◌, ◌&&◌, ◌||◌, ◌⊎◌, ⊤, ℕ, Bool, true, false, not, Result, Ok, Err, if◌then◌else◌, Option, None, Some, is_some, List, [], ◌∷◌, ◌++◌, ◌<◌, length, map, take, drop}
+use Rattle.std.specs.Prelude.{◌≡◌, ◌≤◌, ◌&&◌, ◌||◌, ◌⊎◌, ⊤, ℕ, Bool, true, false, not, Result, Ok, Err, if◌then◌else◌, Option, None, Some, is_some, string_bytes, List, [], ◌∷◌, ◌++◌, ◌<◌, length, map, take, drop}
 use Rattle.std.specs.Str.{bytes_eq}
 use Rattle.client_core.specs.Calls.{Call, Abort, Send as Sends, behind_call, done_by, Leave as Leaves}
 use Rattle.contact_ledger.specs.ContactTexts.{contacts_text}
@@ -28,6 +28,7 @@ use Rattle.run_session.specs.Evidence.{Course, Notes, can_note, can_say, ended, 
 use Rattle.run_session.specs.declared.runs.Kept as which
 use Rattle.run_session.specs.declared.runs.Kept.TheVariants as whole
 use Rattle.run_session.specs.declared.runs.Output.{Output}
+use Rattle.run_session.specs.declared.runs.Run.{Run}
 use Rattle.run_session.specs.declared.runs.Written.{Written}
 use Rattle.run_session.specs.declared.stages.Stage.{Stage}
 use Rattle.run_session.specs.declared.stages.Stage.TheVariants as stage
@@ -118,6 +119,23 @@ pub record Files : Type 0 where
   pub kept : Option Output  -- the record
   pub contacts : Option Output
 
+abbrev pub files_of : Run → Files
+files_of run = record { features = run.features; kept = run.record; contacts = run.contacts }
+
+abbrev pub file_of : Files → which.Kept → Option Output
+file_of files whole.Features = files.features
+file_of files whole.Record = files.kept
+file_of files whole.Contacts = files.contacts
+
+-- its name, and that of the file next to it
+abbrev pub name_of : Option Output → List ℕ
+name_of None = []
+name_of (Some file) = string_bytes file.name
+
+abbrev pub beside_of : Option Output → List ℕ
+beside_of None = []
+beside_of (Some file) = string_bytes file.beside
+
 -- the file of reported contacts
 pub record Reports : Type 0 where
   pub named : Bool  -- whether there is one
@@ -193,6 +211,7 @@ KeepsNoting s t = (w : Origin) → w.may.notes ≡ true → IsRunOf w s → IsRu
 -- what a run begins with, besides its client
 pub record Start : Type 0 where
   pub growth : Growth
+  pub files : Files
   pub pauses : List ℕ
   pub keeps : Bool
   pub reports : Reports
@@ -497,13 +516,14 @@ is_at_end stage.Telling = true
 is_at_end stage.Exiting = true
 is_at_end s = false
 
-abbrev pub IsReplace : List ℕ → Ask → Type 0
-IsReplace text (Replace name beside whole) = whole ≡ text
-IsReplace text ask = ⊥
+-- a file gets this text, in place of what it had
+abbrev pub IsReplace : Option Output → List ℕ → Ask → Type 0
+IsReplace file text (Replace name beside whole) = (name ≡ name_of file) × (beside ≡ beside_of file) × (whole ≡ text)
+IsReplace file text ask = ⊥
 
-abbrev pub IsMake : file.Growth → List ℕ → Ask → Type 0
-IsMake kept text (Make one name beside first) = (one ≡ kept) × (first ≡ text)
-IsMake kept text ask = ⊥
+abbrev pub IsMake : file.Growth → Option Output → List ℕ → Ask → Type 0
+IsMake kept file text (Make one name beside first) = (one ≡ kept) × (name ≡ name_of file) × (beside ≡ beside_of file) × (first ≡ text)
+IsMake kept file text ask = ⊥
 
 abbrev pub IsExtend : Ask → Type 0
 IsExtend (Extend name) = ⊤
@@ -557,9 +577,9 @@ AsksAt stage.Connecting s ask = IsConnect ask
 AsksAt stage.Elapsing s ask = ask ≡ Now
 AsksAt stage.Pausing s ask = ask ≡ Sleep 100
 AsksAt stage.Limiting s ask = IsLimit ask
-AsksAt stage.MakingFeatures s ask = IsMake growth.Features s.list ask
+AsksAt stage.MakingFeatures s ask = IsMake growth.Features s.files.features s.list ask
 AsksAt stage.BeginningFeatures s ask = ask ≡ Begin growth.Features
-AsksAt stage.MakingContacts s ask = IsMake growth.Contacts s.reports.text ask
+AsksAt stage.MakingContacts s ask = IsMake growth.Contacts s.files.contacts s.reports.text ask
 AsksAt stage.BeginningContacts s ask = ask ≡ Begin growth.Contacts
 AsksAt stage.Checking s ask = IsExists ask
 AsksAt stage.Timing s ask = ask ≡ Now
@@ -576,7 +596,7 @@ AsksAt stage.Settling s ask = ask ≡ Keep growth.Record (lacking s)
 AsksAt stage.Reporting s ask = ask ≡ Append growth.Contacts (drop s.reports.marks.filed s.reports.text)
 AsksAt stage.Listing s ask = ask ≡ Keep growth.Features s.list
 AsksAt stage.Showing s ask = IsSay ask
-AsksAt stage.ReplacingFeatures s ask = IsReplace s.list ask
+AsksAt stage.ReplacingFeatures s ask = IsReplace s.files.features s.list ask
 AsksAt stage.Printing s ask = ask ≡ Print s.text
 AsksAt stage.Parting s ask = IsLimit ask
 AsksAt stage.Closing s ask = ask ≡ Close Server
@@ -585,8 +605,8 @@ AsksAt stage.Leaving s ask = ask ≡ Leave
 AsksAt stage.DiscardingFeatures s ask = ask ≡ Discard growth.Features
 AsksAt stage.DiscardingContacts s ask = ask ≡ Discard growth.Contacts
 AsksAt stage.Standing s ask = ask ≡ Stands growth.Record (length s.pair.recording.text)
-AsksAt stage.ReplacingRecord s ask = IsReplace s.pair.recording.text ask
-AsksAt stage.ReplacingContacts s ask = IsReplace s.reports.text ask
+AsksAt stage.ReplacingRecord s ask = IsReplace s.files.kept s.pair.recording.text ask
+AsksAt stage.ReplacingContacts s ask = IsReplace s.files.contacts s.reports.text ask
 AsksAt stage.Ending s ask = IsSay ask
 AsksAt stage.Telling s ask = IsSay ask
 AsksAt stage.Exiting s ask = IsExit s ask

@@ -54,6 +54,8 @@ pub fn ask_rows()
     ensures other_file { (s : State) → s.list ≡ [] → AsksAt Listing s (Keep Features (7 ∷ [])) → ⊥ }
     ensures other_text { (s : State) → s.reports.text ≡ []
         → AsksAt ReplacingContacts s (Replace [] [] (7 ∷ [])) → ⊥ }
+    ensures other_name { (s : State) → s.files.contacts ≡ None
+        → AsksAt ReplacingContacts s (Replace (7 ∷ []) [] s.reports.text) → ⊥ }
     ensures other_acts { (s : State) → s.reports.text ≡ 7 ∷ 8 ∷ [] → s.reports.marks.filed ≡ 1
         → AsksAt Reporting s (Append Contacts (7 ∷ 8 ∷ [])) → ⊥ }
     ensures lost { (s : State) → s.book.lost ≡ true → lacking s ≡ [] }

@@ -108,7 +108,9 @@ pub(crate) fn is_written(named: bool, mark: Option<bool>) -> bool
 
 impl Run {
     /// A file, if it is named.
-    pub(crate) fn file(&self, kept: Kept) -> &Option<Output> {
+    pub(crate) fn file(&self, kept: Kept) -> &Option<Output>
+        ensures { result.now ≡ spec.file_of (spec.files_of self.now) kept }
+    {
         match kept {
             Kept::Features => &self.features,
             Kept::Contacts => &self.contacts,
@@ -116,14 +118,18 @@ impl Run {
         }
     }
 
-    pub(crate) fn name(&self, kept: Kept) -> &str {
+    pub(crate) fn name(&self, kept: Kept) -> &str
+        ensures { result.now ≡ spec.name_of (spec.file_of (spec.files_of self.now) kept) }
+    {
         match self.file(kept) {
             Some(file) => file.name.as_str(),
             None => "",
         }
     }
 
-    pub(crate) fn beside(&self, kept: Kept) -> &str {
+    pub(crate) fn beside(&self, kept: Kept) -> &str
+        ensures { result.now ≡ spec.beside_of (spec.file_of (spec.files_of self.now) kept) }
+    {
         match self.file(kept) {
             Some(file) => file.beside.as_str(),
             None => "",

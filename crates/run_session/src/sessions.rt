@@ -50,7 +50,7 @@ pub struct Begun {
 }
 
 impl Model for Begun {
-    ghost use Rattle.run_session.specs.Records.{Start, none_written};
+    ghost use Rattle.run_session.specs.Records.{Start, files_of, none_written};
     ghost use Rattle.run_session.specs.Evidence.{given_notes};
 
     ghost Value = { Start };
@@ -59,6 +59,7 @@ impl Model for Begun {
 
     ghost view = { λ b. record {
       growth = b.growth;
+      files = files_of b.run;
       pauses = b.pauses.items;
       keeps = is_some b.run.record;
       reports = record {
@@ -99,6 +100,7 @@ impl Begun {
         ensures client { OnOk result (client.new ≡ end_connected number client.old) }
         ensures growth { IfOk result (λ b. b.growth
             ≡ begun number 0 (length client.old.client.table.tally.features) text.items) }
+        ensures files { IfOk result (λ b. b.files ≡ spec.files_of run) }
         ensures pauses { IfOk result (λ b. b.pauses
             ≡ pauses_of (map place_seen places.items)) }
         ensures keeps { IfOk result (λ b. b.keeps ≡ is_some run.record) }
@@ -210,7 +212,7 @@ pub struct Session {
 }
 
 impl Model for Session {
-    ghost use Rattle.run_session.specs.Records.{State as OneState};
+    ghost use Rattle.run_session.specs.Records.{State as OneState, files_of};
     ghost use Rattle.run_session.specs.Evidence.{server_text};
     ghost use Rattle.std.specs.Prelude.{is_some, option_map, string_bytes};
 
@@ -251,11 +253,7 @@ impl Model for Session {
         lapsed = is_some s.lapse;
         stopped = s.is_stopped;
       };
-      files = record {
-        features = s.run.features;
-        kept = s.run.record;
-        contacts = s.run.contacts;
-      };
+      files = files_of s.run;
       begun = s.has_begun;
       text = s.text.items;
       list = s.listed.text.items;
@@ -285,6 +283,7 @@ impl Session {
             dated = begun.growth.telling.counted.features;
           };
         } }
+        ensures files { result.files ≡ begun.files }
         ensures reports { result.reports ≡ begun.reports }
         ensures talk { result.talk ≡ begun.talk }
         ensures due { spec.IsDue result }
