@@ -7,7 +7,7 @@ use Rattle.run_session.proofs.ClientCalls.{or_false, or_true}
 use Rattle.run_session.specs.Errors.{Talk}
 use Rattle.run_session.specs.Errors.Records.{takes_all, takes_none}
 use Rattle.run_session.specs.Records.{forgets, says}
-use Rattle.run_session.specs.Records.{answered, Grown, is_done, is_record, Listed, marked, marked_at, Origin, Record, replaced, Report, Stood, Whole, with_marks, Write}
+use Rattle.run_session.specs.Records.{answered, Grown, did, is_done, is_made, is_record, Listed, Made, marked, marked_at, Named, Origin, Record, replaced, Report, Stood, Whole, with_marks, Write}
 use Rattle.run_session.proofs.Names.{[], ◌++◌, ◌∙◌, ◌∷◌, ◌≡◌, ◌≤◌, ◌⊎◌, Act, AddsErrors, ap, append-nil, append_assoc, arith, At, begins, Book, Bool}
 use Rattle.run_session.proofs.Names.{Bytes, calls, ClientEnd, cond, confirms, Done, drop, drop-append_seam, End, Err, error_note, Failed, false}
 use Rattle.run_session.proofs.Names.{false≢true, filed, filed_by, Found, GoesOn, Growth, HasReported, HaveLines, inl, inr, IsKept, IsQuiet, IsRun, IsRunOf, IsSafe, Keeps, lacking}
@@ -77,7 +77,7 @@ weak s t keeps = λ w on run. keeps w run
 -- what is outside after an answer at a stage that writes this
 abbrev pub by_write : Option Write → ℕ → State → Reply → Outside → Outside
 by_write w n s reply o =
-    record (outcome_by n w (lacking s) reply o) { marks = marked w (is_done reply) s o.marks }
+    record (outcome_by n w (lacking s) reply o) { marks = marked w (did w reply) s o.marks }
 
 pub moved_on : (s t : State) (reply : Reply) → writes s.stage ≡ None → KeepsNoting s t → IsSameFile s t → GoesOn s reply t
 moved_on s t reply quiet keeps same = λ first before o n k.
@@ -272,6 +272,8 @@ record_of : (w : Option Write) → is_record w ≡ true → (forced : Bool) × (
 record_of None is = absurd (false≢true is)
 record_of (Some (Record forced)) is = (forced, refl)
 record_of (Some Grown) is = absurd (false≢true is)
+record_of (Some Made) is = absurd (false≢true is)
+record_of (Some Named) is = absurd (false≢true is)
 record_of (Some Listed) is = absurd (false≢true is)
 record_of (Some Report) is = absurd (false≢true is)
 record_of (Some Stood) is = absurd (false≢true is)
@@ -400,11 +402,25 @@ undone (answer.Took count) not = refl
 undone (answer.Failed why) not = refl
 undone answer.Short not = refl
 
+pub unmade : (a : Answer) → (a ≡ answer.Done → ⊥) → (a ≡ answer.Found → ⊥) → is_made (the_reply a) ≡ false
+unmade answer.Done not other = absurd (not refl)
+unmade answer.Found not other = absurd (other refl)
+unmade (answer.Bytes bytes) not other = refl
+unmade answer.End not other = refl
+unmade answer.Missing not other = refl
+unmade answer.Nothing not other = refl
+unmade (answer.At ms) not other = refl
+unmade (answer.Took count) not other = refl
+unmade (answer.Failed why) not other = refl
+unmade answer.Short not other = refl
+
 -- what it does not write to is the record's file
 other_file : (w : Option Write) → is_record w ≡ false → (n : ℕ) (text : List ℕ) (reply : Reply) (o : Outside) → outcome_by n w text reply o ≡ o
 other_file None is n text reply o = refl
 other_file (Some (Record forced)) is n text reply o = absurd (false≢true (sym is))
 other_file (Some Grown) is n text reply o = refl
+other_file (Some Made) is n text reply o = refl
+other_file (Some Named) is n text reply o = refl
 other_file (Some Listed) is n text reply o = refl
 other_file (Some Report) is n text reply o = refl
 other_file (Some Stood) is n text reply o = refl
@@ -434,9 +450,9 @@ quiet_goes v s t reply is other quiet = noted_goes v s t reply is other (quiet_k
     (ap (λ (x : State). of_file x.book) quiet)
 
 -- what is known after an answer at a stage that writes this
-pub noted : (s : State) (reply : Reply) (w : Option Write) (done : Bool) → writes s.stage ≡ w → is_done reply ≡ done
+pub noted : (s : State) (reply : Reply) (w : Option Write) (done : Bool) → writes s.stage ≡ w → did w reply ≡ done
     → with_marks (marked w done s s.reports.marks) s ≡ answered s reply
-noted s reply w done at is = sym (ap (λ (x : Option Write). with_marks (marked x (is_done reply) s s.reports.marks) s) at
+noted s reply w done at is = sym (ap (λ (x : Option Write). with_marks (marked x (did x reply) s s.reports.marks) s) at
     ∙ ap (λ (b : Bool). with_marks (marked w b s s.reports.marks) s) is)
 
 pub whole_noted : (s : State) (reply : Reply) (done : Bool) → writes s.stage ≡ Some (Whole (replaced s.stage)) → is_done reply ≡ done
@@ -455,9 +471,17 @@ pub contacts_noted : (s : State) (reply : Reply) (done : Bool) → s.stage ≡ S
     → with_marks (marked (Some Grown) done s s.reports.marks) s ≡ answered s reply
 contacts_noted s reply done at is = noted s reply (Some Grown) done (ap writes at) is
 
-pub features_noted : (s : State) (reply : Reply) (done : Bool) → writes s.stage ≡ Some Listed → is_done reply ≡ done
+pub features_noted : (s : State) (reply : Reply) (done : Bool) → s.stage ≡ Stage.Listing → is_done reply ≡ done
     → with_marks (marked (Some Listed) done s s.reports.marks) s ≡ answered s reply
-features_noted s reply done at is = noted s reply (Some Listed) done at is
+features_noted s reply done at is = noted s reply (Some Listed) done (ap writes at) is
+
+pub made_noted : (s : State) (reply : Reply) (done : Bool) → s.stage ≡ Stage.MakingFeatures → is_made reply ≡ done
+    → with_marks (marked (Some Made) done s s.reports.marks) s ≡ answered s reply
+made_noted s reply done at is = noted s reply (Some Made) done (ap writes at) is
+
+pub named_noted : (s : State) (reply : Reply) (done : Bool) → s.stage ≡ Stage.BeginningFeatures → is_done reply ≡ done
+    → with_marks (marked (Some Named) done s s.reports.marks) s ≡ answered s reply
+named_noted s reply done at is = noted s reply (Some Named) done (ap writes at) is
 
 pub is_other : (st a : Stage) → is_record (writes a) ≡ false → st ≡ a → is_record (writes st) ≡ false
 is_other st a h e = ap (λ (x : Stage). is_record (writes x)) e ∙ h

@@ -14,3 +14,4 @@ pub mod Noting
 pub mod Hearing
 pub mod Touches
 pub mod ErrorRows
+pub mod FeatureFiles

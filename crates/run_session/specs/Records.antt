@@ -1,9 +1,11 @@
 -- What a run's client and its record are after any answers, and what the record's file has (this profile).
-use Rattle.std.specs.Prelude.{◌≡◌, ◌≤◌, ◌&&◌, ◌||◌, ◌⊎◌, ⊤, ℕ, Bool, true, false, not, Result, Ok, Err, if◌then◌else◌, Option, None, Some, is_some, string_bytes, List, [], ◌∷◌, ◌++◌, ◌<◌, length, map, take, drop}
+use Rattle.std.specs.Prelude.{◌≡◌, ◌≤◌, ◌&&◌, ◌||◌, ◌⊎◌, ⊤, ℕ, Bool, true, false, not, Result, Ok, Err, if◌then◌else◌, Option, None, Some, is_some, string_bytes, codes, List, [], ◌∷◌, ◌++◌, ◌<◌, length, map, take, drop}
 use Rattle.std.specs.Str.{bytes_eq}
 use Rattle.client_core.specs.Calls.{Call, Abort, Send as Sends, behind_call, done_by, Leave as Leaves}
 use Rattle.contact_ledger.specs.ContactTexts.{contacts_text}
 use Rattle.contact_ledger.specs.declared.acts.Act.{Act}
+use Rattle.contact_ledger.specs.FeatureTexts.{features_text, header}
+use Rattle.contact_ledger.specs.declared.features.Feature.{Feature}
 use Rattle.link_world.specs.Reports.{report_text}
 use Rattle.link_world.specs.Showing.{IsRunCall}
 use Rattle.protocol_model.specs.Ends.{ClientEnd}
@@ -229,11 +231,13 @@ pub record Outside : Type 0 where
 abbrev pub lacking : State → List ℕ
 lacking s = if s.book.lost then [] else drop s.book.filed s.pair.recording.text
 
--- what a stage writes: to the record's file, which is forced to the device or not; to that of contacts; to that of features; the report; and a
--- whole file, unless the record stands already
+-- what a stage writes: to the record's file, which is forced to the device or not; to that of contacts; to that of features, which is made
+-- first, and then gets its name; the report; and a whole file, unless the record stands already
 pub data Write : Type 0 where
   Record : (forced : Bool) → Write
   Grown : Write
+  Made : Write
+  Named : Write
   Listed : Write
   Report : Write
   Stood : Write
@@ -243,7 +247,8 @@ abbrev pub writes : Stage → Option Write
 writes stage.Recording = Some (Record false)
 writes stage.Settling = Some (Record true)
 writes stage.Reporting = Some Grown
-writes stage.BeginningFeatures = Some Listed
+writes stage.MakingFeatures = Some Made
+writes stage.BeginningFeatures = Some Named
 writes stage.Listing = Some Listed
 writes stage.Printing = Some Report
 writes stage.Standing = Some Stood
@@ -272,6 +277,8 @@ outcome_by n None text reply o = o
 outcome_by n (Some (Record false)) text reply o = appended n text reply o
 outcome_by n (Some (Record true)) text reply o = kept n text reply o
 outcome_by n (Some Grown) text reply o = o
+outcome_by n (Some Made) text reply o = o
+outcome_by n (Some Named) text reply o = o
 outcome_by n (Some Listed) text reply o = o
 outcome_by n (Some Report) text reply o = o
 outcome_by n (Some Stood) text reply o = o
@@ -281,12 +288,32 @@ abbrev pub is_done : Reply → Bool
 is_done Done = true
 is_done reply = false
 
+-- a file that is made may be there already
+abbrev pub is_made : Reply → Bool
+is_made Found = true
+is_made reply = is_done reply
+
+abbrev pub did : Option Write → Reply → Bool
+did None reply = is_done reply
+did (Some (Record forced)) reply = is_done reply
+did (Some Grown) reply = is_done reply
+did (Some Made) reply = is_made reply
+did (Some Named) reply = is_done reply
+did (Some Listed) reply = is_done reply
+did (Some Report) reply = is_done reply
+did (Some Stood) reply = is_done reply
+did (Some (Whole kept)) reply = is_done reply
+
 -- what is known after something was written, or not
 abbrev pub marked : Option Write → (done : Bool) → State → Marks → Marks
 marked None done s m = m
 marked (Some (Record forced)) done s m = m
 marked (Some Grown) true s m = record m { filed = length s.reports.text }
 marked (Some Grown) false s m = record m { lost = true }
+marked (Some Made) true s m = record m { listed = s.held }
+marked (Some Made) false s m = m
+marked (Some Named) true s m = m
+marked (Some Named) false s m = record m { lists = false }
 marked (Some Listed) true s m = record m { listed = s.held }
 marked (Some Listed) false s m = record m { lists = false }
 marked (Some Report) true s m = record m { printed = true }
@@ -296,7 +323,7 @@ marked (Some Stood) false s m = m
 marked (Some (Whole kept)) done s m = record m { written = with_written kept done m.written }
 
 abbrev pub marked_at : State → Reply → Marks → Marks
-marked_at s reply m = marked (writes s.stage) (is_done reply) s m
+marked_at s reply m = marked (writes s.stage) (did (writes s.stage) reply) s m
 
 abbrev pub with_marks : Marks → State → State
 with_marks m s = record s { reports = record (s.reports) { marks = m } }
@@ -630,13 +657,23 @@ abbrev pub HasTried : State → Type 0
 HasTried s = (is_tried s.book.keeps s.reports.marks.written.kept ≡ true)
     × (is_tried (s.begun && s.reports.named) s.reports.marks.written.contacts ≡ true)
 
--- what holds besides before an effect is asked for: what is printed is the client's report, after its features file; what replaces the features
--- file are the features that the client holds; what is added to the record without being forced completes no feature; nothing is added to a
--- file of contacts that could not be kept; the operator is asked at a pause; what is shown as complete is on the device; and what is said last
--- follows all files
+-- what follows the first line of the text of these features, in the present version
+abbrev pub AreFeaturesLines : List Feature → List ℕ → Type 0
+AreFeaturesLines features lines = (version : _) × (header version ≡ codes "DME-FEATURES 2")
+    × (header version ++ 10 ∷ lines ≡ features_text version features)
+
+-- no two versions have one first line
+abbrev pub IsOneVersion : Type 0
+IsOneVersion = (v w : _) → header v ≡ header w → v ≡ w
+
+-- what holds besides before an effect is asked for: what is printed is the client's report, after its features file; what is made of the
+-- features file, or replaces it, are the features that the client holds, and what it gets are those since the last that it got; what is added
+-- to the record without being forced completes no feature; nothing is added to a file of contacts that could not be kept; the operator is
+-- asked at a pause; what is shown as complete is on the device; and what is said last follows all files
 pub data Want : Type 0 where
   Shown : Want
   Features : Want
+  Growing : Want
   Unforced : Want
   Kept : Want
   Pause : Want
@@ -647,6 +684,7 @@ abbrev pub wants : Stage → Option Want
 wants stage.Printing = Some Shown
 wants stage.MakingFeatures = Some Features
 wants stage.ReplacingFeatures = Some Features
+wants stage.Listing = Some Growing
 wants stage.Recording = Some Unforced
 wants stage.Reporting = Some Kept
 wants stage.Awaiting = Some Pause
@@ -665,6 +703,9 @@ abbrev pub IsDueBy : Option Want → State → Type 0
 IsDueBy None s = ⊤
 IsDueBy (Some Shown) s = (s.text ≡ report_text (end_shown s.pair.end)) × HasTriedFeatures s
 IsDueBy (Some Features) s = IsFeaturesText s.pair.end.client.table.tally.features s.list
+    × (s.held ≡ length s.pair.end.client.table.tally.features)
+IsDueBy (Some Growing) s = AreFeaturesLines (drop s.reports.marks.listed s.pair.end.client.table.tally.features) s.list
+    × (s.held ≡ length s.pair.end.client.table.tally.features)
 IsDueBy (Some Unforced) s = s.pair.recording.telling.counted.features ≤ s.book.settled
 IsDueBy (Some Kept) s = s.reports.marks.lost ≡ false
 IsDueBy (Some Pause) s = IsPaused s
@@ -794,3 +835,26 @@ StopsOn (Err e) s reply t = IsLaterNoting (stopped (is_stop s.stage reply) s) t 
 -- what is neither the client's nor the record's changes
 abbrev pub IsQuiet : State → State → Type 0
 IsQuiet s t = t ≡ record s { stage = t.stage; text = t.text; list = t.list; held = t.held }
+
+-- ---- the features file while it grows
+
+-- it has the text of as many features of the client as are known to be in it
+abbrev pub IsListed : State → List ℕ → Type 0
+IsListed s text = (s.reports.marks.listed ≤ length s.pair.end.client.table.tally.features)
+    × IsFeaturesText (take s.reports.marks.listed s.pair.end.client.table.tally.features) text
+
+-- features are these, and then others
+pub record AddsFeatures (before now : List Feature) : Type 0 where
+  pub more : List Feature
+  pub is : now ≡ before ++ more
+
+-- after an answer a client has its features, and perhaps others; and what is known of the files is what that answer says
+pub record IsNext (s : State) (reply : Reply) (t : State) : Type 0 where
+  pub features : AddsFeatures s.pair.end.client.table.tally.features t.pair.end.client.table.tally.features
+  pub marks : t.reports.marks ≡ marked_at s reply s.reports.marks
+
+-- something is written to it
+abbrev pub is_list : Option Write → Bool
+is_list (Some Made) = true
+is_list (Some Listed) = true
+is_list w = false

@@ -65,6 +65,48 @@ impl Session {
         Ok(())
     }
 
+    /// The features file has what the client holds, under another name, or could not be made.
+    #[tactic(auto, using(crate::proofs::Filing::unmade, crate::proofs::Filing::made_noted))]
+    fn note_made(&mut self, answer: Answer<'_>)
+        requires { self.old.stage ≡ Stage.MakingFeatures }
+        ensures { spec.IsQuiet (spec.answered self.old (the_reply answer.entry)) self.new }
+    {
+        match answer {
+            Answer::Done | Answer::Found => self.listed.settle(),
+            _ => {}
+        }
+    }
+
+    /// The features file is made, and then gets its name.
+    pub(crate) fn made_features(&mut self, answer: Answer<'_>) -> Result<(), AllocError>
+        requires { self.old.stage ≡ Stage.MakingFeatures }
+        ensures quiet { spec.IsQuiet (spec.answered self.old (the_reply answer.entry)) self.new }
+        ensures due { OnOk result (spec.IsDue self.new) }
+        ensures followed { OnOk result (spec.FollowsApart self.old self.new) }
+    {
+        self.note_made(answer);
+        match answer {
+            Answer::Done | Answer::Found => {
+                self.stage = Stage::BeginningFeatures;
+                Ok(())
+            }
+            Answer::Short => Err(AllocError),
+            _ => self.refuse(Kept::Features, answer),
+        }
+    }
+
+    /// The features file has its name, or cannot be written.
+    #[tactic(auto, using(crate::proofs::Filing::undone, crate::proofs::Filing::named_noted))]
+    fn note_named(&mut self, answer: Answer<'_>)
+        requires { self.old.stage ≡ Stage.BeginningFeatures }
+        ensures { self.new ≡ spec.answered self.old (the_reply answer.entry) }
+    {
+        if let Answer::Done = answer {
+            return;
+        }
+        self.listed.is_kept = false;
+    }
+
     /// The features file grows from now on, or cannot be written.
     pub(crate) fn begun_features(&mut self, answer: Answer<'_>) -> Result<(), AllocError>
         requires { self.old.stage ≡ Stage.BeginningFeatures }
@@ -73,7 +115,7 @@ impl Session {
         ensures due { OnOk result (spec.IsDue self.new) }
         ensures followed { OnOk result (spec.FollowsApart self.old self.new) }
     {
-        self.note_listed(answer);
+        self.note_named(answer);
         match answer {
             Answer::Done => self.begin_contacts(),
             Answer::Short => Err(AllocError),
@@ -81,7 +123,7 @@ impl Session {
         }
     }
 
-    /// The features file is made, and then that of contacts begins.
+    /// The file of contacts is made, and then begins.
     pub(crate) fn begin(&mut self, answer: Answer<'_>) -> Result<(), AllocError>
         ensures ran { spec.Keeps self.old self.new }
         ensures book { self.new.book ≡ self.old.book }
@@ -90,16 +132,11 @@ impl Session {
     {
         match (self.stage, answer) {
             (_, Answer::Short) => Err(AllocError),
-            (Stage::MakingFeatures, Answer::Done | Answer::Found) => {
-                self.stage = Stage::BeginningFeatures;
-                Ok(())
-            }
             (Stage::MakingContacts, Answer::Done | Answer::Found) => {
                 self.stage = Stage::BeginningContacts;
                 Ok(())
             }
             (Stage::BeginningContacts, Answer::Done) => self.join(),
-            (Stage::MakingFeatures, _) => self.refuse(Kept::Features, answer),
             _ => self.refuse(Kept::Contacts, answer),
         }
     }

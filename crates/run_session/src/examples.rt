@@ -7,6 +7,9 @@ ghost use Rattle.link_world.specs.declared.connections.pumps.PumpFault.TheVarian
 ghost use Rattle.run_session.specs.Evidence.{course_of, due, ended, given_notes, has_due, noted_open, passed};
 ghost use Rattle.client_core.specs.Calls.{Abort};
 ghost use Rattle.contact_ledger.specs.declared.acts.Act.{Act};
+ghost use Rattle.contact_ledger.specs.declared.features.Feature.{Feature};
+ghost use Rattle.contact_ledger.specs.FeatureTexts.{feature_lines, header};
+ghost use Rattle.contact_ledger.specs.Lines.{text_of};
 ghost use Rattle.protocol_model.specs.Ends.{ClientEnd, end_aborted};
 ghost use Rattle.contact_ledger.specs.ContactTexts.{contacts_text};
 ghost use Rattle.contact_ledger.specs.declared.acts.Act.TheVariants.{Homed, HomedIs};
@@ -15,7 +18,7 @@ ghost use Rattle.effects.specs.Effects.{Append, Keep, Send, Byte, Receive, Remov
 ghost use Rattle.effects.specs.declared.vocabulary.Peer.TheVariants.{Server};
 ghost use Rattle.protocol_model.specs.declared.states.State.TheVariants.{Running, Failing, Aborting, Halted, Done as Completed};
 ghost use Rattle.effects.specs.declared.vocabulary.Growth.TheVariants.{Record, Features, Contacts};
-ghost use Rattle.run_session.specs.Records.{State, Outside, Marks, AsksAt, IsDue, IsDueBy, Unforced, HasTold, HasFollowed, appended, kept, filed_by, lacking, is_due, confirms_pause, Reports, HasReported, reported_text, marked_at, is_stop, stopped, IsFree, IsLater, Ran, nothing, Stops, Turns, closed, seal_if, with_due, with_said};
+ghost use Rattle.run_session.specs.Records.{State, Outside, Marks, AsksAt, IsDue, IsDueBy, Unforced, HasTold, HasFollowed, AreFeaturesLines, appended, kept, filed_by, lacking, is_due, confirms_pause, Reports, HasReported, reported_text, marked_at, is_stop, stopped, IsFree, IsLater, Ran, nothing, Stops, Turns, closed, seal_if, with_due, with_said};
 ghost use Rattle.dme_line.specs.declared.commands.Command.TheVariants.{AbortE as Aborts};
 ghost use Rattle.dme_line.specs.declared.commands.Kind.TheVariants.{AbortE, GoTo, PtMeas};
 ghost use Rattle.dme_line.specs.declared.tags.Tag.TheVariants.{Event, Std};
@@ -27,7 +30,7 @@ ghost use Rattle.run_session.specs.Progress.{cell, clock, full_cells, left, pace
 ghost use Rattle.run_session.specs.declared.progress.Pace.{Pace};
 ghost use Rattle.run_session.specs.declared.runs.Output.{Output};
 ghost use Rattle.session_telling.specs.Dialogues.{Reported};
-ghost use Rattle.run_session.specs.declared.stages.Stage.TheVariants.{Checking, Peeking, Recording, Settling, Reporting, Standing, ReplacingFeatures, ReplacingRecord, ReplacingContacts, Listing, Showing, Sending, Receiving, Awaiting, Returning, Noting, Printing, Closing, Leaving, Ending, Telling, Exiting};
+ghost use Rattle.run_session.specs.declared.stages.Stage.TheVariants.{Checking, Peeking, MakingFeatures, BeginningFeatures, Recording, Settling, Reporting, Standing, ReplacingFeatures, ReplacingRecord, ReplacingContacts, Listing, Showing, Sending, Receiving, Awaiting, Returning, Noting, Printing, Closing, Leaving, Ending, Telling, Exiting};
 
 /// What was added is in the file, and on the device only if it was forced there; of what was not written the file has the first bytes, and
 /// what was safe stays so.
@@ -102,6 +105,21 @@ pub fn whole_rows()
         → s.reports.marks.written.kept ≡ None → IsDue s → ⊥ }
     ensures skipped { (s : State) → s.stage ≡ Ending → s.begun ≡ true → s.reports.named ≡ true
         → s.reports.marks.written.contacts ≡ None → IsDue s → ⊥ }
+{}
+
+/// A features file that lacks the last feature gets its lines, and one that has all gets nothing; what was answered of it is known.
+pub fn list_rows()
+    ensures last { (version : _) (f : Feature) → header version ≡ codes "DME-FEATURES 2"
+        → AreFeaturesLines (f ∷ []) (text_of (feature_lines version f)) }
+    ensures other { (more : List ℕ) → AreFeaturesLines [] (7 ∷ more) → ⊥ }
+    ensures more { (s : State) → s.stage ≡ Listing → s.held ≡ 1
+        → s.pair.end.client.table.tally.features ≡ [] → IsDue s → ⊥ }
+    ensures made { (s : State) (m : Marks) → s.stage ≡ MakingFeatures
+        → marked_at s Found m ≡ record m { listed = s.held } }
+    ensures unmade { (s : State) (m : Marks) → s.stage ≡ MakingFeatures → marked_at s Short m ≡ m }
+    ensures named { (s : State) (m : Marks) → s.stage ≡ BeginningFeatures → marked_at s Done m ≡ m }
+    ensures unnamed { (s : State) (m : Marks) → s.stage ≡ BeginningFeatures
+        → marked_at s Missing m ≡ record m { lists = false } }
 {}
 
 /// What is to be in the file of contacts: the acts that were reported before, and then those that the client has counted on its connection, as

@@ -66,7 +66,6 @@ impl Session {
         if self.run.contacts.is_some() {
             self.tell_contacts()?;
         }
-        self.listed.follow(self.alloc, &self.client)?;
         self.show()
     }
 
@@ -264,17 +263,18 @@ impl Session {
         ensures due { OnOk result (spec.IsDue self.new) }
         ensures followed { OnOk result (spec.Follows self.old self.new) }
     {
-        if !self.listed.is_kept || self.listed.text.is_empty() {
+        if !self.listed.is_kept || self.listed.settled >= self.client.features().len() {
             return self.show_features();
         }
+        self.listed.follow(self.alloc, &self.client)?;
         self.stage = Stage::Listing;
         Ok(())
     }
 
     /// The features file has what it is to have on the device, or cannot be kept.
     #[tactic(auto, using(crate::proofs::Filing::undone, crate::proofs::Filing::features_noted))]
-    pub(crate) fn note_listed(&mut self, answer: Answer<'_>)
-        requires { spec.writes self.old.stage ≡ Some spec.Listed }
+    fn note_listed(&mut self, answer: Answer<'_>)
+        requires { self.old.stage ≡ Stage.Listing }
         ensures { spec.IsQuiet (spec.answered self.old (the_reply answer.entry)) self.new }
     {
         if let Answer::Done = answer {

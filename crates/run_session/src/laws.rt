@@ -1,16 +1,19 @@
 // What follows from the definitions. Each function has laws for its contract and does nothing.
 
-ghost use Rattle.std.specs.Prelude.{◌≡◌, ◌++◌, ℕ, List, Option, length, true, false};
+ghost use Rattle.std.specs.Prelude.{◌≡◌, ◌++◌, ℕ, List, Option, Some, length, true, false};
 ghost use Rattle.contact_ledger.specs.ContactTexts.{contacts_text};
 ghost use Rattle.contact_ledger.specs.declared.acts.Act.{Act};
 ghost use Rattle.dmis_program.specs.Meaning.{Meaning};
 ghost use Rattle.dmis_program.specs.Programs.{IsProgram};
+ghost use Rattle.effects.specs.Effects.{Done, Reply};
 ghost use Rattle.record_text.specs.Heads.{IsPartGiven, AreAsked};
 ghost use Rattle.record_text.specs.Told.{numbered};
 ghost use Rattle.record_text.specs.declared.opening.Beginning.{Beginning};
 ghost use Rattle.record_text.specs.Recordings.{Pair, AreWritten};
 ghost use Rattle.record_text.specs.Runs.{IsRecordOf, IsKilledRun};
 ghost use Rattle.run_session.specs.Records.{State, Outside, IsKept, HasReported, HasFollowed, HasTold, is_filed, pace};
+ghost use Rattle.run_session.specs.Records.{GoesOn, IsDue, IsListed, IsNext, IsOneVersion, Made, Stops, did, is_list, writes};
+ghost use Rattle.run_session.specs.declared.stages.Stage.TheVariants.{Listing, MakingFeatures};
 ghost use Rattle.run_session.specs.Killed.{IsBegun, IsLeft};
 
 /// A run that begins as `begin_record` gives it (`IsBegun`):
@@ -65,4 +68,25 @@ pub fn runs_keep_their_records()
         → IsBegun program part bytes b window first → IsKept first before s o
         → AreWritten (numbered b.connection s.pair.end.client.table.tally.counted)
         → IsLeft o left → IsKilledRun program part bytes left }
+{}
+
+/// The features file while it grows, over the answers of a run:
+///
+/// - `next`: after each answer (`Session::take`) the client has the features that it had, and perhaps others (`IsNext`);
+/// - `made`: once it is made it has the text of the features of the client;
+/// - `grown`: whenever it has grown it has the text of the features of the client then;
+/// - `stays`: while it does not grow, its text stays that of the client's first features, as many as are known to be in it.
+///
+/// What is assumed: that no two versions of a features file have one first line.
+pub fn features_files_grow()
+    ensures next { (first : Pair) (before : List (ℕ × Act)) (s t : State) (o : Outside)
+        (reply : Reply) → IsKept first before s o → GoesOn s reply t → Stops s reply t
+        → IsNext s reply t }
+    ensures made { (s t : State) (reply : Reply) → s.stage ≡ MakingFeatures → IsDue s
+        → did (Some Made) reply ≡ true → IsNext s reply t → IsListed t s.list }
+    ensures grown { (s t : State) (text : List ℕ) → IsOneVersion → s.stage ≡ Listing → IsDue s
+        → IsListed s text → IsNext s Done t → IsListed t (text ++ s.list) }
+    ensures stays { (s t : State) (reply : Reply) (text : List ℕ)
+        → is_list (writes s.stage) ≡ false → IsListed s text → IsNext s reply t
+        → IsListed t text }
 {}

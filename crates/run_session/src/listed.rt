@@ -1,12 +1,17 @@
 // The features file, and what it is to have next.
 
-ghost use Rattle.std.specs.Prelude.{◌≡◌, OnOk};
+ghost use Rattle.std.specs.Prelude.{◌≡◌, OnOk, IfOk, drop, length};
+ghost use Rattle.std.specs.List.{AllByRecursion};
+ghost use Rattle.contact_ledger.specs.FeatureTexts.{CanBeWritten};
 ghost use Rattle.order_parts.specs.Kept.{IsFeaturesText};
+ghost use Rattle.run_session.specs.Records as spec;
 
 use client_core::Client;
-use contact_ledger::lines::cut_line;
-use contact_ledger::write_features;
+use contact_ledger::{Feature, write_features};
 use std::alloc::{AllocError, Global};
+
+/// How many bytes the first line of a features file has, with its LF.
+const FIRST_LINE: usize = 15;
 
 /// The features file of a run.
 #[derive(Drop)]
@@ -21,19 +26,31 @@ pub struct Listed {
     pub is_kept: bool,
 }
 
-/// The text by which a features file grows: the features after the first `held`. Fails only if out of memory.
-#[tactic(auto, using(crate::proofs::Growing::all_drop))]
-fn text_after(alloc: Global, client: &Client, held: usize) -> Result<Vec<u8>, AllocError> {
-    let features = client.features();
+/// The lines of a features file after its first one.
+fn without_first_line(text: &[u8]) -> &[u8]
+    ensures { result.now ≡ drop 15 text.now }
+{
+    text.get(FIRST_LINE..).unwrap_or(&[])
+}
+
+/// The lines of these features. Fails only if out of memory.
+#[tactic(auto, using(crate::proofs::Growing::headless))]
+fn lines_of(alloc: Global, features: &[Feature]) -> Result<Vec<u8>, AllocError>
+    requires { AllByRecursion CanBeWritten features.now }
+    ensures { IfOk result (λ lines. spec.AreFeaturesLines features.now lines.items) }
+{
     let mut whole = Vec::new(alloc);
-    if held < features.len() {
-        write_features(&mut whole, &features[held..])?;
-    }
-    let mut text = Vec::new(alloc);
-    if let Some((_, lines)) = cut_line(whole.as_slice()) {
-        text.extend_from_slice(lines)?;
-    }
-    Ok(text)
+    write_features(&mut whole, features)?;
+    Vec::from_slice(alloc, without_first_line(whole.as_slice()))
+}
+
+/// What a features file with the first `count` features of a client gets: the lines of the others. Fails only if out of memory.
+#[tactic(auto, using(crate::proofs::Growing::all_drop))]
+fn text_after(alloc: Global, client: &Client, count: usize) -> Result<Vec<u8>, AllocError>
+    ensures { IfOk result (λ text. spec.AreFeaturesLines
+        (drop count client.now.client.table.tally.features) text.items) }
+{
+    lines_of(alloc, client.features().get(count..).unwrap_or(&[]))
 }
 
 impl Listed {
@@ -54,6 +71,8 @@ impl Listed {
     pub fn whole(&mut self, alloc: Global, client: &Client) -> Result<(), AllocError>
         ensures text { OnOk result (IsFeaturesText client.now.client.table.tally.features
             self.new.text.items) }
+        ensures held { OnOk result (self.new.held
+            ≡ length client.now.client.table.tally.features) }
         ensures same { self.new ≡ record self.old { text = self.new.text; held = self.new.held } }
     {
         let mut text = Vec::new(alloc);
@@ -71,15 +90,15 @@ impl Listed {
         self.settled = self.held;
     }
 
-    /// What a client has completed since is to be added, if the file could be kept so far. Fails only if out of memory.
+    /// What a client has completed since is to be added. Fails only if out of memory.
     pub fn follow(&mut self, alloc: Global, client: &Client) -> Result<(), AllocError>
-        ensures { self.new ≡ record self.old { text = self.new.text; held = self.new.held } }
+        ensures text { OnOk result (spec.AreFeaturesLines (drop self.old.settled
+            client.now.client.table.tally.features) self.new.text.items) }
+        ensures held { OnOk result (self.new.held
+            ≡ length client.now.client.table.tally.features) }
+        ensures same { self.new ≡ record self.old { text = self.new.text; held = self.new.held } }
     {
-        if !self.is_kept {
-            return Ok(());
-        }
-        let more = text_after(alloc, client, self.held)?;
-        self.text.extend_from_slice(more.as_slice())?;
+        self.text = text_after(alloc, client, self.settled)?;
         self.held = client.features().len();
         Ok(())
     }

@@ -556,10 +556,9 @@ impl Session {
             Stage::Warning | Stage::Elapsing | Stage::Pausing | Stage::Limiting => {
                 self.call(answer)
             }
+            Stage::MakingFeatures => self.made_features(answer),
             Stage::BeginningFeatures => self.begun_features(answer),
-            Stage::MakingFeatures | Stage::MakingContacts | Stage::BeginningContacts => {
-                self.begin(answer)
-            }
+            Stage::MakingContacts | Stage::BeginningContacts => self.begin(answer),
             Stage::Checking => self.checked(answer),
             Stage::Timing | Stage::Receiving => self.receive(answer),
             Stage::Sending => self.sent(answer),

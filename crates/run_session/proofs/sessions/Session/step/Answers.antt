@@ -18,8 +18,12 @@ returns-in-BeginningFeatures-clause-goes c = noted_goes _ c.args.self.now c.begu
     (is_other c.self.inside.stage Stage.BeginningFeatures refl c.in-BeginningFeatures.is) c.begun_features.ensures.ran (ap of_file c.begun_features.ensures.book)
 
 pub returns-in-MakingFeatures-clause-goes : goal.returns-in-MakingFeatures-clause-goes
-returns-in-MakingFeatures-clause-goes c = arm _ c.args.self.now c.begin.new.self (the_reply c.args.answer) c.self.view_is
-    (or_quiet c.self.inside.stage Stage.MakingFeatures refl (or_quiet c.self.inside.stage Stage.MakingContacts refl (is_quiet c.self.inside.stage Stage.BeginningContacts refl)) c.in-MakingFeatures.is) c.begin.ensures.ran c.begin.ensures.book
+returns-in-MakingFeatures-clause-goes c = quiet_goes _ c.args.self.now c.made_features.new.self (the_reply c.args.answer) c.self.view_is
+    (is_other c.self.inside.stage Stage.MakingFeatures refl c.in-MakingFeatures.is) c.made_features.ensures.quiet
+
+pub returns-in-MakingContacts-clause-goes : goal.returns-in-MakingContacts-clause-goes
+returns-in-MakingContacts-clause-goes c = arm _ c.args.self.now c.begin.new.self (the_reply c.args.answer) c.self.view_is
+    (or_quiet c.self.inside.stage Stage.MakingContacts refl (is_quiet c.self.inside.stage Stage.BeginningContacts refl) c.in-MakingContacts.is) c.begin.ensures.ran c.begin.ensures.book
 
 pub returns-in-Checking-clause-goes : goal.returns-in-Checking-clause-goes
 returns-in-Checking-clause-goes c = runs_go c.checked.result _ _ c.args.self.now c.checked.new.self (the_reply c.args.answer) c.self.view_is
@@ -83,8 +87,12 @@ returns-in-BeginningFeatures-clause-followed c = on_apart c.begun_features.resul
     (is_paced Apart c.self.inside.stage Stage.BeginningFeatures refl c.in-BeginningFeatures.is) (ap (λ (b : Book). b.short) c.begun_features.ensures.book) c.begun_features.ensures.followed
 
 pub returns-in-MakingFeatures-clause-followed : goal.returns-in-MakingFeatures-clause-followed
-returns-in-MakingFeatures-clause-followed c = on_apart c.begin.result _ c.args.self.now c.begin.new.self c.self.view_is
-    (or_paced Apart c.self.inside.stage Stage.MakingFeatures refl (or_paced Apart c.self.inside.stage Stage.MakingContacts refl (is_paced Apart c.self.inside.stage Stage.BeginningContacts refl)) c.in-MakingFeatures.is) (ap (λ (b : Book). b.short) c.begin.ensures.book) c.begin.ensures.followed
+returns-in-MakingFeatures-clause-followed c = on_apart c.made_features.result _ c.args.self.now c.made_features.new.self c.self.view_is
+    (is_paced Apart c.self.inside.stage Stage.MakingFeatures refl c.in-MakingFeatures.is) (ap (λ (s : State). s.book.short) c.made_features.ensures.quiet) c.made_features.ensures.followed
+
+pub returns-in-MakingContacts-clause-followed : goal.returns-in-MakingContacts-clause-followed
+returns-in-MakingContacts-clause-followed c = on_apart c.begin.result _ c.args.self.now c.begin.new.self c.self.view_is
+    (or_paced Apart c.self.inside.stage Stage.MakingContacts refl (is_paced Apart c.self.inside.stage Stage.BeginningContacts refl) c.in-MakingContacts.is) (ap (λ (b : Book). b.short) c.begin.ensures.book) c.begin.ensures.followed
 
 pub returns-in-Checking-clause-followed : goal.returns-in-Checking-clause-followed
 returns-in-Checking-clause-followed c = on_filed c.checked.result _ c.args.self.now c.checked.new.self c.self.view_is
@@ -152,8 +160,14 @@ returns-in-BeginningFeatures-clause-stops c = still c.begun_features.result _ c.
     (answered_later c.args.self.now c.begun_features.new.self (the_reply c.args.answer) c.begun_features.ensures.ran) c.begun_features.ensures.book
 
 pub returns-in-MakingFeatures-clause-stops : goal.returns-in-MakingFeatures-clause-stops
-returns-in-MakingFeatures-clause-stops c = still c.begin.result _ c.args.self.now c.begin.new.self (the_reply c.args.answer) c.self.view_is
-    (or_still (the_reply c.args.answer) c.self.inside.stage Stage.MakingFeatures (refl, refl) (or_still (the_reply c.args.answer) c.self.inside.stage Stage.MakingContacts (refl, refl) (is_still (the_reply c.args.answer) c.self.inside.stage Stage.BeginningContacts (refl, refl))) c.in-MakingFeatures.is)
+returns-in-MakingFeatures-clause-stops c = still c.made_features.result _ c.args.self.now c.made_features.new.self (the_reply c.args.answer) c.self.view_is
+    (is_still (the_reply c.args.answer) c.self.inside.stage Stage.MakingFeatures (refl, refl) c.in-MakingFeatures.is)
+    (answered_later c.args.self.now c.made_features.new.self (the_reply c.args.answer) (quiet_keeps (answered c.args.self.now (the_reply c.args.answer)) c.made_features.new.self c.made_features.ensures.quiet))
+    (ap (λ (s : State). s.book) c.made_features.ensures.quiet)
+
+pub returns-in-MakingContacts-clause-stops : goal.returns-in-MakingContacts-clause-stops
+returns-in-MakingContacts-clause-stops c = still c.begin.result _ c.args.self.now c.begin.new.self (the_reply c.args.answer) c.self.view_is
+    (or_still (the_reply c.args.answer) c.self.inside.stage Stage.MakingContacts (refl, refl) (is_still (the_reply c.args.answer) c.self.inside.stage Stage.BeginningContacts (refl, refl)) c.in-MakingContacts.is)
     (later c.args.self.now c.begin.new.self c.begin.ensures.ran) c.begin.ensures.book
 
 pub returns-in-Timing-clause-stops : goal.returns-in-Timing-clause-stops
