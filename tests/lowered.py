@@ -242,17 +242,27 @@ class Made:
         line = self.add(f"GOTO/INCR,{distance[0]},{','.join(direction)}")
         return lambda flow: flow.move(line, flow.moved(line, distance, [fractions.Fraction(it) for it in direction]))
 
+    def label(self, letter):
+        """The pieces of a feature's name: letters or a digit as they are, then up to two values, of whole numbers or texts."""
+        names = TEXTS if self.random.random() < 0.6 else [it for it in WHOLE if it not in self.params]
+        values = self.random.choices(names, k=self.random.choice((0, 1, 1, 2, 2)))
+        return [letter + self.random.choice(("", "", "A", "1")), *(f"@{it}" for it in values)]
+
+    def named(self):
+        """Blocks between assignments to texts, so that labels of other pieces are one name more often."""
+        return [(None, self.random.choice((self.touch, self.assignment_of_text))()) for _ in range(self.random.randint(2, 12))]
+
     def touch(self):
-        """A block of one touch, whose label ends with a whole number or with a text."""
-        name, form = self.random.choice([it for it in WHOLE + TEXTS if it not in self.params]), self.random.choice(("CART", "CART", "POL"))
+        """A block of one touch."""
+        pieces, form = self.label("P"), self.random.choice(("CART", "CART", "POL"))
         texts = self.around() if form == "POL" else [self.number() for _ in range(3)]
-        first = self.add(f"MEAS/POINT,F(P@{name}),1")
+        first = self.add(f"MEAS/POINT,F({''.join(pieces)}),1")
         line = self.add(f"PTMEAS/{form},{','.join(it[0] for it in texts)},0,0,1")
         last = self.add("ENDMES")
 
         def carry_out(flow):
             flow.comes_to(first)
-            flow.write(first, f"MEAS/POINT,F(P{flow.values[name]}),1")
+            flow.write(first, f"MEAS/POINT,F({flow.name(first, pieces)}),1")
             flow.comes_to(line)
             values = flow.around(line, texts) if form == "POL" else flow.decimals(line, texts)
             values = ",".join(map(written, flow.micrometres(line, values)))
@@ -270,12 +280,11 @@ class Made:
         diameter, axis, depth = fractions.Fraction(self.random.randint(1, 200), 4), [0, 0, 0], fractions.Fraction(self.random.randint(0, 90), 2)
         axis[PLANES[plane][2]] = self.random.choice((1, -1))
         numbers = [*map(float, centre), *axis, float(diameter)] + [float(depth)] * (kind == "CYLNDR")
-        names, text = [it for it in WHOLE if it not in self.params], None
-        name = self.random.choice(names) if names and self.random.random() < 0.5 else None
-        if name:
+        pieces, text = self.label("B"), None
+        if len(pieces) > 1:
             text = self.number()
             numbers[0] = text[0]
-        label = f"F(B@{name})" if name else "F(B)"
+        label = f"F({''.join(pieces)})"
         self.add(f"{label}=FEAT/{kind},INNER,CART,{','.join(map(str, numbers))}")
         count += 4 * (kind == "CYLNDR" and count > 2)
         first = self.add(f"MEAS/{kind},{label},{count}")
@@ -283,12 +292,12 @@ class Made:
         levels = [(count, 0)] if kind == "CIRCLE" else [((count + 1) // 2, depth / 4), (count // 2, depth * 3 / 4)]
 
         def carry_out(flow):
+            flow.comes_to(first)
+            flow.write(first, f"MEAS/{kind},F({flow.name(first, pieces)}),{count}")
             if count == 2 or kind == "CYLNDR" and depth == 0:
                 raise Refused(last)
             if text:
                 centre[0] = flow.decimals(last, [text])[0]
-            flow.comes_to(first)
-            flow.write(first, f"MEAS/{kind},F(B{flow.values[name] if name else ''}),{count}")
             flow.comes_to(last)
             for most, way in levels:
                 middle = [at + rounded(way * it, 6) for at, it in zip(centre, axis)]
@@ -504,6 +513,15 @@ class Flow:
     def __init__(self, lines):
         self.lines, self.values, self.out, self.leads, self.open, self.calls, self.turns = lines, Scope({}, {}), [], [], [], [], 0
         self.plane, self.unit, self.place, self.passes = PLANES["XYPLAN"], "ANGDEC", None, collections.Counter()
+        self.names = {}
+
+    def name(self, line, pieces):
+        """What pieces are together. With a value among them, other pieces before may not have been the same: they were another feature."""
+        parts = [(it[0] == "@", str(self.values[it[1:]]) if it[0] == "@" else it) for it in pieces]
+        name = "".join(text for _, text in parts)
+        if len(pieces) > 1 and self.names.setdefault(name, parts) != parts:
+            raise Refused(line)
+        return name
 
     def comes_to(self, line):
         self.passes[line] += 1
@@ -626,7 +644,7 @@ def made(seed, again=0):
         for index, macro in enumerate(program.macros):
             if (index, macro) not in below:
                 program.body(macro, index)
-        parts = program.block(3, [])
+        parts = program.block(3, []) if seed % 10 > 1 else program.named()
     last = program.add("ENDFIL")
     for index, macro in below:
         program.body(macro, index)

@@ -15,14 +15,14 @@ use Rattle.program_lowering.proofs.Runs.{Written, run, steps_up_to}
 use Rattle.program_lowering.specs.declared.lowering.Lowered.{Lowered}
 use Rattle.program_lowering.specs.Inches.{all_stated}
 use Rattle.program_lowering.specs.Prompts.{Answer}
-use Rattle.program_lowering.proofs.Names.{◌++◌, ◌∷◌, Bool}
-use Rattle.program_lowering.specs.Carried.{Knows, Seen, all_steps, frames_closed, seen_by, touches_due}
+use Rattle.program_lowering.proofs.Names.{◌++◌, ◌∷◌}
+use Rattle.program_lowering.specs.Carried.{KnowsAll, Seen, all_steps, frames_closed, seen_by, touches_due}
 use Rattle.program_lowering.specs.Cartesian.{all_cartesian, cartesian, reference_after}
 use Rattle.program_lowering.specs.declared.cartesian.Reference.{Reference}
 use Rattle.program_lowering.specs.EvenTouches.{touched_from}
 use Rattle.program_lowering.specs.Valued.{all_valued, valued}
+use Rattle.program_lowering.specs.declared.values.Values.{Values}
 use Rattle.program_flow.specs.Flow.{carried}
-use Rattle.program_flow.specs.Variables.{Entry}
 use Rattle.program_lowering.proofs.EvenLemmas.{AllOn, Sees, due_on, run_through, sees_after, touched_next}
 use Rattle.program_lowering.specs.Lowering.{kept_passes, prepared}
 use Rattle.program_lowering.specs.StoredFrames.{frame_notes, if_stored}
@@ -116,16 +116,16 @@ split_next choices told above left rest ref seen t sees is =
 
 -- what is known below it
 pub goes_round : (frames : List (List ℕ × Point)) (choices : Choices) (answers : List Answer) (text : List ℕ) (told above left : List Statement)
-    (below : List Statement → List Statement) (ref after : Reference) (seen now : Seen) (c d : Carried) (t : Statement) (entries : List Entry)
-    (declared : Bool) → Sees choices told seen → left ≡ t ∷ below (carried above t)
+    (below : List Statement → List Statement) (ref after : Reference) (seen now : Seen) (c d : Carried) (t : Statement) (values : Values)
+    → Sees choices told seen → left ≡ t ∷ below (carried above t)
     → all_steps frames choices c (touches_due choices seen (cartesian ref (valued above t)) ++ cartesian ref (valued above t) ∷ []) ≡ Ok (false, d)
     → after ≡ reference_after ref (cartesian ref (valued above t)) → now ≡ seen_by choices seen (cartesian ref (valued above t))
-    → Knows (carried above t) entries declared → run frames choices (text_reading text).fault (length (lines text))
+    → KnowsAll (carried above t) values → run frames choices (text_reading text).fault (length (lines text))
     (touched_from choices told (all_cartesian ref (all_valued above left))) c ≡ run_of frames choices answers text
-    → (next : List Statement) × Knows next entries declared × ((more : List Statement) × Sees choices more now
+    → (next : List Statement) × KnowsAll next values × ((more : List Statement) × Sees choices more now
     × (run frames choices (text_reading text).fault (length (lines text)) (touched_from choices more (all_cartesian after (all_valued next (below next)))) d
     ≡ run_of frames choices answers text))
-goes_round frames choices answers text told above left below ref after seen now c d t entries declared sees is steps refers looks knows same =
+goes_round frames choices answers text told above left below ref after seen now c d t values sees is steps refers looks knows same =
     let s = cartesian ref (valued above t) in
     let past = goes_past frames choices (text_reading text).fault (length (lines text)) s.line _ _ _ c d
     (split_next choices told above left (below (carried above t)) ref seen t sees is) (due_on choices seen s) steps in

@@ -6,7 +6,8 @@ use Rattle.std.specs.Prelude.{IfSome}
 use Rattle.std.proofs.lemmas.Slice.Eq.{bytes_eq-Decides}
 use Rattle.dmis_text.specs.Statements.{has_open_text}
 use Rattle.program_flow.specs.LookBack.{value_said}
-use Rattle.program_flow.specs.Texts.{appended, expanded}
+use Rattle.std.specs.Result.{result_ok}
+use Rattle.program_flow.specs.Texts.{expanded}
 use Rattle.program_flow.specs.Variables.{Entry, entry_value}
 use Rattle.program_flow.specs.declared.faults.ValueFault.{ValueFault}
 use Rattle.program_lowering.specs.Carried.{AreRead, GivesFeature, IsFeature, IsRead, Knows, line_with, named_as}
@@ -14,7 +15,8 @@ use Rattle.program_lowering.specs.Lowering.{ended}
 use Rattle.program_lowering.specs.OperatorTexts.{is_solid}
 use Rattle.program_lowering.specs.declared.values.FeatureLines.{FeatureLines}
 use Rattle.program_lowering.specs.Valued.{commanded, feature_by, feature_label, has_variables, held_or_none, is_feature, is_word, new_params, valued, valued_as}
-use Rattle.program_lowering.specs.Valued.{valued_params, word_in}
+use Rattle.program_lowering.specs.Labels.{collides}
+use Rattle.program_lowering.specs.Valued.{own_params, params_at, word_in}
 use Rattle.program_lowering.proofs.ValuedLemmas.{GoodWord, first_short, one_line, read_is, same_place}
 
 -- the line of a word
@@ -47,33 +49,28 @@ are_lines s name label line made is word l e = record {
     good : GoodWord s.word
     good = let same = (bytes_eq-Decides s.word (codes "FEAT")).0 is in rw same record { solid = refl; some = omega arith; short = omega arith }
 
--- the label, as it was written
-pub word_is : (text : Result (List ℕ) ValueFault) (name : List ℕ) → appended [] text ≡ Ok name → is_word name ≡ true → word_in text ≡ Some name
-word_is (Ok given) name h w =
-    let is : given ≡ name = cc in ap (λ (x : List ℕ). word_in (Ok x)) is ∙ ap (λ (b : Bool). cond b (Some name) None) w
-word_is (Err fault) name h w = absurd cc
-
-pub feature_is : (above : List Statement) (s : Statement) (entries : List Entry) (declared : Bool) (label : List ℕ)
+pub feature_is : (above : List Statement) (s : Statement) (entries : List Entry) (declared b : Bool) (label : List ℕ)
     → bytes_eq s.word (codes "FEAT") ≡ true → has_open_text s ≡ false → declared ≡ true → s.label ≡ Some label → Knows above entries declared
-    → named_as s (commanded above s) (word_in (expanded (entry_value entries) label)) (valued_params (entry_value entries) s.params) ≡ valued above s
-feature_is above s entries declared label is shut some named k =
+    → b ≡ collides above s
+    → named_as s (commanded above s) (word_in (result_ok (expanded (entry_value entries) label))) (own_params b (entry_value entries) s.params) ≡ valued above s
+feature_is above s entries declared b label is shut some named k clash =
     let so : (has_variables above && is_feature s) ≡ true = rw (sym k.some, some, is, shut) refl in
-    let name : feature_label above s s.label ≡ word_in (expanded (value_said above) label) =
-    ap (feature_label above s) named ∙ ap (λ (b : Bool). cond b (word_in (expanded (value_said above) label)) None) so in
-    rw k.holds.values (same (word_in (expanded (value_said above) label)) ∙ ap (valued_as above s) (sym name))
+    let name : feature_label above s s.label ≡ word_in (result_ok (expanded (value_said above) label)) =
+    ap (feature_label above s) named ∙ ap (λ (b : Bool). cond b (word_in (result_ok (expanded (value_said above) label))) None) so in
+    rw (clash, k.holds.values) (same (word_in (result_ok (expanded (value_said above) label))) ∙ ap (valued_as above s) (sym name))
   where
-    same : (o : Option (List ℕ)) → named_as s (commanded above s) o (valued_params (value_said above) s.params) ≡ valued_as above s o
+    same : (o : Option (List ℕ)) → named_as s (commanded above s) o (params_at above s) ≡ valued_as above s o
     same None = refl
     same (Some name) = refl
 
-pub gives_feature : {E : Type 0} (above : List Statement) (s : Statement) (entries : List Entry) (declared : Bool) (label : List ℕ)
+pub gives_feature : {E : Type 0} (above : List Statement) (s : Statement) (entries : List Entry) (declared b : Bool) (label : List ℕ)
     (r : Result (Option FeatureLines) E) → bytes_eq s.word (codes "FEAT") ≡ true → has_open_text s ≡ false → declared ≡ true
-    → s.label ≡ Some label → Knows above entries declared
-    → IfOk r (λ lines. GivesFeature lines s (commanded above s) (named_as s (commanded above s) (word_in (expanded (entry_value entries) label))
-    (valued_params (entry_value entries) s.params)))
+    → s.label ≡ Some label → Knows above entries declared → b ≡ collides above s
+    → IfOk r (λ lines. GivesFeature lines s (commanded above s) (named_as s (commanded above s) (word_in (result_ok (expanded (entry_value entries) label)))
+    (own_params b (entry_value entries) s.params)))
     → IfOk r (λ lines. GivesFeature lines s (commanded above s) (valued above s))
-gives_feature above s entries declared label r is shut some named k h =
-    subst (λ (v : Statement). IfOk r (λ lines. GivesFeature lines s (commanded above s) v)) (feature_is above s entries declared label is shut some named k) h
+gives_feature above s entries declared b label r is shut some named k clash h =
+    subst (λ (v : Statement). IfOk r (λ lines. GivesFeature lines s (commanded above s) v)) (feature_is above s entries declared b label is shut some named k clash) h
 
 pub readable : {E : Type 0} (s other v : Statement) (r : Result (Option FeatureLines) E) → IfOk r (λ lines. GivesFeature lines s other v)
     → IfOk r (λ lines. IfSome lines (λ f. AreRead f))

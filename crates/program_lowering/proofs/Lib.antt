@@ -27,6 +27,7 @@ pub mod Takes
 pub mod LineParts
 pub mod ValuedLemmas
 pub mod FeatureLemmas
+pub mod LabelLemmas
 pub mod CartesianLemmas
 pub mod ValueBounds
 pub mod PolarLemmas

@@ -16,7 +16,9 @@ use Rattle.program_flow.specs.declared.faults.ValueFault.{ValueFault}
 use Rattle.program_lowering.specs.Carried.{GivesLine, IsRead, Knows, Stay, all_pushed, line_with, pair_of, pushed}
 use Rattle.program_lowering.specs.Lowering.{ended}
 use Rattle.program_flow.specs.Flow.{carried}
-use Rattle.program_lowering.specs.Valued.{assigned_params, commanded, commanding, has_variables, held, held_or_none, new_params, valued_param, valued_params, with_params}
+use Rattle.program_lowering.specs.Labels.{collides}
+use Rattle.program_lowering.specs.Valued.{assigned_params, commanded, commanding, has_variables, held, held_or_none, new_params, own_params, params_at}
+use Rattle.program_lowering.specs.Valued.{valued_param, valued_params, with_params}
 use Rattle.program_lowering.proofs.LineLemmas.{IsHeld, flat_is_line, flat_statement}
 use Rattle.program_lowering.proofs.LineParts.{marked_is}
 use Rattle.program_lowering.proofs.ReadBackLemmas.{line_first}
@@ -231,23 +233,26 @@ gives_assigned above s entries declared done line is k d e =
     gives_made above s (assigned_params above s s.label) line (assign_good s.word is) (rw is refl)
     (e ∙ ap (λ (ps : List (List ℕ)). ended (flat_line (flat s.word ps) 1)) (pair_same above s entries declared done is k d))
 
-pub gives_valued : (above : List Statement) (s : Statement) (entries : List Entry) (declared : Bool) (line : List ℕ)
+pub gives_valued : (above : List Statement) (s : Statement) (entries : List Entry) (declared b : Bool) (line : List ℕ)
     → bytes_eq s.word (codes "ASSIGN") ≡ false → is_none s.label ≡ true → is_among s.word commanding ≡ true → declared ≡ true
-    → Knows above entries declared → line ≡ line_with s.word (valued_params (entry_value entries) s.params) → GivesLine (Some line) s (commanded above s)
-gives_valued above s entries declared line other bare is d k e =
-    gives_made above s (valued_params (value_said above) s.params) line (commanding_good s.word is) (rw (other, sym k.some, d, bare, is) refl)
-    (e ∙ ap (λ (values : Valuation). line_with s.word (valued_params values s.params)) k.holds.values)
+    → Knows above entries declared → b ≡ collides above s → line ≡ line_with s.word (own_params b (entry_value entries) s.params)
+    → GivesLine (Some line) s (commanded above s)
+gives_valued above s entries declared b line other bare is d k clash e =
+    gives_made above s (params_at above s) line (commanding_good s.word is) (rw (other, sym k.some, d, bare, is) refl)
+    (e ∙ (ap (λ (x : Bool). line_with s.word (own_params x (entry_value entries) s.params)) clash
+    ∙ ap (λ (values : Valuation). line_with s.word (own_params (collides above s) values s.params)) k.holds.values))
 
 none_is : (label : Option (List ℕ)) → is_none label ≡ true → None ≡ label
 none_is None h = refl
 none_is (Some label) h = absurd cc
 
 pub gives_same : (above : List Statement) (s : Statement) (entries : List Entry) (declared : Bool) → bytes_eq s.word (codes "ASSIGN") ≡ false
-    → is_none s.label ≡ true → is_among s.word commanding ≡ true → declared ≡ true → Knows above entries declared
+    → is_none s.label ≡ true → is_among s.word commanding ≡ true → declared ≡ true → Knows above entries declared → false ≡ collides above s
     → Stay (entry_value entries) 3990 s.params → commanded above s ≡ s
-gives_same above s entries declared other bare is d k stay =
+gives_same above s entries declared other bare is d k clash stay =
     let good = commanding_good s.word is in
-    let same : valued_params (value_said above) s.params ≡ Ok s.params = subst (λ (values : Valuation). valued_params values s.params ≡ Ok s.params) k.holds.values stay.same in
+    let same : params_at above s ≡ Ok s.params = ap (λ (b : Bool). own_params b (value_said above) s.params) (sym clash)
+    ∙ subst (λ (values : Valuation). valued_params values s.params ≡ Ok s.params) k.holds.values stay.same in
     let fits : nat_le (length (flat_text (flat s.word s.params))) 4000 ≡ true =
     grind (arith, nat_tests, good.short, length-append s.word (marked 47 s.params), stay.short 47, ap length (ap (λ (xs : List ℕ). s.word ++ xs) (marked_is s.params))) in
     rw (other, sym k.some, d, bare, is, same, stay.plain, fits) (ap (λ (l : Option (List ℕ)). record s { label = l }) (none_is s.label bare))

@@ -17,7 +17,8 @@ use Rattle.dmis_program.specs.declared.sayings.StatementMeaning.{StatementMeanin
 use Rattle.dmis_program.specs.declared.sayings.StatementMeaning.TheVariants as said
 use Rattle.dmis_text.specs.Reading.{text_reading}
 use Rattle.std.specs.List.{list_all}
-use Rattle.std.specs.BTreeMap.{insert_entry, is_at}
+use Rattle.std.specs.BTreeMap.{get_by, insert_entry, is_at}
+use Rattle.std.specs.Cmp.Lexicographic.{slice_cmp}
 use Rattle.std.specs.Map.{lookup}
 use Rattle.std.specs.Option.{option_map, unwrap_or}
 use Rattle.std.specs.Ordering.{nat_cmp}
@@ -30,6 +31,7 @@ use Rattle.program_flow.specs.declared.faults.ValueFault.TheVariants as value
 use Rattle.program_lowering.specs.Prompts.{Answer}
 use Rattle.program_lowering.specs.Flats.{flat, flat_line}
 use Rattle.program_flow.specs.Flow.{carried}
+use Rattle.program_lowering.specs.Labels.{first_parts}
 use Rattle.program_lowering.specs.Cartesian.{Triple, cartesian, reference_after}
 use Rattle.program_lowering.specs.Valued.{has_variables, held_or_none, valued, valued_params, feature_by}
 use Rattle.program_lowering.specs.declared.cartesian.Reference.{Reference}
@@ -46,8 +48,10 @@ use Rattle.program_lowering.specs.Lowered.{Refuses}
 use Rattle.program_lowering.specs.StoredFrames.{by_frame, frame_end, frame_start}
 use Rattle.program_lowering.specs.declared.above.Above.{Above}
 use Rattle.tool_rack.specs.Setups.{has_name}
+use Rattle.program_lowering.specs.declared.labels.Labels.{Labels}
 use Rattle.program_lowering.specs.declared.lowering.Lowered.{Lowered}
 use Rattle.program_lowering.specs.declared.values.FeatureLines.{FeatureLines}
+use Rattle.program_lowering.specs.declared.values.Values.{Values}
 use Rattle.program_lowering.specs.declared.words.Choices.{Choices}
 use Rattle.program_lowering.specs.declared.words.Reason.{Reason}
 
@@ -221,6 +225,16 @@ pub record Knows (above : List Statement) (entries : List Entry) (declared : Boo
   pub holds : Holds above entries
   pub some : declared ≡ has_variables above
 
+-- and the parts those by which names were first composed
+abbrev pub parts_in : Labels → List ℕ → Option (List ℕ)
+parts_in labels name = option_map (λ p. p.items) (get_by (λ k. slice_cmp nat_cmp name k.items) labels.parts)
+
+abbrev pub KnowsParts : List Statement → Labels → Type 0
+KnowsParts above labels = (name : List ℕ) → parts_in labels name ≡ first_parts above name
+
+abbrev pub KnowsAll : List Statement → Values → Type 0
+KnowsAll above values = Knows above values.variables values.declared × KnowsParts above values.labels
+
 -- a parameter with its values at the end of a text, and whether it is plain; and several, each after its mark
 abbrev pub pushed : List ℕ → Result (List ℕ) ValueFault → Result (List ℕ × Bool) ValueFault
 pushed old made = and_then made (λ q. Ok (old ++ q, is_plain false q))
@@ -344,10 +358,10 @@ abbrev pub TakesCartesian : Result Bool StatementFault → Carried → Reference
 TakesCartesian result new before after now s due seen = GivesStep result new (due (cartesian before s))
     × (OnOk result (after ≡ reference_after before (cartesian before s)) × OnOk result (now ≡ seen (cartesian before s)))
 
-abbrev pub TakesValued : Result Bool StatementFault → Carried → Reference → Reference → Seen → List Entry → Bool → List Statement → Statement
+abbrev pub TakesValued : Result Bool StatementFault → Carried → Reference → Reference → Seen → Values → List Statement → Statement
     → (Statement → Result (Bool × Carried) Refusal) → (Statement → Seen) → Type 0
-TakesValued result new before after now entries declared above s due seen =
-    TakesCartesian result new before after now (valued above s) due seen × OnOk result (Knows (carried above s) entries declared)
+TakesValued result new before after now values above s due seen =
+    TakesCartesian result new before after now (valued above s) due seen × OnOk result (KnowsAll (carried above s) values)
 
 -- the lines of the flat program of a text, and what was decided; or why there are none
 pub record AreLines (frames : List (List ℕ × Point)) (choices : Choices) (answers : List Answer) (source text notes : List ℕ) : Type 0 where

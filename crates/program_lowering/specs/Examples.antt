@@ -174,6 +174,39 @@ without_values = feature_named (codes "F(@Y)") (codes "X+1" ∷ []) ∷ feature_
     ∷ feature_named [] (codes "X+1" ∷ []) ∷ record feature_by_x { params = codes "'@X" ∷ [] } ∷ record feature_by_x { label = None }
     ∷ record feature_by_x { word = codes "TOL" } ∷ []
 
+-- I and J with these values; a block and a feature that they name, and others that are measured or go to a place
+abbrev pub declare_ij : Statement
+declare_ij = bare (codes "DECL") (codes "GLOBAL" ∷ codes "INTGR" ∷ codes "I" ∷ codes "J" ∷ [])
+
+abbrev pub with_ij : List ℕ → List ℕ → List Statement → List Statement
+with_ij i j above = assign (codes "J") j ∷ assign (codes "I") i ∷ above
+
+abbrev pub point_of : List ℕ → Statement
+point_of label = bare (codes "MEAS") (codes "POINT" ∷ label ∷ [])
+
+abbrev pub of_ij : Statement
+of_ij = point_of (codes "F(P@I@J)")
+
+abbrev pub p111 : Statement
+p111 = point_of (codes "F(P111)")
+
+abbrev pub feature_ij : Statement
+feature_ij = feature_named (codes "F(P@I@J)") (codes "POINT" ∷ [])
+
+abbrev pub to_ij : Statement
+to_ij = bare (codes "GOTO") (codes "@I@J" ∷ codes "F(P@I@J)" ∷ [])
+
+-- what is above for 1 and 11, and these for 11 and 1
+abbrev pub one_eleven : List Statement
+one_eleven = with_ij (codes "1") (codes "11") (declare_ij ∷ [])
+
+abbrev pub eleven_one : List Statement → List Statement
+eleven_one above = with_ij (codes "11") (codes "1") (above ++ one_eleven)
+
+-- T with these letters
+abbrev pub with_t : List ℕ → List Statement → List Statement
+with_t text above = assign (codes "T") text ∷ above
+
 -- statements on lines; and a round over a bore that is given its touches, with a statement that is left out
 abbrev pub on_line : ℕ → Statement → Statement
 on_line line s = record s { line = line }

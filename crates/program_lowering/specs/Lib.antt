@@ -7,6 +7,7 @@ pub mod Flats
 pub mod OperatorTexts
 pub mod Inches
 pub mod Prompts
+pub mod Labels
 pub mod Valued
 pub mod Cartesian
 pub mod PolarNearness

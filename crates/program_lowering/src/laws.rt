@@ -23,7 +23,7 @@ ghost use Rattle.program_lowering.specs.declared.cartesian.AngleUnit.TheVariants
 ghost use Rattle.program_lowering.specs.declared.cartesian.Plane.TheVariants.{Xy, Yz, Zx};
 ghost use Rattle.program_lowering.specs.declared.cartesian.Reference.{Reference};
 ghost use Rattle.program_lowering.specs.Acts.{acts_of};
-ghost use Rattle.program_lowering.specs.Examples.{all_choices, assign, bare, declare_x, first_by_hand, manual_front, measured, mode_man, mode_prog, plain_choices, start, to_operator, a_touch, make_a, make_a_on_7, make_b, recall_a, naming_a, naming_none, of_setup, saving, two_frames, labelled, x_is_five, a_move, around, below, by_ten, placed, bore_a, block_a, end_of_block, given_below, minus, moves_on, no_blocks, no_bores, on_line, three_of_a, told_of, two_rounds, upright, from_five, answers_n, ask_n, only_m, deep, four_at, no_cylinders, six_of_a, three_at, to_depth, to_place, told_of_circle, two_ways, feature_a, feature_by_x, feature_named, without_values, declare_t, t_is_bore};
+ghost use Rattle.program_lowering.specs.Examples.{all_choices, assign, bare, declare_x, first_by_hand, manual_front, measured, mode_man, mode_prog, plain_choices, start, to_operator, a_touch, make_a, make_a_on_7, make_b, recall_a, naming_a, naming_none, of_setup, saving, two_frames, labelled, x_is_five, a_move, around, below, by_ten, placed, bore_a, block_a, end_of_block, given_below, minus, moves_on, no_blocks, no_bores, on_line, three_of_a, told_of, two_rounds, upright, from_five, answers_n, ask_n, only_m, deep, four_at, no_cylinders, six_of_a, three_at, to_depth, to_place, told_of_circle, two_ways, feature_a, feature_by_x, feature_named, without_values, declare_t, t_is_bore, declare_ij, eleven_one, feature_ij, of_ij, one_eleven, p111, point_of, to_ij, with_ij, with_t};
 ghost use Rattle.program_lowering.specs.EvenTouches.{EachBelow, all_touched, bore_named, is_touch, last_of, to_centre, touches_before, waiting, end_of, level_at};
 ghost use Rattle.program_lowering.specs.declared.even.Bore.{Bore};
 ghost use Rattle.program_lowering.specs.declared.even.Wanted.{Wanted};
@@ -37,6 +37,8 @@ ghost use Rattle.program_lowering.specs.Prompts.{Answer, answer_of, answered, as
 ghost use Rattle.program_lowering.specs.StoredFrames.{by_frame, frame_note, frame_notes, is_used, stored_frame};
 ghost use Rattle.program_lowering.specs.Reasons.{detail, start_text};
 ghost use Rattle.program_flow.specs.Flow.{carried};
+ghost use Rattle.program_flow.specs.LookBack.{value_said};
+ghost use Rattle.program_lowering.specs.Labels.{collides, composed};
 ghost use Rattle.program_lowering.specs.Valued.{held, new_params, valued};
 ghost use Rattle.program_lowering.specs.Words.{left_out};
 ghost use Rattle.program_lowering.specs.declared.words.Choices.{Choices};
@@ -130,6 +132,36 @@ pub fn examples_of_values()
         ≡ Some reason.Leads }
     ensures not_followed { left_out plain_choices (bare (codes "IF") []) ≡ None }
     ensures leads_there { detail reason.Leads (codes "9" ∷ []) ≡ codes "9" }
+{}
+
+/// Labels with values that compose one name, and of which none is refused, compose it of the same parts, wherever they are in a program.
+pub fn one_name_is_one_feature()
+    ensures { (above more : List Statement) (s t : Statement) (name parts others : List ℕ)
+        → composed (value_said above) s ≡ Some (name, parts) → collides above s ≡ false
+        → composed (value_said (more ++ (s ∷ above))) t ≡ Some (name, others)
+        → collides (more ++ (s ∷ above)) t ≡ false → others ≡ parts }
+{}
+
+/// Examples: a label with the name of another feature leaves its statement without parameters; the same parts once more, a label that is written
+/// out, and other words do not.
+#[tactic(auto, unfolding(program_flow::specs::Values::value_within, program_flow::specs::Values::numeral_value, program_flow::specs::Parts::parts_of, program_flow::specs::Numbers::reduced, program_flow::specs::Numbers::gcd_within, program_flow::specs::Numbers::multiplied, program_flow::specs::Texts::expanded_within))]
+pub fn examples_of_labels()
+    ensures same { map (λ above. valued above of_ij) (one_eleven ∷ ((of_ij ∷ one_eleven)
+        ∷ (eleven_one (p111 ∷ []) ∷ (with_ij (codes "1") (codes "11") (eleven_one (of_ij ∷ []))
+        ∷ [])))) ≡ p111 ∷ (p111 ∷ (p111 ∷ (p111 ∷ []))) }
+    ensures other { map (valued (eleven_one (of_ij ∷ []))) (of_ij ∷ (feature_ij ∷ (p111 ∷ (to_ij ∷ []))))
+        ≡ bare (codes "MEAS") [] ∷ (feature_named (codes "F(P111)") [] ∷ (p111
+        ∷ (bare (codes "GOTO") (codes "111" ∷ (codes "F(P111)" ∷ [])) ∷ []))) }
+    ensures of_feature { valued (eleven_one (feature_ij ∷ [])) of_ij ≡ bare (codes "MEAS") [] }
+    ensures same_value { valued (with_ij (codes "5") (codes "5")
+        (point_of (codes "F(P@I)") ∷ (declare_ij ∷ []))) (point_of (codes "F(P@J)"))
+        ≡ point_of (codes "F(P5)") }
+    ensures other_name { collides (with_t (codes "'A-B'") (point_of (codes "F(@T)")
+        ∷ with_t (codes "'A'") (declare_t ∷ []))) (point_of (codes "F(@T)")) ≡ false }
+    ensures piece { collides (with_t (codes "'A'") (point_of (codes "F(@T)")
+        ∷ with_t (codes "'A-B'") (declare_t ∷ []))) (point_of (codes "F(@T-B)")) ≡ true }
+    ensures first_piece { collides (point_of (codes "F@T@T")
+        ∷ with_t (codes "'(A'") (declare_t ∷ [])) (point_of (codes "F(A@T")) ≡ true }
 {}
 
 /// A statement without polar or incremental coordinates stays as it is.
@@ -341,6 +373,7 @@ pub fn examples_of_passes()
 /// Examples: blocks that are given nothing.
 #[tactic(auto, unfolding(program_flow::specs::Values::value_within, program_flow::specs::Values::numeral_value, program_flow::specs::Parts::parts_of, program_flow::specs::Numbers::reduced, program_flow::specs::Numbers::gcd_within, dmis_program::specs::Keywords::keyword_of, dmis_program::specs::Parameters::name_within, dmis_program::specs::Parameters::count_of, dmis_program::specs::Sayings::said_of, dmis_program::specs::Sayings::said_by))]
 pub fn examples_of_blocks_that_stay()
+    ensures empty { given_below (three_of_a ∷ (feature_a [] ∷ (upright ∷ []))) ≡ [] }
     ensures features { map (λ f. given_below (three_of_a ∷ (f ∷ (upright ∷ [])))) no_bores
         ≡ [] ∷ ([] ∷ ([] ∷ ([] ∷ ([] ∷ ([] ∷ ([] ∷ (given_below (three_of_a ∷ (upright ∷ []))
         ∷ ([] ∷ [])))))))) }

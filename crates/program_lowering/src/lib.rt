@@ -8,7 +8,7 @@
 //! - `manual`: what is left to the operator
 //! - `stored`: frames of the setup in place of alignments
 //! - `prompts`: answers to what a program asks for
-//! - `values`: statements with the values of variables; `cartesian`: and with Cartesian coordinates
+//! - `values`: statements with the values of variables; `labels`: the names that these compose; `cartesian`: and with Cartesian coordinates
 //! - `even`: the touches that a block is given
 //! - `heads`: the comments before a flat program
 //! - `above`: what the statements above leave for the one that is judged; `passes`: how often each line was passed
@@ -23,6 +23,7 @@ mod even;
 mod flats;
 mod heads;
 mod inches;
+mod labels;
 pub mod laws;
 mod lines;
 mod lowering;

@@ -6,7 +6,7 @@ ghost use Rattle.dmis_program.specs.Meaning.{closes, ended};
 ghost use Rattle.dmis_program.specs.Outcomes.{fault_at, refused_at, Gives};
 ghost use Rattle.dmis_text.specs.declared.elements.Statement.{Statement};
 ghost use Rattle.program_flow.specs.Left.{IsGiven};
-ghost use Rattle.program_lowering.specs.Carried.{GivesLines, GivesStep, Knows, TakesCartesian, TakesValued, all_steps, entered, followed, left_out_after, nothing_carried, noted, seen_by, step, touch_steps, touched_step, frames_closed, judged_next};
+ghost use Rattle.program_lowering.specs.Carried.{GivesLines, GivesStep, KnowsAll, TakesCartesian, TakesValued, all_steps, entered, followed, left_out_after, nothing_carried, noted, seen_by, step, touch_steps, touched_step, frames_closed, judged_next};
 ghost use Rattle.program_lowering.specs.EvenTouches.{from_centre, given_by, made_at, moving, notice};
 ghost use Rattle.program_lowering.specs.Heads.{names_of};
 ghost use Rattle.program_lowering.specs.declared.words.Reason.TheVariants.{Touched};
@@ -489,14 +489,15 @@ fn take_valued(
     frames: &Frames,
     statement: &Statement,
 ) -> Result<bool, StatementFault>
-    ensures { (above : List Statement) → Knows above values.old.variables values.old.declared
+    ensures { (above : List Statement) → KnowsAll above values.old
         → TakesValued result lowering.new reference.old reference.new even.new
-        values.new.variables values.new.declared above statement.now
+        values.new above statement.now
         (touched_step frames.now choices even.old lowering.old) (seen_by choices even.old) }
 {
     let alloc = lowering.alloc;
-    let feature = values.feature_lines(alloc, statement)?;
-    let line = values.take(alloc, statement)?;
+    let other = values.enter_label(alloc, statement)?;
+    let feature = values.feature_lines(alloc, statement, other)?;
+    let line = values.take(alloc, statement, other)?;
     if let Some(lines) = feature {
         let named = read_back(alloc, statement.line, &lines.label)?;
         let read = read_back(alloc, statement.line, &lines.line)?;
@@ -523,9 +524,9 @@ fn take_given(
 ) -> Result<bool, StatementFault>
     requires { (s : Statement) × IsGiven statements.now given.now s }
     ensures { (above : List Statement) (s : Statement) → IsGiven statements.now given.now s
-        → Knows above values.old.variables values.old.declared
+        → KnowsAll above values.old
         → TakesValued result lowering.new reference.old reference.new even.new
-        values.new.variables values.new.declared above s
+        values.new above s
         (touched_step frames.now choices even.old lowering.old) (seen_by choices even.old) }
 {
     match given {

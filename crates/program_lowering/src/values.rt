@@ -3,6 +3,7 @@
 ghost use Rattle.std.specs.Prelude.{◌≡◌, ◌++◌, ◌∷◌, [], ℕ, List, bytes_eq, codes, IfOk, IfErr, IfSome, IsTrue, Some, false, is_none, true};
 ghost use Rattle.std.specs.List.{list_all};
 ghost use Rattle.std.specs.Option.{option_map};
+ghost use Rattle.std.specs.Result.{result_ok};
 ghost use Rattle.dmis_text.specs.declared.elements.Statement.{Statement};
 ghost use Rattle.dmis_program.specs.Keywords.{is_among};
 ghost use Rattle.program_flow.specs.Flow.{carried};
@@ -11,11 +12,13 @@ ghost use Rattle.program_flow.specs.Numbers.{numeral};
 ghost use Rattle.program_flow.specs.Texts.{Appends, expanded};
 ghost use Rattle.program_flow.specs.Variables.{entry_value};
 ghost use Rattle.program_lowering.specs.Flats.{flat, flat_line};
+ghost use Rattle.program_lowering.specs.Labels.{collides};
 ghost use Rattle.program_lowering.specs.Lowering.{ended};
 ghost use Rattle.program_lowering.specs.OperatorTexts.{is_plain, is_solid, marked};
 ghost use Rattle.program_lowering.specs.Carried as code;
 ghost use Rattle.program_lowering.specs.Valued as spec;
 
+use crate::labels::{Labels, with_values};
 use crate::lines::{is_plain, push_comment};
 use crate::texts::is_among;
 use dmis_program::StatementFault;
@@ -38,6 +41,7 @@ pub(crate) struct Values {
     pub(crate) variables: Variables,
     /// Whether one is declared.
     pub(crate) declared: bool,
+    pub(crate) labels: Labels,
 }
 
 /// The lines from which a `FEAT` is read with its values: one with its label as its word, and one with its parameters.
@@ -197,17 +201,19 @@ fn bare_line(alloc: Global, word: &[u8]) -> Result<Vec<u8>, AllocError>
 impl Values {
     /// No variable is declared.
     pub(crate) fn new(alloc: Global) -> Values
-        ensures { code.Knows [] result.variables result.declared }
+        ensures { code.KnowsAll [] result }
     {
         Values {
             variables: Variables::new(alloc),
             declared: false,
+            labels: Labels::new(alloc),
         }
     }
 
     /// Carries a statement out. False if a value has a fault.
     fn carry_out(&mut self, statement: &Statement) -> Result<bool, AllocError>
-        ensures { (above : List Statement) → code.Knows above self.old.variables self.old.declared
+        ensures labels { self.new.labels ≡ self.old.labels }
+        ensures done { (above : List Statement) → code.Knows above self.old.variables self.old.declared
             → IfOk result (λ done. code.Knows (carried above statement.now) self.new.variables
             self.new.declared × (done ≡ is_none (fault_of (kind_said above) (value_said above)
             statement.now))) }
@@ -222,11 +228,34 @@ impl Values {
         }
     }
 
-    /// The line of a statement with its values, by the variables as they are.
-    fn valued_line(&self, alloc: Global, statement: &Statement) -> Result<Vec<u8>, AllocError>
-        ensures { IfOk result (λ line. line.items ≡ code.line_with statement.now.word
-            (spec.valued_params (entry_value self.now.variables) statement.now.params)) }
+    /// At a statement that is not carried out yet: whether its label has the name of another feature.
+    pub(crate) fn enter_label(
+        &mut self,
+        alloc: Global,
+        statement: &Statement,
+    ) -> Result<bool, AllocError>
+        ensures same { (self.new.variables ≡ self.old.variables)
+            × (self.new.declared ≡ self.old.declared) }
+        ensures known { (above : List Statement) → code.KnowsAll above self.old
+            → IfOk result (λ other. (other ≡ collides above statement.now)
+            × code.KnowsParts (carried above statement.now) self.new.labels) }
     {
+        self.labels.enter(alloc, statement, &self.variables)
+    }
+
+    /// The line of a statement with its values, by the variables as they are. `other` is that its label has the name of another feature.
+    fn valued_line(
+        &self,
+        alloc: Global,
+        statement: &Statement,
+        other: bool,
+    ) -> Result<Vec<u8>, AllocError>
+        ensures { IfOk result (λ line. line.items ≡ code.line_with statement.now.word
+            (spec.own_params other (entry_value self.now.variables) statement.now.params)) }
+    {
+        if other {
+            return bare_line(alloc, &statement.word);
+        }
         let mut text = Vec::from_slice(alloc, &statement.word)?;
         match push_params(&mut text, b'/', &statement.params, &self.variables) {
             Ok(plain) => line_of(alloc, &statement.word, text, plain),
@@ -240,25 +269,23 @@ impl Values {
         &self,
         alloc: Global,
         statement: &Statement,
+        other: bool,
         label: &[u8],
     ) -> Result<Option<FeatureLines>, AllocError>
         requires { bytes_eq statement.now.word (codes "FEAT") ≡ true }
-        ensures { (other : Statement) → IfOk result (λ lines. code.GivesFeature lines statement.now
-            other (code.named_as statement.now other
-            (spec.word_in (expanded (entry_value self.now.variables) label.now))
-            (spec.valued_params (entry_value self.now.variables) statement.now.params))) }
+        ensures { (without : Statement) → IfOk result (λ lines. code.GivesFeature lines
+            statement.now without (code.named_as statement.now without
+            (spec.word_in (result_ok (expanded (entry_value self.now.variables) label.now)))
+            (spec.own_params other (entry_value self.now.variables) statement.now.params))) }
     {
-        let mut name = Vec::new(alloc);
-        match expanded(&mut name, label, &self.variables) {
-            Ok(()) => {}
-            Err(ValueFault::Memory) => return Err(AllocError),
-            Err(_) => return Ok(None),
-        }
+        let Some(name) = with_values(alloc, label, &self.variables)? else {
+            return Ok(None);
+        };
         if !is_word(&name) {
             return Ok(None);
         }
         let label = bare_line(alloc, &name)?;
-        let line = self.valued_line(alloc, statement)?;
+        let line = self.valued_line(alloc, statement, other)?;
         Ok(Some(FeatureLines { label, line }))
     }
 
@@ -267,10 +294,12 @@ impl Values {
         &self,
         alloc: Global,
         statement: &Statement,
+        other: bool,
     ) -> Result<Option<FeatureLines>, AllocError>
         ensures read { IfOk result (λ lines. IfSome lines (λ f. code.AreRead f)) }
         ensures valued { (above : List Statement)
-            → code.Knows above self.now.variables self.now.declared → IfOk result (λ lines.
+            → code.Knows above self.now.variables self.now.declared
+            → other ≡ collides above statement.now → IfOk result (λ lines.
             code.GivesFeature lines statement.now (spec.commanded above statement.now)
             (spec.valued above statement.now)) }
     {
@@ -278,7 +307,7 @@ impl Values {
             return Ok(None);
         }
         match &statement.label {
-            Some(label) => self.named_lines(alloc, statement, label),
+            Some(label) => self.named_lines(alloc, statement, other, label),
             None => Ok(None),
         }
     }
@@ -312,12 +341,14 @@ impl Values {
         &self,
         alloc: Global,
         statement: &Statement,
+        other: bool,
     ) -> Result<Option<Vec<u8>>, AllocError>
         ensures read { IfOk result (λ line. IfSome line (λ l. (s : Statement)
             × code.IsRead l.items s)) }
         ensures valued { (above : List Statement)
             → bytes_eq statement.now.word (codes "ASSIGN") ≡ false
-            → code.Knows above self.now.variables self.now.declared → IfOk result (λ line.
+            → code.Knows above self.now.variables self.now.declared
+            → other ≡ collides above statement.now → IfOk result (λ line.
             code.GivesLine (option_map (λ l. l.items) line) statement.now
             (spec.commanded above statement.now)) }
     {
@@ -327,10 +358,10 @@ impl Values {
         if statement.label.is_some() || !is_commanding(&statement.word) {
             return Ok(None);
         }
-        if all_stay(ROOM, &statement.params, &self.variables) {
+        if !other && all_stay(ROOM, &statement.params, &self.variables) {
             return Ok(None);
         }
-        Ok(Some(self.valued_line(alloc, statement)?))
+        Ok(Some(self.valued_line(alloc, statement, other)?))
     }
 
     /// Carries a statement out. The line from which it is read with its values, if it has any.
@@ -338,12 +369,14 @@ impl Values {
         &mut self,
         alloc: Global,
         statement: &Statement,
+        other: bool,
     ) -> Result<Option<Vec<u8>>, AllocError>
         ensures read { IfOk result (λ line. IfSome line (λ l. (s : Statement)
             × code.IsRead l.items s)) }
+        ensures labels { self.new.labels ≡ self.old.labels }
         ensures valued { (above : List Statement)
             → code.Knows above self.old.variables self.old.declared
-            → IfOk result (λ line. code.Knows (carried above statement.now)
+            → other ≡ collides above statement.now → IfOk result (λ line. code.Knows (carried above statement.now)
             self.new.variables self.new.declared × code.GivesLine
             (option_map (λ l. l.items) line) statement.now (spec.commanded above statement.now)) }
     {
@@ -351,7 +384,7 @@ impl Values {
             let done = self.carry_out(statement)?;
             return Ok(Some(self.assigned_line(alloc, statement, done)?));
         }
-        let line = self.other_line(alloc, statement)?;
+        let line = self.other_line(alloc, statement, other)?;
         self.carry_out(statement)?;
         Ok(line)
     }

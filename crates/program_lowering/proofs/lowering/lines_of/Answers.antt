@@ -13,7 +13,7 @@ use Rattle.program_lowering.proofs.lowering.lines_of.Goals as goal
 pub returns-in_default-next-2 : goal.returns-in_default-next-2
 returns-in_default-next-2 c =
     let known = c.loop-next.invariant in
-    let none = rw c.in_default-next-2.is at (c.in-Ok-next.ensures.given known.0 known.1.holds) in
+    let none = rw c.in_default-next-2.is at (c.in-Ok-next.ensures.given known.0 known.1.0.holds) in
     let end = c.in-Ok.ensures.end ∙ c.new-statements.ensures.fault in
     let count = c.lines.ensures ∙ (c.in-Ok.ensures.lines ∙ c.new-statements.ensures.lines) in
     let rest = λ (ss : List Statement). touched_from c.args.choices known.2.0 (all_cartesian c.loop-next.reference (all_valued known.0 ss)) in
@@ -23,19 +23,19 @@ returns-in_default-next-2 c =
 pub take_given-requires : goal.take_given-requires
 take_given-requires c =
     let known = c.loop-next.invariant in
-    let next = rw c.in-Some.is at (c.in-Ok-next.ensures.given known.0 known.1.holds) in
+    let next = rw c.in-Some.is at (c.in-Ok-next.ensures.given known.0 known.1.0.holds) in
     (next.0, subst (λ (ss : List Statement). IsGiven ss c.in-Some.given next.0) (sym (c.outside-outside.ensures ∙ c.next.ensures.outside)) next.1)
 
 pub line_of-requires : goal.line_of-requires
 line_of-requires c =
     let known = c.loop-next.invariant in
-    let next = rw c.in-Some.is at (c.in-Ok-next.ensures.given known.0 known.1.holds) in
+    let next = rw c.in-Some.is at (c.in-Ok-next.ensures.given known.0 known.1.0.holds) in
     (next.0, subst (λ (ss : List Statement). IsGiven ss c.in-Some.given next.0) (sym (c.outside-outside.ensures ∙ c.next.ensures.outside)) next.1)
 
 pub returns-in-Ok-true : goal.returns-in-Ok-true
 returns-in-Ok-true c =
     let known = c.loop-next.invariant in
-    let next = rw c.in-Some.is at (c.in-Ok-next.ensures.given known.0 known.1.holds) in
+    let next = rw c.in-Some.is at (c.in-Ok-next.ensures.given known.0 known.1.0.holds) in
     let of = subst (λ (ss : List Statement). IsGiven ss c.in-Some.given next.0) (sym (c.outside-outside.ensures ∙ c.next.ensures.outside)) next.1 in
     let s = cartesian c.loop-next.reference (valued known.0 next.0) in
     let split = split_next c.args.choices known.2.0 known.0 (left_of c.loop-next.flow known.0) (left_of c.next.new.self (carried known.0 next.0))
@@ -50,7 +50,7 @@ returns-in-Ok-true c =
 pub returns-in-Err : goal.returns-in-Err
 returns-in-Err c =
     let known = c.loop-next.invariant in
-    let next = rw c.in-Some.is at (c.in-Ok-next.ensures.given known.0 known.1.holds) in
+    let next = rw c.in-Some.is at (c.in-Ok-next.ensures.given known.0 known.1.0.holds) in
     let of = subst (λ (ss : List Statement). IsGiven ss c.in-Some.given next.0) (sym (c.outside-outside.ensures ∙ c.next.ensures.outside)) next.1 in
     let s = cartesian c.loop-next.reference (valued known.0 next.0) in
     let split = split_next c.args.choices known.2.0 known.0 (left_of c.loop-next.flow known.0) (left_of c.next.new.self (carried known.0 next.0))
@@ -66,21 +66,21 @@ returns-in-Err c =
 pub loop-next-preserved-in-Ok-false : goal.loop-next-preserved-in-Ok-false
 loop-next-preserved-in-Ok-false c =
     let known = c.loop-next.invariant in
-    let next = rw c.in-Some.is at (c.in-Ok-next.ensures.given known.0 known.1.holds) in
+    let next = rw c.in-Some.is at (c.in-Ok-next.ensures.given known.0 known.1.0.holds) in
     let of = subst (λ (ss : List Statement). IsGiven ss c.in-Some.given next.0) (sym (c.outside-outside.ensures ∙ c.next.ensures.outside)) next.1 in
     let taken = c.in-Ok-false.ensures known.0 next.0 of known.1 in
     goes_round c.args.frames.now c.args.choices c.args.answers.now c.args.bytes.now known.2.0 known.0 (left_of c.loop-next.flow known.0) (left_of c.next.new.self)
     c.loop-next.reference c.take_given.new.reference c.loop-next.even c.take_given.new.even c.loop-next.lowering c.take_given.new.lowering next.0
-    c.take_given.new.values.variables c.take_given.new.values.declared known.2.1 next.2 (rw c.in-Ok-false.field-0-test at taken.0.0) taken.0.1.0
+    c.take_given.new.values known.2.1 next.2 (rw c.in-Ok-false.field-0-test at taken.0.0) taken.0.1.0
     taken.0.1.1 taken.1 known.2.2
 
 pub loop-next-preserved : goal.loop-next-preserved
 loop-next-preserved c =
     let known = c.loop-next.invariant in
-    let next = rw c.in-Some.is at (c.in-Ok-next.ensures.given known.0 known.1.holds) in
+    let next = rw c.in-Some.is at (c.in-Ok-next.ensures.given known.0 known.1.0.holds) in
     let of = subst (λ (ss : List Statement). IsGiven ss c.in-Some.given next.0) (sym (c.outside-outside.ensures ∙ c.next.ensures.outside)) next.1 in
     let taken = c.in-Ok-false.ensures known.0 next.0 of known.1 in
     goes_round c.args.frames.now c.args.choices c.args.answers.now c.args.bytes.now known.2.0 known.0 (left_of c.loop-next.flow known.0) (left_of c.next.new.self)
     c.loop-next.reference c.take_given.new.reference c.loop-next.even c.take_given.new.even c.loop-next.lowering c.take_given.new.lowering next.0
-    c.take_given.new.values.variables c.take_given.new.values.declared known.2.1 next.2 (rw c.in-Ok-false.field-0-test at taken.0.0) taken.0.1.0
+    c.take_given.new.values known.2.1 next.2 (rw c.in-Ok-false.field-0-test at taken.0.0) taken.0.1.0
     taken.0.1.1 taken.1 known.2.2

@@ -15,9 +15,9 @@ returns-then-is_text-clause-read c =
     )
 
 pub returns-then-is_text-clause-valued : goal.returns-then-is_text-clause-valued
-returns-then-is_text-clause-valued c above k =
+returns-then-is_text-clause-valued c above k clash =
     let is : bytes_eq c.args.statement.now.word (codes "ASSIGN") ≡ true = search rules in
-    let out = c.in_ok-done.ensures above k in (
+    let out = c.in_ok-done.ensures.done above k in (
       out.0,
       gives_assigned above c.args.statement.now c.carry_out.new.self.variables c.carry_out.new.self.declared c.in_ok-done.done
           c.in_ok-assigned_line.field-0.items is out.0 out.1 c.in_ok-assigned_line.ensures,
