@@ -10,6 +10,7 @@ run_begun run a bytes (Some e) (Some start) pair r is session = record {
   p = r.p;
   program = r.program;
   b = r.b;
+  kept = r.kept;
   begun = record {
     begins = subst (λ (x : Option (List ℕ)). IsRecordRead (part_of run) (Some r.p) (Some r.b) x) is r.recorded;
     can = r.starts.0;

@@ -1,7 +1,8 @@
 -- All files that a call names are compared, one after another.
-use Rattle.run_opening.proofs.Names.{[], ◌++◌, ◌<◌, ◌∙◌, ◌≡◌, arith, Bool, false, is_some, List, None, Ok, Option, Err, OnOk, Result, Run, Some, subst, sym, true, true≢false, ℕ}
+use Rattle.run_opening.proofs.Names.{[], ◌++◌, ◌<◌, ◌∙◌, ◌≡◌, arith, false, is_some, List, None, Option, OnOk, Result, Run, Some, subst, sym, true, true≢false, ℕ}
 use Rattle.std.proofs.Common.{◌∷◌, ◌≤◌, ◌⊎◌, ap, inl, inr, map, refl, suc}
 use Rattle.std.proofs.lemmas.List.{map-append}
+use Rattle.std.proofs.lemmas.Result.{on_ok_weaker}
 use Rattle.std.specs.Prelude.{option_map, string_bytes}
 use Rattle.effects.specs.Effects.{Reply}
 use Rattle.effects.proofs.Comparing.{apart_more, or_not, same_or_less, seen_last, seen_more}
@@ -95,10 +96,6 @@ joined run x next cs pushed c a h clear few more = record {
   covers = joined_covers run (seen_of x) next a.placeless a.seen few h.covers;
 }
 
-on_ok : {A E : Type 0} (r : Result A E) (P Q : Type 0) → (P → Q) → OnOk r P → OnOk r Q
-on_ok (Ok a) P Q f p = f p
-on_ok (Err e) P Q f p = tt
-
 -- a file joins those before it, whose core is this
 abbrev pub Adds : Seen → List Seen → Core → State → Type 0
 Adds x called c t = (run : Run) (o : Outside) → IsComparing run x.at called c o.answered
@@ -108,7 +105,7 @@ Adds x called c t = (run : Run) (o : Outside) → IsComparing run x.at called c 
 pub numbered_on : {A E : Type 0} (r : Result A E) (s t : State) (at : ℕ) (reply : Reply) (x : Seen) (called : List Seen) (c : Core)
     → s.stage ≡ stage.Numbering at → x ≡ record { at = at; place = s.text; node = bytes_of reply } → called ≡ s.called → c ≡ s.core
     → OnOk r (Adds x called c t) → OnOk r (GoesOn s reply t)
-numbered_on r s t at reply x called c is same same_called same_core joins = on_ok r (Adds x called c t) (GoesOn s reply t) (λ join run o h.
+numbered_on r s t at reply x called c is same same_called same_core joins = on_ok_weaker r (λ join run o h.
     let k : IsComparing run at s.called s.core o.answered × ((s.text ≡ o.answered.place) × (o.answered.last ≡ at)) = subst (λ (st : Stage). Known st run s o) is h in
     let y : Seen = record { at = at; place = o.answered.place; node = bytes_of reply } in
     let one : x ≡ y = same ∙ ap (λ (l : List ℕ). record { at = at; place = l; node = bytes_of reply }) k.1.0 in

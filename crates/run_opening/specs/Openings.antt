@@ -1,5 +1,5 @@
 -- What is known of a run before its server is called, by what the outside has answered (this profile).
-use Rattle.std.specs.Prelude.{◌≡◌, ◌⊎◌, ◌<◌, ◌++◌, ◌∷◌, [], ℕ, Bool, true, false, List, length, Option, None, Some, is_some, Ok, option_map, string_bytes}
+use Rattle.std.specs.Prelude.{◌≡◌, ◌⊎◌, ◌<◌, ◌++◌, ◌∷◌, [], ⊤, ℕ, Bool, true, false, List, length, Option, None, Some, is_some, Ok, option_map, string_bytes}
 use Rattle.client_core.specs.Clients.{are_ours, may_connect}
 use Rattle.contact_ledger.specs.FeatureTexts.{IsFeatures}
 use Rattle.contact_ledger.specs.declared.features.Feature.{Feature}
@@ -220,6 +220,28 @@ IsRecordRead part (Some p) None bytes = ⊥
 IsRecordRead part (Some p) (Some b) None = ⊥
 IsRecordRead part (Some p) (Some b) (Some bytes) = BeginsWith part p.features bytes b
 
+-- one feature is another: it has its label and its points. Where it comes from may be unknown of either.
+abbrev pub IsAlike : Feature → Feature → Type 0
+IsAlike one other = (one.label ≡ other.label) × (one.points ≡ other.points)
+
+-- features are the first of others, in their order
+abbrev pub AreFirstFeatures : List Feature → List Feature → Type 0
+AreFirstFeatures [] others = ⊤
+AreFirstFeatures (f ∷ fs) [] = ⊥
+AreFirstFeatures (f ∷ fs) (g ∷ gs) = IsAlike f g × AreFirstFeatures fs gs
+
+-- a run gives back the features of a file, if it has these: they are the first of those that it begins with
+abbrev pub GivesBack : Option Beginning → Option (List Feature) → Type 0
+GivesBack b None = ⊤
+GivesBack None (Some features) = ⊥
+GivesBack (Some b) (Some features) = AreFirstFeatures features b.features
+
+-- the features file, if one is named, was read to its end and accepted, and a run gives its features back
+pub record KeepsFile (run : Run) (a : Answered) (b : Beginning) : Type 0 where
+  pub held : Option (List Feature)
+  pub read : is_some run.features ≡ true → AreFeaturesRead held a.features
+  pub first : GivesBack (Some b) held
+
 -- nothing is read yet
 pub record IsFresh (run : Run) (c : Core) : Type 0 where
   pub order : c.order ≡ run
@@ -262,13 +284,14 @@ Reads text.Program run c a = IsPrepared run c a
 Reads text.Key run c a = IsUnderstood run c a × (IsStopKnown run c a × (is_some run.record ≡ true))
 Reads text.Record run c a = IsUnderstood run c a × (IsStopKnown run c a × ((is_some run.record ≡ true) × IsKeyKnown run c a))
 
--- the record is read, and the run continues from it
+-- the record is read, and the run continues from it, with the features of the file
 pub record IsContinued (run : Run) (c : Core) (a : Answered) : Type 0 where
   pub understood : IsUnderstood run c a
   pub free : IsFree run a
   pub named : is_some run.record ≡ true
   pub recorded : IsRecordRead (part_of run) c.program c.beginning a.recorded
   pub sealed : AreSealsKept run a
+  pub first : GivesBack c.beginning c.features
 
 -- a client that may connect has come to this connection, and its record has this text
 abbrev pub Starts : ℕ → ClientEnd → List ℕ → Option ClientEnd → Option Start → Type 0
@@ -293,13 +316,14 @@ pub record BeginsAlone (run : Run) (a : Answered) (client : Option ClientEnd) (s
   pub ours : are_ours p.features kept ≡ true
   pub starts : Starts 1 (new_client_end p kept run.window) [] client start
 
--- with one it has what the record gives, and the record's file has its text
+-- with one it has what the record gives, which begins with the features of the file, and the record's file has its text
 pub record BeginsRecorded (run : Run) (a : Answered) (client : Option ClientEnd) (start : Option Start) : Type 0 where
   pub p : Meaning
   pub program : IsProgramOf p a
   pub b : Beginning
   pub recorded : IsRecordRead (part_of run) (Some p) (Some b) a.recorded
   pub sealed : AreSealsKept run a
+  pub kept : KeepsFile run a b
   pub filled : a.is_filled ≡ true
   pub ours : are_ours p.features b.features ≡ true
   pub starts : Starts b.connection (new_client_end p b.features run.window) b.text.items client start

@@ -1,10 +1,7 @@
 // The client of a run, and what is said before its server is called.
 
 ghost use Rattle.std.specs.Prelude.{◌≡◌, ◌≤◌, true, length, OnOk, IfOk};
-ghost use Rattle.client_core.specs.Clients.{may_connect};
-ghost use Rattle.contact_ledger.specs.Ledgers.{connection_most};
-ghost use Rattle.protocol_model.specs.Ends.{end_connected};
-ghost use Rattle.record_text.specs.Growths.{begun};
+ghost use Rattle.run_opening.specs.Names.{begun, connection_most, end_connected, may_connect};
 ghost use Rattle.run_opening.specs.Openings as spec;
 
 use crate::openings::Opening;

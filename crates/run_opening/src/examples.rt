@@ -1,7 +1,7 @@
 // Examples: what comes of an answer, and what is known. Each function has laws for its contract and does nothing.
 
-ghost use Rattle.std.specs.Prelude.{◌≡◌, [], ◌∷◌, true, false, Some, None, is_some, codes};
-ghost use Rattle.run_opening.specs.Names.{Run, Bytes, End, Missing, Done, Found, State, Outside, Known, outcome, read, is_there, untouched, Disturbs, AreApart, Covers, given, is_written, name_at, written};
+ghost use Rattle.std.specs.Prelude.{◌≡◌, [], ◌∷◌, true, false, List, Option, Some, None, is_some, codes, pos};
+ghost use Rattle.run_opening.specs.Names.{Run, Answered, Beginning, Feature, AreFeaturesRead, AreFirstFeatures, KeepsFile, Bytes, End, Missing, Done, Found, State, Outside, Known, outcome, read, is_there, untouched, Disturbs, AreApart, Covers, given, is_written, name_at, written};
 ghost use Rattle.run_opening.specs.declared.stages.Stage.TheVariants as stage;
 ghost use Rattle.run_opening.specs.declared.stages.Text.TheVariants as text;
 
@@ -71,6 +71,30 @@ pub fn ready_rows()
         → is_some run.stop ≡ true → o.answered.stop ≡ Some true → ⊥ }
     ensures unconfirmed { (run : Run) (s : State) (o : Outside) → Known stage.Ready run s o
         → run.confirm ≡ true → o.typed ≡ 121 ∷ [] → ⊥ }
+{}
+
+/// Features are the first of themselves and more, wherever they come from, but not in another order, nor if there are fewer, if a label
+/// differs, or a point, or the number of points. No run keeps a file with a feature whose record gives none back.
+pub fn first_rows()
+    ensures none { (f : Feature) → AreFirstFeatures [] (f ∷ []) }
+    ensures one { (f g : Feature) → AreFirstFeatures (f ∷ []) (f ∷ g ∷ []) }
+    ensures origin { (f g : Feature) → f.label ≡ g.label → f.points ≡ g.points
+        → f.origin ≡ None → AreFirstFeatures (f ∷ []) (g ∷ []) }
+    ensures order { (f g : Feature) → f.label ≡ codes "A" → g.label ≡ codes "B"
+        → AreFirstFeatures (f ∷ g ∷ []) (g ∷ f ∷ []) → ⊥ }
+    ensures fewer { (f g : Feature) → AreFirstFeatures (f ∷ g ∷ []) (f ∷ []) → ⊥ }
+    ensures label { (f g h : Feature) → g.label ≡ codes "A" → h.label ≡ codes "B"
+        → AreFirstFeatures (f ∷ g ∷ []) (f ∷ h ∷ []) → ⊥ }
+    ensures point { (f g : Feature) → f.points ≡ record { x = pos 1; y = pos 0; z = pos 0 } ∷ []
+        → g.points ≡ record { x = pos 2; y = pos 0; z = pos 0 } ∷ []
+        → AreFirstFeatures (f ∷ []) (g ∷ []) → ⊥ }
+    ensures points { (f g : Feature) → f.points ≡ []
+        → g.points ≡ record { x = pos 1; y = pos 0; z = pos 0 } ∷ []
+        → AreFirstFeatures (f ∷ []) (g ∷ []) → ⊥ }
+    ensures replaced { (run : Run) (a : Answered) (b : Beginning) (f : Feature) → KeepsFile run a b
+        → is_some run.features ≡ true → b.features ≡ []
+        → ((held : Option (List Feature)) → AreFeaturesRead held a.features
+        → held ≡ Some (f ∷ [])) → ⊥ }
 {}
 
 /// No run exits with status 0, or before each of its files was let go.

@@ -95,14 +95,12 @@ impl Opening {
                 let name = self.order.record.take();
                 return self.refuse_file(name, answer);
             }
-            (Stage::LookingFeatures, Answer::Failed(Cause::Device)) => self.hold_contacts(),
-            (Stage::LookingFeatures, Answer::Failed(Cause::Folder)) => self.hold_contacts(),
+            (Stage::LookingFeatures, Answer::Failed(Cause::Device | Cause::Folder)) => {
+                self.hold_contacts()
+            }
             (Stage::LookingFeatures, _) => self.stage = Stage::HoldingFeatures,
             (Stage::HoldingFeatures, _) => return self.held_features(answer),
-            (Stage::LookingContacts, Answer::Failed(Cause::Device)) => {
-                self.stage = Stage::Opening(Text::Setup);
-            }
-            (Stage::LookingContacts, Answer::Failed(Cause::Link)) => {
+            (Stage::LookingContacts, Answer::Failed(Cause::Device | Cause::Link)) => {
                 self.stage = Stage::Opening(Text::Setup);
             }
             (Stage::LookingContacts, _) => self.stage = Stage::HoldingContacts,

@@ -2,7 +2,7 @@
 //!
 //! - `stages`: where it is; `openings`: what it asks, and what it does with an answer
 //! - `naming`: the files that it names, which may not meet; `holding`: those that it locks before it reads any
-//! - `reading`: what it reads, and understands; `records`: the record that it continues
+//! - `reading`: what it reads, and understands; `records`: the record that it continues; `firsts`: features that it gives back
 //! - `noting`: what its record notes of it
 //! - `clients`: its client, and what it says before its server is called; `confirming`: the answer to it
 //! - `sayings`: what it says; `refusing`: how it ends, if nothing is begun
@@ -13,6 +13,7 @@
 mod clients;
 mod confirming;
 pub mod examples;
+mod firsts;
 mod holding;
 mod laws;
 mod naming;

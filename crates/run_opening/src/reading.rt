@@ -252,10 +252,9 @@ impl Opening {
         if self.is_stopped {
             return self.stop_alone();
         }
-        match self.features.take() {
-            Some(features) => self.take_kept(features),
-            None => self.take_kept(FeatureLedger::new(self.alloc)),
-        }
+        let none = FeatureLedger::new(self.alloc);
+        let features = self.features.take().unwrap_or(none);
+        self.take_kept(features)
     }
 
     /// The stop file is there, and no record is named.

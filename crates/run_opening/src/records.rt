@@ -1,33 +1,18 @@
 // The record that a run continues.
 
-ghost use Rattle.std.specs.Prelude.{◌≡◌, Some, option_map, OnOk, IfOk};
+ghost use Rattle.std.specs.Prelude.{◌≡◌, ◌↔◌, Some, option_map, OnOk, IfOk, IsOk, IsTrue};
 ghost use Rattle.effects.specs.Effects.{the_reply};
 ghost use Rattle.run_opening.specs.Openings as spec;
 
+use crate::firsts::are_first;
 use crate::openings::Opening;
 use crate::stages::{Stage, Text};
-use contact_ledger::Feature;
 use dmis_program::Program;
 use effects::Answer;
 use order_parts::{FilesFault, OrderFault};
 use program_review::{write_other_part, write_other_program, write_place};
 use record_text::{Beginning, RecordFault, RecordRefusal, begin_record, false_seal, read_record};
 use std::alloc::{AllocError, Global};
-
-/// Whether the features of a file are the first of those that a record gives back.
-fn are_first(features: &[Feature], recorded: &[Feature]) -> bool {
-    if features.len() > recorded.len() {
-        return false;
-    }
-    for at in 0..features.len() {
-        if features[at].label.as_bytes() != recorded[at].label.as_bytes()
-            || features[at].points.as_slice() != recorded[at].points.as_slice()
-        {
-            return false;
-        }
-    }
-    true
-}
 
 /// What is wrong with a record that is refused: at which line and what, which parts, or which feature and in what.
 fn note(
@@ -139,15 +124,23 @@ impl Opening {
         }
     }
 
-    /// The record is to get the text that the run continues from, unless it does not give back the features of the file.
-    fn fill(&mut self, beginning: Beginning, length: usize) -> Result<(), AllocError>
-        ensures { OnOk result (spec.Fills beginning self.old self.new) }
+    /// Whether the record gives back the features of the file, if one is named.
+    fn gives_back(&self, beginning: &Beginning) -> bool
+        ensures { IsTrue result ↔ spec.GivesBack (Some beginning.now) self.now.core.features }
     {
-        let is_ours = match &self.features {
+        match &self.features {
             Some(features) => are_first(features.list(), beginning.features.list()),
             None => true,
-        };
-        if !is_ours {
+        }
+    }
+
+    /// The record is to get the text that the run continues from, unless it does not give back the features of the file.
+    fn fill(&mut self, beginning: Beginning, length: usize) -> Result<(), AllocError>
+        ensures fills { OnOk result (spec.Fills beginning self.old self.new) }
+        ensures ours { spec.GivesBack (Some beginning) self.old.core.features
+            → IsOk result × (self.new.stage ≡ Stage.Filling) }
+    {
+        if !self.gives_back(&beginning) {
             return self.refuse_order(OrderFault::NotOurs);
         }
         self.beginning = Some(beginning);
