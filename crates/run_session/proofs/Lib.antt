@@ -15,3 +15,4 @@ pub mod Hearing
 pub mod Touches
 pub mod ErrorRows
 pub mod FeatureFiles
+pub mod Steps

@@ -1,5 +1,6 @@
 pub mod ErrorRows
 pub mod Errors
+pub mod Ends
 pub mod Killed
 pub mod Evidence
 pub mod Records

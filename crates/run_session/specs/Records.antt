@@ -159,6 +159,7 @@ pub record State : Type 0 where
   pub list : List ℕ  -- what the features file is to have
   pub held : ℕ  -- how many features it has then
   pub shown : ℕ  -- how many features were shown as complete
+  pub looks : ℕ  -- how often it has looked whether a server that is left leaves, too
 
 -- the text of the acts that were reported before, and then of those that a client has counted on its connection, as many as are known
 abbrev pub reported_text : List (ℕ × Act) → (number told : ℕ) → List Act → List ℕ
@@ -510,7 +511,6 @@ is_before s = false
 -- those on the connection
 abbrev pub is_while : Stage → Bool
 is_while stage.Receiving = true
-is_while stage.Draining = true
 is_while stage.Sending = true
 is_while stage.Awaiting = true
 is_while stage.Returning = true
@@ -532,6 +532,7 @@ is_at_end stage.ReplacingFeatures = true
 is_at_end stage.Printing = true
 is_at_end stage.Parting = true
 is_at_end stage.Closing = true
+is_at_end stage.Draining = true
 is_at_end stage.Leaving = true
 is_at_end stage.DiscardingFeatures = true
 is_at_end stage.DiscardingContacts = true
@@ -834,7 +835,7 @@ StopsOn (Err e) s reply t = IsLaterNoting (stopped (is_stop s.stage reply) s) t 
 
 -- what is neither the client's nor the record's changes
 abbrev pub IsQuiet : State → State → Type 0
-IsQuiet s t = t ≡ record s { stage = t.stage; text = t.text; list = t.list; held = t.held }
+IsQuiet s t = t ≡ record s { stage = t.stage; text = t.text; list = t.list; held = t.held; looks = t.looks }
 
 -- ---- the features file while it grows
 

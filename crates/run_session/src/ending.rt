@@ -1,7 +1,8 @@
 // The end of a run: its files get their whole texts, and its report is printed.
 
-ghost use Rattle.std.specs.Prelude.{◌≡◌, OnOk, None, Some};
+ghost use Rattle.std.specs.Prelude.{◌≡◌, ◌<◌, ◌⊎◌, OnOk, OnErr, None, Some};
 ghost use Rattle.effects.specs.Effects.{the_reply};
+ghost use Rattle.run_session.specs.Ends as ends;
 ghost use Rattle.run_session.specs.Records as spec;
 
 use crate::runs::Kept;
@@ -49,6 +50,8 @@ impl Session {
         ensures quiet { spec.IsQuiet self.old self.new }
         ensures due { OnOk result (spec.IsDue self.new) }
         ensures followed { OnOk result (spec.FollowsApart self.old self.new) }
+        ensures printing { OnOk result (self.new.stage ≡ Stage.Printing) }
+        ensures stays { OnErr result (self.new.stage ≡ self.old.stage) }
     {
         self.text = end_report(self.alloc, &self.client)?;
         self.stage = Stage::Printing;
@@ -89,10 +92,16 @@ impl Session {
 
     /// A file has its whole text, or could not be written.
     pub(crate) fn has_replaced(&mut self, answer: Answer<'_>) -> Result<(), AllocError>
-        requires { spec.writes self.old.stage ≡ Some (spec.Whole (spec.replaced self.old.stage)) }
+        requires whole { spec.writes self.old.stage
+            ≡ Some (spec.Whole (spec.replaced self.old.stage)) }
+        requires late { 1 < ends.steps_left self.old }
+        requires which { (self.old.stage ≡ Stage.ReplacingFeatures)
+            ⊎ ((self.old.stage ≡ Stage.ReplacingRecord)
+            ⊎ (self.old.stage ≡ Stage.ReplacingContacts)) }
         ensures quiet { spec.IsQuiet (spec.answered self.old (the_reply answer.entry)) self.new }
         ensures due { OnOk result (spec.IsDue self.new) }
         ensures followed { OnOk result (spec.FollowsApart self.old self.new) }
+        ensures nears { ends.NearsOn result self.old self.new }
     {
         self.note_replaced(answer)?;
         match self.stage {
@@ -105,6 +114,7 @@ impl Session {
     fn after_report(&self) -> Stage
         ensures plain { spec.wants result ≡ None }
         ensures paced { spec.pace result ≡ spec.Apart }
+        ensures next { (result ≡ Stage.Closing) ⊎ (result ≡ Stage.Leaving) }
     {
         if self.broken.is_none() && self.client.state() == State::Halted {
             Stage::Closing
@@ -120,6 +130,7 @@ impl Session {
         ensures quiet { spec.IsQuiet (spec.answered self.old (the_reply answer.entry)) self.new }
         ensures due { OnOk result (spec.IsDue self.new) }
         ensures followed { OnOk result (spec.FollowsApart self.old self.new) }
+        ensures nears { ends.NearsOn result self.old self.new }
     {
         if let Answer::Done = answer {
             self.is_printed = true;
@@ -138,6 +149,8 @@ impl Session {
         ensures quiet { spec.IsQuiet self.old self.new }
         ensures due { OnOk result (spec.IsDue self.new) }
         ensures followed { OnOk result (spec.FollowsApart self.old self.new) }
+        ensures nears { OnOk result (ends.IsWithin (ends.to_close self.old) self.new) }
+        ensures stays { OnErr result (self.new.stage ≡ self.old.stage) }
     {
         if self.is_short {
             self.tell();
@@ -175,6 +188,7 @@ impl Session {
         ensures quiet { spec.IsQuiet (spec.answered self.old (the_reply answer.entry)) self.new }
         ensures due { OnOk result (spec.IsDue self.new) }
         ensures followed { OnOk result (spec.FollowsApart self.old self.new) }
+        ensures nears { ends.NearsOn result self.old self.new }
     {
         self.note_stood(answer);
         if let Answer::Done = answer {

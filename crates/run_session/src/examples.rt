@@ -24,13 +24,14 @@ ghost use Rattle.dme_line.specs.declared.commands.Kind.TheVariants.{AbortE, GoTo
 ghost use Rattle.dme_line.specs.declared.tags.Tag.TheVariants.{Event, Std};
 ghost use Rattle.dmis_program.specs.declared.features.Touch.{Touch};
 ghost use Rattle.dmis_program.specs.declared.features.Wanted.{Wanted};
+ghost use Rattle.run_session.specs.Ends.{Nears, steps_left};
 ghost use Rattle.run_session.specs.ErrorRows.{row, two};
 ghost use Rattle.run_session.specs.Errors.{Hears, Records, Talk, error_kept, error_line, new_talk, touch_text, with_about, with_written};
 ghost use Rattle.run_session.specs.Progress.{cell, clock, full_cells, left, pace_line, paced};
 ghost use Rattle.run_session.specs.declared.progress.Pace.{Pace};
 ghost use Rattle.run_session.specs.declared.runs.Output.{Output};
 ghost use Rattle.session_telling.specs.Dialogues.{Reported};
-ghost use Rattle.run_session.specs.declared.stages.Stage.TheVariants.{Checking, Peeking, MakingFeatures, BeginningFeatures, Recording, Settling, Reporting, Standing, ReplacingFeatures, ReplacingRecord, ReplacingContacts, Listing, Showing, Sending, Receiving, Awaiting, Returning, Noting, Printing, Closing, Leaving, Ending, Telling, Exiting};
+ghost use Rattle.run_session.specs.declared.stages.Stage.TheVariants.{Checking, Peeking, MakingFeatures, BeginningFeatures, Recording, Settling, Reporting, Standing, ReplacingFeatures, ReplacingRecord, ReplacingContacts, Listing, Showing, Sending, Receiving, Awaiting, Returning, Noting, Printing, Closing, Draining, Leaving, Ending, Telling, Exiting};
 
 /// What was added is in the file, and on the device only if it was forced there; of what was not written the file has the first bytes, and
 /// what was safe stays so.
@@ -120,6 +121,31 @@ pub fn list_rows()
     ensures named { (s : State) (m : Marks) → s.stage ≡ BeginningFeatures → marked_at s Done m ≡ m }
     ensures unnamed { (s : State) (m : Marks) → s.stage ≡ BeginningFeatures
         → marked_at s Missing m ≡ record m { lists = false } }
+{}
+
+/// At the end a stage is followed by later ones alone, and none of them is on the connection; a server that is left is looked at ten times, and
+/// each time counts; the record is tried before the file of contacts, or once after it; and the exit is the last.
+pub fn end_rows()
+    ensures most { (s : State) → s.stage ≡ ReplacingFeatures → steps_left s ≡ 21 }
+    ensures again { (s t : State) → s.stage ≡ ReplacingFeatures → t.stage ≡ s.stage → Nears s t → ⊥ }
+    ensures back { (s t : State) → s.stage ≡ Leaving → t.stage ≡ Closing → Nears s t → ⊥ }
+    ensures further { (s t : State) → s.stage ≡ Printing → t.stage ≡ Leaving → Nears s t }
+    ensures received { (s t : State) → s.stage ≡ Printing → t.stage ≡ Receiving → Nears s t → ⊥ }
+    ensures looks { (s t : State) → s.stage ≡ Draining → t.stage ≡ Draining → s.looks ≡ 8
+        → t.looks ≡ 9 → Nears s t }
+    ensures unlooked { (s : State) → s.stage ≡ Draining → s.looks ≡ 0 → steps_left s ≡ 17 }
+    ensures looked { (s : State) → s.stage ≡ Draining → s.looks ≡ 9 → steps_left s ≡ 8 }
+    ensures uncounted { (s t : State) → s.stage ≡ Draining → t.stage ≡ Draining
+        → s.looks ≡ 8 → t.looks ≡ 8 → Nears s t → ⊥ }
+    ensures eleventh { (s t : State) → s.stage ≡ Draining → t.stage ≡ Draining
+        → s.looks ≡ 9 → t.looks ≡ 10 → Nears s t → ⊥ }
+    ensures untried { (s t : State) → s.stage ≡ ReplacingContacts → t.stage ≡ Standing
+        → s.book.keeps ≡ true → s.reports.marks.written.kept ≡ None → Nears s t }
+    ensures tried { (s t : State) → s.stage ≡ ReplacingContacts → t.stage ≡ Standing
+        → s.reports.marks.written.kept ≡ Some true → Nears s t → ⊥ }
+    ensures exit { (s t : State) → s.stage ≡ Exiting → t.stage ≡ Exiting → Nears s t }
+    ensures message { (s t : State) → s.stage ≡ Exiting → t.stage ≡ Telling → Nears s t → ⊥ }
+    ensures earlier { (s t : State) → s.stage ≡ Showing → Nears s t }
 {}
 
 /// What is to be in the file of contacts: the acts that were reported before, and then those that the client has counted on its connection, as

@@ -1,6 +1,6 @@
 // What follows from the definitions. Each function has laws for its contract and does nothing.
 
-ghost use Rattle.std.specs.Prelude.{◌≡◌, ◌++◌, ℕ, List, Option, Some, length, true, false};
+ghost use Rattle.std.specs.Prelude.{◌≡◌, ◌≤◌, ◌++◌, ℕ, List, Option, Some, length, true, false};
 ghost use Rattle.contact_ledger.specs.ContactTexts.{contacts_text};
 ghost use Rattle.contact_ledger.specs.declared.acts.Act.{Act};
 ghost use Rattle.dmis_program.specs.Meaning.{Meaning};
@@ -11,9 +11,10 @@ ghost use Rattle.record_text.specs.Told.{numbered};
 ghost use Rattle.record_text.specs.declared.opening.Beginning.{Beginning};
 ghost use Rattle.record_text.specs.Recordings.{Pair, AreWritten};
 ghost use Rattle.record_text.specs.Runs.{IsRecordOf, IsKilledRun};
+ghost use Rattle.run_session.specs.Ends.{After};
 ghost use Rattle.run_session.specs.Records.{State, Outside, IsKept, HasReported, HasFollowed, HasTold, is_filed, pace};
-ghost use Rattle.run_session.specs.Records.{GoesOn, IsDue, IsListed, IsNext, IsOneVersion, Made, Stops, did, is_list, writes};
-ghost use Rattle.run_session.specs.declared.stages.Stage.TheVariants.{Listing, MakingFeatures};
+ghost use Rattle.run_session.specs.Records.{GoesOn, IsDue, IsListed, IsNext, IsOneVersion, Made, Stops, did, is_at_end, is_list, writes};
+ghost use Rattle.run_session.specs.declared.stages.Stage.TheVariants.{Exiting, Listing, MakingFeatures};
 ghost use Rattle.run_session.specs.Killed.{IsBegun, IsLeft};
 
 /// A run that begins as `begin_record` gives it (`IsBegun`):
@@ -89,4 +90,10 @@ pub fn features_files_grow()
     ensures stays { (s t : State) (reply : Reply) (text : List ℕ)
         → is_list (writes s.stage) ≡ false → IsListed s text → IsNext s reply t
         → IsListed t text }
+{}
+
+/// A run at its end asks for at most 22 effects, whatever is answered (`Session::take`): after that many answers only its exit is left.
+pub fn runs_exit()
+    ensures { (n : ℕ) (s t : State) → is_at_end s.stage ≡ true → After n s t → 22 ≤ n
+        → t.stage ≡ Exiting }
 {}

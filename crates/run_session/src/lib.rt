@@ -34,7 +34,7 @@ mod verdicts;
 
 pub use errors::Errors;
 pub use evidence::Noted;
-pub use laws::{features_files_grow, runs_keep_their_records};
+pub use laws::{features_files_grow, runs_exit, runs_keep_their_records};
 pub use progress::touches_of;
 pub use running::run;
 pub use runs::{Output, Run};

@@ -7,6 +7,7 @@ ghost use Rattle.protocol_model.specs.Ends.{end_connected};
 ghost use Rattle.order_parts.specs.Pauses.{pauses_of, place_seen};
 ghost use Rattle.record_text.specs.Growths.{begun};
 ghost use Rattle.client_core.specs.Clients.{may_connect};
+ghost use Rattle.run_session.specs.Ends as ends;
 ghost use Rattle.run_session.specs.Evidence.{given_notes};
 ghost use Rattle.run_session.specs.Records as spec;
 
@@ -259,6 +260,7 @@ impl Model for Session {
       list = s.listed.text.items;
       held = s.listed.held;
       shown = s.told;
+      looks = s.looks;
     } };
 }
 
@@ -422,7 +424,7 @@ impl Session {
         ensures { spec.Asks self.now (the_ask result) }
     {
         match self.stage {
-            Stage::Receiving | Stage::Draining => Effect::Receive(Peer::Server),
+            Stage::Receiving => Effect::Receive(Peer::Server),
             Stage::Sending => Effect::Send(Peer::Server, self.client.out()),
             Stage::Awaiting | Stage::Returning => Effect::Byte,
             Stage::Stamping | Stage::Noting => Effect::Stamp,
@@ -475,6 +477,7 @@ impl Session {
             Stage::Printing => Effect::Print(self.text.as_slice()),
             Stage::Parting => Effect::Limit(Peer::Server, Some(LOOK_MS), self.run.timeout),
             Stage::Closing => Effect::Close(Peer::Server),
+            Stage::Draining => Effect::Receive(Peer::Server),
             Stage::Leaving => Effect::Leave,
             Stage::DiscardingFeatures => Effect::Discard(File::Features),
             Stage::DiscardingContacts => Effect::Discard(File::Contacts),
@@ -507,14 +510,16 @@ impl Session {
             Stage::MakingContacts | Stage::BeginningContacts => self.asks_before(),
             Stage::Beginning | Stage::Elapsing | Stage::Timing => Effect::Now,
             Stage::Peeking | Stage::Checking => Effect::Exists(self.run.stop_name()),
-            Stage::Receiving | Stage::Draining | Stage::Sending => self.asks_while(),
+            Stage::Receiving | Stage::Sending => self.asks_while(),
             Stage::Awaiting | Stage::Returning => self.asks_while(),
             Stage::Tracing | Stage::Stamping | Stage::Logging => self.asks_while(),
             Stage::Noting => self.asks_while(),
             Stage::Recording | Stage::Settling | Stage::Reporting => self.asks_while(),
             Stage::Warning | Stage::Listing | Stage::Showing => self.asks_while(),
             Stage::ReplacingFeatures | Stage::Printing | Stage::Parting => self.asks_at_end(),
-            Stage::Closing | Stage::Leaving | Stage::Standing => self.asks_at_end(),
+            Stage::Closing | Stage::Draining | Stage::Leaving | Stage::Standing => {
+                self.asks_at_end()
+            }
             Stage::DiscardingFeatures | Stage::DiscardingContacts => self.asks_at_end(),
             Stage::ReplacingRecord | Stage::ReplacingContacts => self.asks_at_end(),
             Stage::Ending | Stage::Telling | Stage::Exiting => self.asks_at_end(),
@@ -532,6 +537,7 @@ impl Session {
             → spec.confirms_pause self.old.stage (the_reply answer.entry) ≡ true
             → self.new.book.pauses ≡ drop 1 self.old.book.pauses }
         ensures stops { spec.Stops self.old (the_reply answer.entry) self.new }
+        ensures nears { ends.Nears self.old self.new }
     {
         if self.step(answer).is_err() {
             self.run_short();
@@ -548,6 +554,8 @@ impl Session {
             → spec.confirms_pause self.old.stage (the_reply answer.entry) ≡ true
             → self.new.book.pauses ≡ drop 1 self.old.book.pauses }
         ensures stops { spec.StopsOn result self.old (the_reply answer.entry) self.new }
+        ensures nears { spec.is_at_end self.old.stage ≡ true
+            → ends.NearsOn result self.old self.new }
     {
         match self.stage {
             Stage::Logged | Stage::Beginning | Stage::Peeking | Stage::Connecting => {
@@ -591,6 +599,7 @@ impl Session {
         ensures quiet { spec.IsQuiet self.old self.new }
         ensures due { spec.IsDue self.new }
         ensures followed { spec.HasFollowed self.new }
+        ensures nears { ends.IsWithin 1 self.new }
     {
         self.message = OUT_OF_MEMORY;
         self.status = 4;
@@ -608,6 +617,20 @@ impl Session {
         self.stage = Stage::Leaving;
     }
 
+    /// Whether it is at its end.
+    fn is_ending(&self) -> bool
+        ensures { result ≡ spec.is_at_end self.now.stage }
+    {
+        match self.stage {
+            Stage::ReplacingFeatures | Stage::Printing | Stage::Parting => true,
+            Stage::Closing | Stage::Draining | Stage::Leaving => true,
+            Stage::DiscardingFeatures | Stage::DiscardingContacts | Stage::Standing => true,
+            Stage::ReplacingRecord | Stage::ReplacingContacts => true,
+            Stage::Ending | Stage::Telling | Stage::Exiting => true,
+            _ => false,
+        }
+    }
+
     /// Memory has run out: the connection is left, and what was counted on it is kept. At the end that is said at once.
     fn run_short(&mut self)
         ensures ran { spec.Keeps (spec.left self.old) self.new }
@@ -616,15 +639,17 @@ impl Session {
         ensures spent { self.new.book.spent ≡ true }
         ensures due { spec.IsDue self.new }
         ensures followed { spec.HasFollowed self.new }
+        ensures nears { spec.is_at_end self.old.stage ≡ true → ends.IsWithin 1 self.new }
     {
+        let is_ending = self.is_ending();
         self.is_spent = true;
         self.break_off(PumpFault::Memory);
-        if self.is_on {
+        if self.is_on && !is_ending {
             self.is_on = false;
             if self.follow().is_err() {
                 self.tell();
             }
-        } else if self.has_begun || self.is_short {
+        } else if self.has_begun || is_ending {
             self.tell();
         } else {
             self.give_up();

@@ -1,6 +1,7 @@
 // What a run says last.
 
-ghost use Rattle.std.specs.Prelude.{◌≡◌, OnOk};
+ghost use Rattle.std.specs.Prelude.{◌≡◌, OnOk, OnErr};
+ghost use Rattle.run_session.specs.Ends as ends;
 ghost use Rattle.run_session.specs.Records as spec;
 
 use crate::{Session, Stage};
@@ -51,6 +52,8 @@ impl Session {
         ensures quiet { spec.IsQuiet self.old self.new }
         ensures due { OnOk result (spec.IsDue self.new) }
         ensures followed { OnOk result (spec.FollowsApart self.old self.new) }
+        ensures nears { OnOk result (ends.IsWithin 1 self.new) }
+        ensures stays { OnErr result (self.new.stage ≡ self.old.stage) }
     {
         let how = match (self.early, self.client.state()) {
             (Some(how), _) => how,
