@@ -7,8 +7,8 @@ ghost use Rattle.contact_ledger.specs.FeatureTexts.{IsFeatures};
 ghost use Rattle.protocol_model.specs.Ends.{end_left};
 ghost use Rattle.dme_c.specs.ClientCalls.{Aborts, Connects, Feeds, HasText, IsTextOf, Reads, Resumes, Sends, Takes};
 
-use crate::client_handles::ClientHandle;
 use crate::codes::{call_number, number_of_state, read_number};
+use crate::handles::ClientHandle;
 use crate::room::{copy_front, copy_whole};
 use client_core::Client;
 use contact_ledger::laws::written_features_are_read_back;
@@ -63,6 +63,7 @@ pub extern "C" fn dme_client_send(client: &mut ClientHandle, alloc: Global) -> u
 }
 
 /// Reads the first whole line, if there is one.
+#[tactic(auto, using(crate::proofs::Calls::called_lent))]
 #[unsafe(no_mangle)]
 pub extern "C" fn dme_client_read(client: &mut ClientHandle, alloc: Global) -> u32
     requires { IsSome client.old.held }

@@ -6,8 +6,8 @@ ghost use Rattle.dmis_program.specs.Meaning.{program_of};
 ghost use Rattle.protocol_model.specs.Ends.{ClientEnd};
 ghost use Rattle.dme_c.specs.Making.{AnswersJust, IsBadSetup, IsBadProgram, IsBadFeatures, IsBadWindow, IsNotOurs, IsClientOf, IsWhy};
 
-use crate::client_handles::ClientHandle;
 use crate::codes::{NotMade, refusal_number};
+use crate::handles::ClientHandle;
 use crate::texts::{features_read, program_read, setup_read};
 use client_core::{Client, NewFault};
 use contact_ledger::laws::features_are_read_in_one_way;

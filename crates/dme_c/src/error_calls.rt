@@ -6,7 +6,7 @@ ghost use Rattle.dme_c.specs.Codes.{call_answer};
 ghost use Rattle.dme_c.specs.Hearings.{Passes, PassesCame, PassesSent, TakesError, joined, silence};
 
 use crate::codes::call_number;
-use crate::error_handles::ErrorsHandle;
+use crate::handles::ErrorsHandle;
 use crate::hearings::{Heard, Hearing};
 use std::alloc::Global;
 
@@ -49,6 +49,7 @@ pub extern "C" fn dme_errors_connected(errors: &mut ErrorsHandle, alloc: Global)
 }
 
 /// Bytes were sent to the server.
+#[tactic(auto, using(crate::proofs::Calls::called_lent))]
 #[unsafe(no_mangle)]
 pub extern "C" fn dme_errors_sent(errors: &mut ErrorsHandle, alloc: Global, piece: &[u8]) -> u32
     requires { IsSome errors.old.held }
@@ -62,6 +63,7 @@ pub extern "C" fn dme_errors_sent(errors: &mut ErrorsHandle, alloc: Global, piec
 }
 
 /// Bytes came from the server.
+#[tactic(auto, using(crate::proofs::Calls::called_lent))]
 #[unsafe(no_mangle)]
 pub extern "C" fn dme_errors_came(errors: &mut ErrorsHandle, alloc: Global, piece: &[u8]) -> u32
     requires { IsSome errors.old.held }

@@ -1,6 +1,6 @@
 //! The cores of a client and of a server, for callers in C: each function is declared in `include/dme.h`, with what its caller must ensure.
 //!
-//! - `client_handles`, `server_handles`, `record_handles`, `error_handles`: what a caller holds, and how it is taken out and put back
+//! - `handles`: what a caller holds, and how it is taken out and put back
 //! - `client_making`, `client_calls`, `next`, `server_calls`, `server_jobs`, `refusals`, `touches`: the functions that are exported
 //! - `record_making`, `record_calls`: likewise those of a record; `recordings`: what it holds
 //! - `error_calls`: likewise those of a server's errors; `hearings`: what follows them
@@ -10,21 +10,18 @@
 #![tactic(auto)]
 
 mod client_calls;
-mod client_handles;
 mod client_making;
 mod codes;
 mod error_calls;
-mod error_handles;
+mod handles;
 mod hearings;
 mod next;
 mod record_calls;
-mod record_handles;
 mod record_making;
 mod recordings;
 mod refusals;
 mod room;
 mod server_calls;
-mod server_handles;
 mod server_jobs;
 mod texts;
 mod touches;

@@ -6,7 +6,7 @@ ghost use Rattle.client_core.specs.Tables.{planned_command};
 ghost use Rattle.dme_c.specs.Next.{command_normal, command_number, command_place, kind_number, next_feature};
 ghost use Rattle.dme_c.specs.ServerCalls.{AreZero};
 
-use crate::client_handles::ClientHandle;
+use crate::handles::ClientHandle;
 use client_core::Client;
 use dme_line::{Command, Kind};
 use fixed_um::{Dir, Point};

@@ -5,9 +5,8 @@ ghost use Rattle.dme_c.specs.Calls.{Called};
 ghost use Rattle.dme_c.specs.Codes.{call_answer};
 ghost use Rattle.dme_c.specs.Recordings.{CalledBoth, Connects, Follows, Resumes, Takes};
 
-use crate::client_handles::ClientHandle;
 use crate::codes::call_number;
-use crate::record_handles::RecordHandle;
+use crate::handles::{ClientHandle, RecordHandle};
 use std::alloc::Global;
 
 /// Drops the record.
@@ -40,6 +39,7 @@ pub extern "C" fn dme_record_follow(
 }
 
 /// The client comes to the next connection of the record.
+#[tactic(auto, using(crate::proofs::Calls::called_both))]
 #[unsafe(no_mangle)]
 pub extern "C" fn dme_record_connected(
     kept: &mut RecordHandle,
@@ -60,6 +60,7 @@ pub extern "C" fn dme_record_connected(
 }
 
 /// The client resumes its plan after the last completed feature.
+#[tactic(auto, using(crate::proofs::Calls::called_both))]
 #[unsafe(no_mangle)]
 pub extern "C" fn dme_record_resume(
     kept: &mut RecordHandle,

@@ -16,9 +16,8 @@ ghost use Rattle.record_text.specs.Beginnings.{BeginsWith};
 ghost use Rattle.record_text.specs.declared.opening.RecordRefusal.TheVariants as refusal;
 ghost use Rattle.record_text.specs.declared.versions.Version.TheVariants.{Second};
 
-use crate::client_handles::ClientHandle;
 use crate::codes::NotMade;
-use crate::record_handles::RecordHandle;
+use crate::handles::{ClientHandle, RecordHandle};
 use crate::recordings::Recording;
 use crate::room::copy_whole;
 use crate::texts::{program_read, setup_read};
@@ -199,6 +198,7 @@ fn begun_of(
 }
 
 /// A client and its record, of the texts and what is kept of the record.
+#[tactic(auto, using(crate::proofs::Beginning::all_due, crate::proofs::Beginning::all_of_record, crate::proofs::Beginning::texts_due))]
 fn begun_read(
     alloc: Global,
     setup: &[u8],

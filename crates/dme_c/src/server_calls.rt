@@ -11,8 +11,8 @@ ghost use Rattle.dme_c.specs.Making.{AnswersJust, IsBadSetup};
 ghost use Rattle.dme_c.specs.ServerCalls.{Accepts, Ends, Feeds, Reads, Takes, Turns, line_served, served, server_fault};
 
 use crate::codes::refusal_number;
+use crate::handles::ServerHandle;
 use crate::room::copy_front;
-use crate::server_handles::ServerHandle;
 use crate::texts::setup_read;
 use fixed_um::{Point, Um};
 use line_framing::FramingFault;
@@ -88,6 +88,7 @@ pub extern "C" fn dme_server_free(server: &mut ServerHandle, alloc: Global)
 }
 
 /// Comes to the connection of this number.
+#[tactic(auto, using(crate::proofs::Calls::called_lent))]
 #[unsafe(no_mangle)]
 pub extern "C" fn dme_server_accept(server: &mut ServerHandle, alloc: Global, number: u64) -> u32
     requires { IsSome server.old.held }
@@ -100,6 +101,7 @@ pub extern "C" fn dme_server_accept(server: &mut ServerHandle, alloc: Global, nu
 }
 
 /// Takes bytes of the connection.
+#[tactic(auto, using(crate::proofs::Calls::called_lent))]
 #[unsafe(no_mangle)]
 pub extern "C" fn dme_server_feed(server: &mut ServerHandle, alloc: Global, piece: &[u8]) -> u32
     requires { IsSome server.old.held }
@@ -112,6 +114,7 @@ pub extern "C" fn dme_server_feed(server: &mut ServerHandle, alloc: Global, piec
 }
 
 /// Reads the first whole line, if there is one, and answers it.
+#[tactic(auto, using(crate::proofs::Calls::called_lent))]
 #[unsafe(no_mangle)]
 pub extern "C" fn dme_server_read(server: &mut ServerHandle, alloc: Global) -> u32
     requires { IsSome server.old.held }
@@ -124,6 +127,7 @@ pub extern "C" fn dme_server_read(server: &mut ServerHandle, alloc: Global) -> u
 }
 
 /// Processes the first waiting command.
+#[tactic(auto, using(crate::proofs::Calls::called_lent))]
 #[unsafe(no_mangle)]
 pub extern "C" fn dme_server_turn(server: &mut ServerHandle, alloc: Global) -> u32
     requires { IsSome server.old.held }
@@ -135,6 +139,7 @@ pub extern "C" fn dme_server_turn(server: &mut ServerHandle, alloc: Global) -> u
     call_number(answer)
 }
 
+#[tactic(auto, using(crate::proofs::Calls::called_lent))]
 fn ended(server: &mut ServerHandle, alloc: Global, outcome: Outcome) -> u32
     requires { IsSome server.old.held }
     ensures { Called server.old.held server.new.held (served result) (Ends outcome) }

@@ -4,9 +4,9 @@ ghost use Rattle.std.specs.Prelude.{◌≡◌, ◌<◌, ◌≤◌, None, IsSome,
 ghost use Rattle.protocol_model.specs.Server.{running_job};
 ghost use Rattle.dme_c.specs.ServerCalls.{AreZero, job_number, job_place, job_normal, job_tool};
 
+use crate::handles::ServerHandle;
 use crate::next::components;
 use crate::room::copy_whole;
-use crate::server_handles::ServerHandle;
 use fixed_um::{Dir, Point};
 use server_core::{Job, Server};
 use std::alloc::Global;

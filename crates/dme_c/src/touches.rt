@@ -3,7 +3,7 @@
 ghost use Rattle.std.specs.Prelude.{◌≡◌, ◌≢◌, ◌⊎◌, IfOk, IsSome, IfSome};
 ghost use Rattle.dme_c.specs.Touches.{IsTouchOf, touch_counts};
 
-use crate::client_handles::ClientHandle;
+use crate::handles::ClientHandle;
 use dmis_program::Wanted;
 use session_telling::place_of;
 use std::alloc::{AllocError, Global};

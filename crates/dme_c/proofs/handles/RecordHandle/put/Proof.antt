@@ -1,0 +1,11 @@
+-- `put` of any handle (`Boxed.antt`), of this one.
+use Rattle.dme_c.proofs.Boxed.{put}
+use Rattle.dme_c.proofs.Cores.{recording}
+use Rattle.dme_c.proofs.dme_c++recordings++Recording+Destruct.drop.Symbol as dropped
+use Rattle.dme_c.proofs.dme_c++recordings++Recording+Destruct.drop.Met.{met}
+use Rattle.dme_c.specs.contracts.handles.RecordHandle.put.Key.{symbol}
+use Rattle.dme_c.proofs.handles.RecordHandle.put.Statement.{statement}
+
+pub put_spec : {M : Type 1} → statement M
+unfolding Rattle.dme_c.proofs.handles.RecordHandle.put.Code.code
+put_spec 𝓤 𝓛 𝓜 𝓡 = put recording 𝓤 𝓛 𝓜 𝓡 symbol dropped.symbol dropped.code dropped.as_method (met 𝓤 𝓛 𝓜 𝓡)
