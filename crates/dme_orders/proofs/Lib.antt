@@ -1,3 +1,4 @@
+pub mod CheckLemmas
 pub mod Names
 pub mod LinesShown
 pub mod LoopingLemmas

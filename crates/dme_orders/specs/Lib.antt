@@ -1,4 +1,3 @@
-pub mod Confirming
 pub mod Checked
 pub mod Verdicts
 pub mod Reading

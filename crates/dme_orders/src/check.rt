@@ -1,8 +1,11 @@
 // Checking a program: its plan as command lines, from any reader to any writer.
 
-ghost use Rattle.std.specs.Prelude.{◌≡◌, ◌⊎◌, ◌<◌, ◌≤◌, ◌*◌, length, Some, [], true, false, OnOk, IfOk, IfErr, IfSome, IsErrOf};
-ghost use Rattle.dmis_program.specs.Meaning.{program_of};
-ghost use Rattle.dme_orders.specs.Checked.{IsUnread, Prints, PrintsFront, BlamesProgram, UnlessWrite, IsNotWrite, HasText};
+ghost use Rattle.std.specs.Prelude.{◌≡◌, ◌⊎◌, ◌<◌, ◌≤◌, ◌*◌, length, OnOk, IfOk, IfErr, IfSome, IsErrOf};
+ghost use Rattle.dme_orders.specs.Checked.{in_files};
+ghost use Rattle.dme_orders.specs.Orders.{went};
+ghost use Rattle.dme_orders.specs.Reading.{Reads, ReadsProgram, WhyNoProgram, WhyNoText, came};
+ghost use Rattle.dme_orders.specs.UnderSetup.{Plans};
+ghost use Rattle.order_parts.specs.declared.faults.Role.TheVariants as role;
 
 use byte_ports::{Failed, PullFault, Sink, Source, pull_all, push_all};
 use dmis_program::{Frames, Program, ProgramFault};
@@ -48,59 +51,35 @@ impl From<AllocError> for CheckFault {
 }
 
 /// Pulls to the end of the input.
-pub(crate) fn read_input<R: Source>(alloc: Global, source: &mut R) -> Result<Vec<u8>, CheckFault>
-    ensures all { IfOk result (λ input. IfSome (R.left source.old) (λ bytes. input.items ≡ bytes)) }
-    ensures end { OnOk result (IfSome (R.left source.old) (λ _. R.left source.new ≡ Some [])) }
+fn read_input<R: Source>(alloc: Global, source: &mut R) -> Result<Vec<u8>, CheckFault>
+    ensures ok { IfOk result (λ input. Reads (came R.left R.has_failed source.old source.new)
+        (λ text. input.items ≡ text)) }
+    ensures err { IfErr result (λ fault. WhyNoText (came R.left R.has_failed source.old source.new)
+        role.Program (in_files fault)) }
     ensures short { OnOk result (IfSome (R.left source.old)
         (λ bytes. length bytes ≤ 999999 * 65536)) }
-    ensures works { OnOk result (R.has_failed source.new ≡ false) }
-    ensures read { IsErrOf result CheckFault.Read
-        → IsUnread R.left R.has_failed source.old source.new }
-    ensures unread { R.has_failed source.old ≡ false → R.has_failed source.new ≡ true
-        → IsErrOf result CheckFault.Read }
-    ensures told { IfErr result (λ fault. (fault ≡ CheckFault.Read) ⊎ (fault ≡ CheckFault.Memory)) }
 {
     Ok(pull_all(alloc, source, 1_000_000)?)
 }
 
-fn read_program(alloc: Global, input: &[u8], frames: &Frames) -> Result<Program, CheckFault>
-    ensures ok { IfOk result (λ program. program_of frames.now input.now ≡ Ok program) }
-    ensures refused { IfErr result (BlamesProgram frames.now (Some input.now) (Some [])) }
-    ensures others { IfErr result (λ fault. (fault ≡ CheckFault.Read → ⊥) × IsNotWrite fault) }
-{
-    match Program::read(alloc, input, frames) {
-        Ok(program) => Ok(program),
-        Err(ProgramFault::Memory) => Err(CheckFault::Memory),
-        Err(ProgramFault::Refused(refusal, line)) => {
-            Err(CheckFault::Program(ProgramFault::Refused(refusal, line)))
-        }
-    }
-}
-
-fn checked_text<R: Source>(
+fn read_program<R: Source>(
     alloc: Global,
     frames: &Frames,
     source: &mut R,
-) -> Result<Vec<u8>, CheckFault>
-    ensures text { IfOk result (λ text. IfSome (R.left source.old)
-        (HasText frames.now text.items)) }
-    ensures some { IfOk result (λ text. 0 < length text.items) }
-    ensures refused { IfErr result (BlamesProgram frames.now (R.left source.old)
-        (R.left source.new)) }
-    ensures read { IsErrOf result CheckFault.Read
-        → IsUnread R.left R.has_failed source.old source.new }
-    ensures short { OnOk result (IfSome (R.left source.old)
-        (λ input. length input ≤ 999999 * 65536)) }
-    ensures works { OnOk result (R.has_failed source.new ≡ false) }
-    ensures unread { R.has_failed source.old ≡ false → R.has_failed source.new ≡ true
-        → IsErrOf result CheckFault.Read }
+) -> Result<Program, CheckFault>
+    ensures ok { IfOk result (ReadsProgram (came R.left R.has_failed source.old source.new)
+        frames.now) }
+    ensures err { IfErr result (λ fault. WhyNoProgram
+        (came R.left R.has_failed source.old source.new) frames.now (in_files fault)) }
     ensures long { IfSome (R.left source.old) (λ input. 999999 * 65536 < length input
         → IsErrOf result CheckFault.Read ⊎ IsErrOf result CheckFault.Memory) }
-    ensures others { IfErr result IsNotWrite }
 {
     let input = read_input(alloc, source)?;
-    let program = read_program(alloc, input.as_slice(), frames)?;
-    Ok(plan_text(alloc, &program)?)
+    match Program::read(alloc, input.as_slice(), frames) {
+        Ok(program) => Ok(program),
+        Err(ProgramFault::Memory) => Err(CheckFault::Memory),
+        Err(refused) => Err(CheckFault::Program(refused)),
+    }
 }
 
 /// Reads a DMIS program to the end of its input, in at most a million pulls of at most 65,536 bytes, and writes the command lines
@@ -114,35 +93,13 @@ pub fn check_plan<R: Source, W: Sink>(
     source: &mut R,
     sink: &mut W,
 ) -> Result<(), CheckFault>
-    // The program is accepted, and just its plan was written.
-    ensures ok { OnOk result (IfSome (R.left source.old) (λ input.
-        Prints frames.now input (W.taken sink.old) (W.taken sink.new))) }
-    ensures works { OnOk result ((R.has_failed source.new ≡ false)
-        × (W.has_failed sink.new ≡ false)) }
-
-    // A program is blamed only for the first refusal of the whole input.
-    ensures refused { IfErr result (BlamesProgram frames.now (R.left source.old)
-        (R.left source.new)) }
-
-    // A source is blamed if it has failed, or has not ended after a million pulls, and only then.
-    ensures unread { R.has_failed source.old ≡ false → R.has_failed source.new ≡ true
-        → IsErrOf result CheckFault.Read }
+    ensures plans { Plans frames.now (came R.left R.has_failed source.old source.new)
+        (went W.taken W.has_failed sink.old sink.new) result }
     ensures long { IfSome (R.left source.old) (λ input. 999999 * 65536 < length input
         → IsErrOf result CheckFault.Read ⊎ IsErrOf result CheckFault.Memory) }
-    ensures read { IsErrOf result CheckFault.Read
-        → IsUnread R.left R.has_failed source.old source.new }
-
-    // A sink is blamed if it has failed, and only then; it has taken a proper prefix of the text.
-    ensures unwritten { W.has_failed sink.old ≡ false → W.has_failed sink.new ≡ true
-        → IsErrOf result CheckFault.Write }
-    ensures write { IsErrOf result CheckFault.Write → W.has_failed sink.new ≡ true }
-    ensures front { IsErrOf result CheckFault.Write → IfSome (R.left source.old) (λ input.
-        PrintsFront frames.now input (W.taken sink.old) (W.taken sink.new)) }
-
-    // Unless the sink failed, nothing was written.
-    ensures silent { IfErr result (UnlessWrite (sink.new ≡ sink.old)) }
 {
-    let text = checked_text(alloc, frames, source)?;
+    let program = read_program(alloc, frames, source)?;
+    let text = plan_text(alloc, &program)?;
     match push_all(sink, text.as_slice()) {
         Ok(()) => Ok(()),
         Err(Failed) => Err(CheckFault::Write),

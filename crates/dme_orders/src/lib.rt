@@ -14,7 +14,6 @@
 //! - `preparing`: the files of an order over a connection are read before there is one
 //! - `looping`: a program is run over one connection between both ends
 //! - `lowering`: a program is made flat
-//! - `confirming`: the answer that begins a run
 //! - `check`: the command lines of a program, from any reader to any writer
 //! - `reviewing`: everything that stands between a program and its run is listed
 //! - `verdicts`: the verdict of an audit as a line, and its exit status
@@ -23,7 +22,6 @@
 mod attempts;
 mod auditing;
 mod check;
-mod confirming;
 mod digests;
 mod explaining;
 mod exporting;
@@ -44,7 +42,6 @@ mod verdicts;
 
 pub use auditing::{AuditFiles, audit_files};
 pub use check::{CheckFault, check_plan};
-pub use confirming::is_confirmed;
 pub use digests::{Judged, JudgedLine};
 pub use explaining::explain;
 pub use exporting::{ExportFiles, Exported, export_files};

@@ -1,35 +1,62 @@
 // A check as a whole, over ports: a program is checked under a setup, if one is named.
 
-ghost use Rattle.std.specs.Prelude.{Option, IfOk, IfErr};
-ghost use Rattle.dme_orders.specs.Input.{named, ReadsCheck, WhyNoCheck, CheckInput};
+ghost use Rattle.std.specs.Prelude.{◌≡◌};
+ghost use Rattle.dme_orders.specs.Checked.{in_files};
+ghost use Rattle.dme_orders.specs.Input.{named};
 ghost use Rattle.dme_orders.specs.Orders.{went};
 ghost use Rattle.dme_orders.specs.Reading.{came};
-ghost use Rattle.dme_orders.specs.UnderSetup.{Checks};
-ghost use Rattle.tool_rack.specs.Setups.{SetupValue};
+ghost use Rattle.dme_orders.specs.UnderSetup.{Checks, PlansFor};
+ghost use Rattle.program_review.specs.Reviews.{frames_under};
 
-use crate::reading::{named_setup, program_under};
-use crate::simulating::write_text;
+use crate::check::{CheckFault, check_plan};
+use crate::reading::named_setup;
 use byte_ports::{Sink, Source};
-use dmis_program::Program;
-use order_parts::{FilesFault, plan_text};
+use dmis_program::Frames;
+use order_parts::{FilesFault, Role};
 use std::alloc::Global;
+use tool_rack::Setup;
 
-/// Reads a setup if one is named, then a program under the setup's frames, each to the end of its text; the setup is understood before
-/// the program is read.
-fn check_input<S: Source, R: Source>(
-    alloc: Global,
-    setup: &mut Option<S>,
-    program: &mut R,
-) -> Result<Program, FilesFault>
-    ensures ok { IfOk result (λ read. (said : Option SetupValue)
-        × ReadsCheck (named S.left S.has_failed setup.old setup.new)
-        (came R.left R.has_failed program.old program.new)
-        (record { setup = said; program = read })) }
-    ensures err { IfErr result (WhyNoCheck (named S.left S.has_failed setup.old setup.new)
-        (came R.left R.has_failed program.old program.new)) }
+/// What an order over files calls it.
+fn in_files(fault: CheckFault) -> FilesFault
+    ensures { result ≡ in_files fault }
 {
-    let setup = named_setup(alloc, setup)?;
-    Ok(program_under(alloc, &setup, program)?)
+    match fault {
+        CheckFault::Program(cause) => FilesFault::Program(cause),
+        CheckFault::Read => FilesFault::Unread(Role::Program),
+        CheckFault::Write => FilesFault::Write,
+        CheckFault::Memory => FilesFault::Memory,
+    }
+}
+
+fn check_frames<R: Source, W: Sink>(
+    alloc: Global,
+    frames: &Frames,
+    program: &mut R,
+    sink: &mut W,
+) -> Result<(), FilesFault>
+    ensures { PlansFor frames.now (came R.left R.has_failed program.old program.new)
+        (went W.taken W.has_failed sink.old sink.new) result }
+{
+    match check_plan(alloc, frames, program, sink) {
+        Ok(()) => Ok(()),
+        Err(fault) => Err(in_files(fault)),
+    }
+}
+
+/// Under the frames of a setup, and under no frames without one.
+fn check_under<R: Source, W: Sink>(
+    alloc: Global,
+    setup: &Option<Setup>,
+    program: &mut R,
+    sink: &mut W,
+) -> Result<(), FilesFault>
+    ensures { PlansFor (frames_under setup.now) (came R.left R.has_failed program.old program.new)
+        (went W.taken W.has_failed sink.old sink.new) result }
+{
+    match setup {
+        Some(setup) => check_frames(alloc, setup.frames(), program, sink),
+        None => check_frames(alloc, &Frames::new(alloc), program, sink),
+    }
 }
 
 /// Reads a setup if one is named, then a DMIS program, each to the end of its text, and writes the command lines of the program's plan on
@@ -37,6 +64,7 @@ fn check_input<S: Source, R: Source>(
 ///
 /// It writes only once the whole text is there. The setup is read and refused before the program is read at all. Each file is blamed only
 /// for its own first refusal, or because it could not be read. A sink that fails is blamed, and has taken a prefix of the text.
+#[tactic(auto, using(crate::proofs::CheckLemmas::unnamed))]
 pub fn check_under_setup<S: Source, R: Source, W: Sink>(
     alloc: Global,
     setup: &mut Option<S>,
@@ -47,7 +75,6 @@ pub fn check_under_setup<S: Source, R: Source, W: Sink>(
         (came R.left R.has_failed program.old program.new)
         (went W.taken W.has_failed sink.old sink.new) result }
 {
-    let program = check_input(alloc, setup, program)?;
-    let text = plan_text(alloc, &program)?;
-    Ok(write_text(sink, text.as_slice())?)
+    let setup = named_setup(alloc, setup)?;
+    check_under(alloc, &setup, program, sink)
 }
