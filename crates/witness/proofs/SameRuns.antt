@@ -1,5 +1,5 @@
 -- A run in the numbered ledger is one in what was reported.
-use Rattle.witness.proofs.ToldNames.{[], ◌+◌, ◌<◌, ◌∙◌, ◌∷◌, ◌≡◌, ◌≤◌, Act, ap, AreFewestUnsoundTold, AreLeastTold, AreNext, AreRunContacts, AreRuns}
+use Rattle.witness.proofs.ToldNames.{[], ◌+◌, ◌<◌, ◌∙◌, ◌∷◌, ◌≡◌, ◌≤◌, Act, ap, AreNext, AreRunContacts, AreRuns}
 use Rattle.witness.proofs.ToldNames.{AreToldRuns, arith, connection_at, contacts, drop, Err, IfOk, IsRun, IsServed, IsToldRun, known_contacts, length}
 use Rattle.witness.proofs.ToldNames.{List, MadeContact, map, None, Ok, parts_of, Point, refl, Reported, Result, Serves, Some, Sound, SoundByTold}
 use Rattle.witness.proofs.ToldNames.{subst, suc, sym, take, unnumbered, zero, ℕ}
@@ -7,8 +7,6 @@ use Rattle.std.proofs.lemmas.List.{drop-map, length-map, take-map}
 use Rattle.contact_ledger.specs.declared.features.Feature.{Feature}
 use Rattle.dmis_program.specs.declared.features.Touch.{Touch}
 use Rattle.dmis_program.specs.declared.features.Wanted.{Wanted}
-use Rattle.ledger_audit.specs.Verdicts.{AreFewestUnsound, AreLeast, IfNoRun, IfStarts}
-use Rattle.ledger_audit.specs.declared.verdicts.Verdict.{Verdict}
 use Rattle.witness.proofs.NextContacts.{next_known}
 
 plus_one : (n : ℕ) → n + 1 ≡ suc n
@@ -225,33 +223,3 @@ sound_told entries ledger ws fs made h = record { starts = h.starts; runs = runs
 pub told_sound : (entries : List (ℕ × Reported)) (ledger : List (ℕ × Act)) (ws : List Wanted) (fs : List Feature) → AreRunContacts entries ledger
     → SoundByTold ws fs entries → Sound ws fs ledger
 told_sound entries ledger ws fs made h = record { starts = h.starts; runs = told_runs entries ledger ws fs h.starts 0 made h.runs }
-
--- ---- a verdict
-
-pub starts_told : (entries : List (ℕ × Reported)) (ledger : List (ℕ × Act)) (ws : List Wanted) (fs : List Feature) (v : Verdict)
-    → AreRunContacts entries ledger → IfStarts v (λ s. AreRuns ws fs s 0 (contacts ledger)) → IfStarts v (λ s. AreToldRuns ws fs s 0 entries)
-starts_told entries ledger ws fs (Verdict.Starts starts) made h = runs_told entries ledger ws fs starts 0 made h
-starts_told entries ledger ws fs (Verdict.NoRun count) made h = tt
-
-pub least_told : (entries : List (ℕ × Reported)) (ledger : List (ℕ × Act)) (ws : List Wanted) (fs : List Feature) (v : Verdict)
-    → AreRunContacts entries ledger → IfStarts v (AreLeast ws fs (contacts ledger)) → IfStarts v (AreLeastTold ws fs entries)
-least_told entries ledger ws fs (Verdict.Starts starts) made h = λ others runs. h others (told_runs entries ledger ws fs others 0 made runs)
-least_told entries ledger ws fs (Verdict.NoRun count) made h = tt
-
-pub fewest_told : (entries : List (ℕ × Reported)) (ledger : List (ℕ × Act)) (ws : List Wanted) (fs : List Feature) (v : Verdict)
-    → AreRunContacts entries ledger → IfNoRun v (AreFewestUnsound ws fs ledger) → IfNoRun v (AreFewestUnsoundTold ws fs entries)
-fewest_told entries ledger ws fs (Verdict.Starts starts) made h = tt
-fewest_told entries ledger ws fs (Verdict.NoRun count) made h = record {
-  some = h.some;
-  held = h.held;
-  before = λ fewer less. sound_told entries ledger ws (take fewer fs) made (h.before fewer less);
-  unsound = λ sound. h.unsound (told_sound entries ledger ws (take count fs) made sound);
-}
-
-pub runs_answer : {E : Type 0} (entries : List (ℕ × Reported)) (ledger : List (ℕ × Act)) (ws : List Wanted) (fs : List Feature)
-    (r : Result Verdict E) → AreRunContacts entries ledger → IfOk r (λ v. IfStarts v (λ s. AreRuns ws fs s 0 (contacts ledger)))
-    → IfOk r (λ v. IfStarts v (λ s. AreToldRuns ws fs s 0 entries))
-runs_answer entries ledger ws fs (Ok v) made h = starts_told entries ledger ws fs v made h
-runs_answer entries ledger ws fs (Err e) made h = tt
-
-pub ruleset verdicts = (least_told, fewest_told, sound_told, told_sound)

@@ -29,7 +29,7 @@ pub use Rattle.std.specs.List.{AllByRecursion, list_all, slice_split}
 pub use Rattle.std.specs.Str.{bytes_eq}
 pub use Rattle.witness.specs.Numbering.{is_joined, number_of, numbered_from, open_after, second_for}
 pub use Rattle.witness.specs.Parts.{IsOtherTold, IsToolName, told_parts}
-pub use Rattle.witness.specs.Runs.{AreFewestUnsoundTold, AreLeastTold, AreNext, AreRunContacts, AreToldRuns, connection_at, Doubtful, Ends}
+pub use Rattle.witness.specs.Runs.{AreNext, AreRunContacts, AreToldRuns, connection_at, Doubtful, Ends}
 pub use Rattle.witness.specs.Runs.{is_made, IsToldRun, known_contacts, lies_between, Made, parts_of, Passes, SoundByTold, unnumbered}
 pub use Rattle.witness.specs.ToldTexts.{AreToldEntries, AreToldLines, AreWrittenEntries, HasNamedTool, IsDamagedTold, IsInDoubt, IsLineText}
 pub use Rattle.witness.specs.ToldTexts.{IsNamed, IsPlaced, IsReadTold, IsToldEntry, IsToldText, IsWrittenEntry, IsWrittenTold, last_number}

@@ -10,7 +10,6 @@ use Rattle.contact_ledger.specs.declared.acts.Act.TheVariants as act
 use Rattle.contact_ledger.specs.declared.features.Feature.{Feature}
 use Rattle.dmis_program.specs.declared.features.Wanted.{Wanted}
 use Rattle.protocol_model.specs.Claims.{MadeContact, contacts, IsRun}
-use Rattle.ledger_audit.specs.Verdicts.{AreAtMost}
 use Rattle.witness.specs.declared.lines.Reported.{Reported}
 use Rattle.witness.specs.declared.lines.Reported.TheVariants as reports
 
@@ -124,18 +123,6 @@ AreToldRuns _ _ _ _ _ = ⊥
 pub record SoundByTold (wanted : List Wanted) (features : List Feature) (entries : List (ℕ × Reported)) : Type 0 where
   pub starts : List ℕ
   pub runs : AreToldRuns wanted features starts 0 entries
-
--- no choice of starts has one below these
-abbrev pub AreLeastTold : List Wanted → List Feature → List (ℕ × Reported) → List ℕ → Type 0
-AreLeastTold wanted features entries starts =
-    (others : List ℕ) → AreToldRuns wanted features others 0 entries → AreAtMost starts others
-
--- this count of the first features is the least that has no runs together
-pub record AreFewestUnsoundTold (wanted : List Wanted) (features : List Feature) (entries : List (ℕ × Reported)) (count : ℕ) : Type 0 where
-  pub some : 1 ≤ count
-  pub held : count ≤ length features
-  pub before : (fewer : ℕ) → fewer < count → SoundByTold wanted (take fewer features) entries
-  pub unsound : SoundByTold wanted (take count features) entries → ⊥
 
 -- ---- the same in a ledger
 

@@ -11,7 +11,6 @@ pub use Rattle.dmis_program.specs.declared.features.Wanted.{Wanted}
 pub use Rattle.fixed_um.specs.Calls.{Finds, Leads}
 pub use Rattle.fixed_um.specs.Written.{last_digit}
 pub use Rattle.fixed_um.specs.declared.frames.Frame.{Frame}
-pub use Rattle.ledger_audit.specs.Verdicts.{IfNoRun, IfStarts, TellsNoRun, TellsStarts}
 pub use Rattle.line_framing.specs.Content.{is_content}
 pub use Rattle.protocol_model.specs.Claims.{IsRun, Sound, contacts}
 pub use Rattle.witness.specs.Texts.{known_frame, rule_name, told_line, told_text, tool_field}
@@ -20,5 +19,5 @@ pub use Rattle.witness.specs.declared.lines.Reported.TheVariants.{Left, Opened}
 pub use Rattle.witness.specs.Either.{AreAudited, IsDamagedAudited, IsToldFile}
 pub use Rattle.witness.specs.Numbering.{is_joined, open_after, pushed, second_after}
 pub use Rattle.witness.specs.Parts.{IsOtherTold, IsToolName, told_parts}
-pub use Rattle.witness.specs.Runs.{AreFewestUnsoundTold, AreLeastTold, AreRunContacts, AreToldRuns, IsToldRun, SoundByTold, is_doubtful, is_end, is_touch, known_contacts, part_of, parts_of}
+pub use Rattle.witness.specs.Runs.{AreRunContacts, AreToldRuns, IsToldRun, SoundByTold, is_doubtful, is_end, is_touch, known_contacts, part_of, parts_of}
 pub use Rattle.witness.specs.ToldTexts.{AreToldEntries, AreWrittenEntries, IsDamagedTold, IsLineText, IsNamed, IsPlaced, IsToldEntry, IsToldText, NeverFall, entry_back, last_number}

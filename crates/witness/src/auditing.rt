@@ -1,44 +1,13 @@
-// The audit of features by what a server reported, and the texts of contacts for an audit: of what a server reported, or what it did.
+// The texts of contacts for an audit: of what a server reported, or what it did.
 
-ghost use Rattle.std.specs.Prelude.{◌≡◌, ◌↔◌, codes, IfOk, IsTrue};
-ghost use Rattle.witness.specs.ToldNames.{ReadsText, IfStarts, IfNoRun, TellsStarts, TellsNoRun, AreToldRuns, AreLeastTold, AreFewestUnsoundTold, SoundByTold, IsToldFile, AreAudited, IsDamagedAudited};
+ghost use Rattle.std.specs.Prelude.{◌≡◌, ◌↔◌, codes, IsTrue};
+ghost use Rattle.witness.specs.ToldNames.{ReadsText, IsToldFile, AreAudited, IsDamagedAudited};
 
 use crate::runs::run_contacts;
-use crate::told_ledger::ToldLedger;
 use crate::told_texts::read_told;
 use contact_ledger::lines::cut_line;
-use contact_ledger::{Feature, ServerLedger, TextFault, read_contacts};
-use dmis_program::Program;
-use ledger_audit::{Verdict, audit};
-use std::alloc::{AllocError, Global};
-
-/// Whether features are the first ones of a program, each measured by an unbroken run of the contacts that a server reported on one
-/// connection, with their tools and frames known. As `ledger_audit::audit`; a run ends besides at a contact whose tool or frame is not known,
-/// and on its connection at a line that is not known or belongs to no command, at a broken rule, and where the connection is opened or left.
-/// The starts count the contacts whose tool and frame are known. Fails only if out of memory.
-#[tactic(auto, using(crate::proofs::SameRuns::verdicts))]
-pub fn audit_told(
-    alloc: Global,
-    program: &Program,
-    features: &[Feature],
-    told: &ToldLedger,
-) -> Result<Verdict, AllocError>
-    ensures runs { IfOk result (λ v. IfStarts v
-        (λ s. AreToldRuns program.now.features features.now s 0 told.now)) }
-    ensures least { IfOk result (λ v. IfStarts v
-        (AreLeastTold program.now.features features.now told.now)) }
-    ensures no_run { IfOk result (λ v. IfNoRun v
-        (AreFewestUnsoundTold program.now.features features.now told.now)) }
-    ensures sound { IfOk result (λ v. TellsStarts v
-        ↔ SoundByTold program.now.features features.now told.now) }
-    ensures unsound { IfOk result (λ v. TellsNoRun v
-        ↔ (SoundByTold program.now.features features.now told.now → ⊥)) }
-{
-    let ledger = run_contacts(alloc, told)?;
-    let verdict = audit(alloc, program, features, &ledger);
-    drop(ledger);
-    verdict
-}
+use contact_ledger::{ServerLedger, TextFault, read_contacts};
+use std::alloc::Global;
 
 fn is_header(line: &[u8]) -> bool
     ensures { IsTrue result ↔ (line.now ≡ codes "DME-TOLD 1") }

@@ -1,6 +1,8 @@
 // What follows from the definitions. Each function has a law for its contract and does nothing.
 
-ghost use Rattle.std.specs.Prelude.{◌≡◌, ℕ, Bool, true, List, ◌++◌};
+ghost use Rattle.std.specs.Prelude.{◌≡◌, ◌↔◌, ℕ, Bool, true, List, ◌++◌};
+ghost use Rattle.protocol_model.specs.Claims.{AreRuns};
+ghost use Rattle.witness.specs.ToldNames.{Act, AreRunContacts, AreToldRuns, Feature, Reported, Sound, SoundByTold, Wanted, contacts};
 ghost use Rattle.witness.specs.Names.{Line, after_all, Relaying, Course, Relays, IsAllTold, IsToldOf, all_reported, witnessed, told_lines, Watching, AreAllRead};
 
 /// After any lines of both ends, given with the newest first, a witness keeps and reports just what the rules say, which look back over all
@@ -37,4 +39,16 @@ pub fn recordings_are_heard()
     ensures { (ordered : Bool) (n : ℕ) (up down : List ℕ) (w : Watching)
         → AreAllRead ordered up down w
         → IsToldOf ordered n up down (told_lines n w.dialogue.reported) }
+{}
+
+/// Features are true of the contacts that `run_contacts` finds in what a server reported exactly if they are true of what was reported, and so
+/// is each choice of their runs: an audit of these contacts is one of what was reported.
+pub fn audits_are_of_what_was_reported()
+    ensures sound { (entries : List (ℕ × Reported)) (ledger : List (ℕ × Act))
+        (wanted : List Wanted) (features : List Feature) → AreRunContacts entries ledger
+        → (Sound wanted features ledger ↔ SoundByTold wanted features entries) }
+    ensures runs { (entries : List (ℕ × Reported)) (ledger : List (ℕ × Act))
+        (wanted : List Wanted) (features : List Feature) (starts : List ℕ)
+        → AreRunContacts entries ledger → (AreRuns wanted features starts 0 (contacts ledger)
+        ↔ AreToldRuns wanted features starts 0 entries) }
 {}

@@ -13,7 +13,7 @@
 //! - `told_lines`: what a line says
 //! - `told_texts`: the text
 //! - `runs`: the contacts that runs may be made of
-//! - `auditing`: the audit of features by them, and a text of contacts for an audit, of either kind
+//! - `auditing`: a text of contacts for an audit, of either kind
 //! - `doubts`: which contacts have a tool or a frame that is not known, and on which connections the others are
 //! - `told_laws`: what follows from the definitions
 //! - `judgement`: `judge`, by two recordings and the order of their bytes (`orders`); `judgement_writing`: its text
@@ -55,7 +55,7 @@ mod witness;
 mod writing;
 
 pub use asking::{only_asks, sent};
-pub use auditing::{audit_told, is_told_file, read_audited};
+pub use auditing::{is_told_file, read_audited};
 pub use counts::KINDS;
 pub use dialogue::{Dialogue, foreign_event};
 pub use doubts::{Doubts, contact_connections, doubts_of, ends_runs};
