@@ -14,7 +14,7 @@ pub use Rattle.record_text.specs.Growths.{AddsErrors, Growth, new_lines, note_li
 pub use Rattle.record_text.specs.Heads.{AreAsked, is_printed, IsPartGiven}
 pub use Rattle.run_session.specs.Records.{begins, Book, calls, confirms, filed, filed_by, GoesOn, HaveLines, held, IsFree, IsKept, IsSafe, Keeps}
 pub use Rattle.run_session.specs.Records.{lacking, of_file, outcome, outcome_by, Outside, Ran, State, tells, writes}
-pub use Rattle.run_session.specs.Records.{Apart, Filed, Follows, FollowsApart, FollowsTold, HasAll, HasEnded, HasFiled, HasFollowed, HasLines, open_on, HasTold, IsAt, IsQuiet, IsTold, pace, Pace, StaysTold, Told}
+pub use Rattle.run_session.specs.Records.{Apart, Filed, Follows, FollowsApart, FollowsGoing, FollowsTold, Going, HasAll, HasEnded, HasFiled, HasFollowed, HasLines, open_on, HasTold, IsAt, IsQuiet, IsTold, pace, Pace, StaysTold, Told}
 pub use Rattle.run_session.specs.Records.{anything, HasReported, IsRun, IsRunOf, KeepsNoting, May, nothing, Reports}
 pub use Rattle.run_session.specs.declared.stages.Stage.{Stage}
 pub use Rattle.std.proofs.Common.{[], ◌%◌, ◌&&◌, ◌++◌, ◌+◌, ◌-◌, ◌/◌, ◌<◌, ◌==◌, ◌∙◌, ◌∷◌, ◌≡◌, ◌≤◌, ◌⊎◌, ap, append-nil, append_assoc, ap₂, arith, codes}

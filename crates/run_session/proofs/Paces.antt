@@ -1,7 +1,7 @@
 -- How far the record has followed its client.
 use Rattle.run_session.proofs.Names.{[], ◌∙◌, ◌≡◌, ◌≤◌, ◌⊎◌, Abort, Act, ap, Bool, ClientEnd, cond, done_by, drop, Err, false, Filed, Follows, HasFiled}
 use Rattle.run_session.proofs.Names.{HasFollowed, HasTold, IsTold, IfErr, inl, inr, IsAt, length, List, Ok, OnOk, pace, Pace, Told}
-use Rattle.run_session.proofs.Names.{FollowsTold, refl, Result, Send, Stage, State, subst, sym, true, ℕ}
+use Rattle.run_session.proofs.Names.{FollowsGoing, FollowsTold, Going, refl, Result, Send, Stage, State, subst, sym, true, ℕ}
 use Rattle.std.proofs.lemmas.List.{drop_all}
 use Rattle.run_session.proofs.Names.{◌&&◌, ap₂, Apart, false≢true, FollowsApart, HasAll, HasEnded, is_some, not}
 use Rattle.std.specs.Prelude.{◌||◌, nat_lt}
@@ -82,6 +82,11 @@ pub on_filed : {A E : Type 0} (r : Result A E) (v s t : State) → v ≡ s → p
 on_filed (Ok a) v s t is filed short f = further Filed s t (ap (λ (x : State). pace x.stage) (sym is) ∙ filed) short (λ at. f at.0 at.1)
 on_filed (Err e) v s t is filed short f = tt
 
+pub on_going : {A E : Type 0} (r : Result A E) (v s t : State) → v ≡ s → pace v.stage ≡ Going → t.book.short ≡ s.book.short → OnOk r (FollowsGoing s t)
+    → OnOk r (HasFollowed s → HasFollowed t)
+on_going (Ok a) v s t is going short f = further Going s t (ap (λ (x : State). pace x.stage) (sym is) ∙ going) short (λ at. f at.0.0 at.0.1 at.1)
+on_going (Err e) v s t is going short f = tt
+
 pub on_apart : {A E : Type 0} (r : Result A E) (v s t : State) → v ≡ s → pace v.stage ≡ Apart → t.book.short ≡ s.book.short → OnOk r (FollowsApart s t)
     → OnOk r (HasFollowed s → HasFollowed t)
 on_apart (Ok a) v s t is apart short f = further Apart s t (ap (λ (x : State). pace x.stage) (sym is) ∙ apart) short (λ at. f at.0 at.1)
@@ -92,15 +97,16 @@ pub on_told : {A E : Type 0} (r : Result A E) (v s t : State) → v ≡ s → pa
 on_told (Ok a) v s t is told short f = further Told s t (ap (λ (x : State). pace x.stage) (sym is) ∙ told) short f
 on_told (Err e) v s t is told short f = tt
 
-pub also_filed : {A E : Type 0} (r : Result A E) (s t : State) → OnOk r (FollowsTold s t) → OnOk r (Follows s t)
-also_filed (Ok a) s t f = λ told filed. f told
-also_filed (Err e) s t f = tt
+pub also_going : {A E : Type 0} (r : Result A E) (s t : State) → OnOk r (FollowsTold s t) → OnOk r (FollowsGoing s t)
+also_going (Ok a) s t f = λ told filed going. f told
+also_going (Err e) s t f = tt
 
 -- its file has it at each of these paces
 pub filed_at : (p : Pace) (s : State) → is_filed p ≡ true → IsAt p s → HasTold s × HasFiled s
 filed_at Unknown s is at = absurd (false≢true is)
 filed_at Told s is at = absurd (false≢true is)
 filed_at Filed s is at = (at.0, ap (λ (o : Open). o.lacks) at.1)
+filed_at Going s is at = (at.0.0, ap (λ (o : Open). o.lacks) at.0.1)
 filed_at Apart s is at = (at.0, ap (λ (o : Open). o.lacks) at.1)
 
 -- ---- nothing is lacking, and nothing is due

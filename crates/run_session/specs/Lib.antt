@@ -4,4 +4,5 @@ pub mod Ends
 pub mod Killed
 pub mod Evidence
 pub mod Records
+pub mod Statuses
 pub mod Progress

@@ -1,5 +1,5 @@
 -- What a run's client and its record are after any answers, and what the record's file has (this profile).
-use Rattle.std.specs.Prelude.{◌≡◌, ◌≤◌, ◌&&◌, ◌||◌, ◌⊎◌, ⊤, ℕ, Bool, true, false, not, Result, Ok, Err, if◌then◌else◌, Option, None, Some, is_some, string_bytes, codes, List, [], ◌∷◌, ◌++◌, ◌<◌, length, map, take, drop}
+use Rattle.std.specs.Prelude.{◌≡◌, ◌≤◌, ◌&&◌, ◌||◌, ◌⊎◌, ◌==◌, ⊤, ℕ, Bool, true, false, not, Result, Ok, Err, if◌then◌else◌, Option, None, Some, is_some, string_bytes, codes, List, [], ◌∷◌, ◌++◌, ◌<◌, length, map, take, drop}
 use Rattle.std.specs.Str.{bytes_eq}
 use Rattle.client_core.specs.Calls.{Call, Abort, Send as Sends, behind_call, done_by, Leave as Leaves}
 use Rattle.contact_ledger.specs.ContactTexts.{contacts_text}
@@ -27,6 +27,7 @@ use Rattle.order_parts.specs.Kept.{IsFeaturesText}
 use Rattle.run_session.specs.Errors as errors
 use Rattle.run_session.specs.Errors.{noted_by, Records, Talk}
 use Rattle.run_session.specs.Evidence.{Course, Notes, can_note, can_say, ended, given_due, has_due, is_over, made, passed}
+use Rattle.run_session.specs.Statuses.{has_failed, is_complete, of_end, of_files, of_unbegun}
 use Rattle.run_session.specs.declared.runs.Kept as which
 use Rattle.run_session.specs.declared.runs.Kept.TheVariants as whole
 use Rattle.run_session.specs.declared.runs.Output.{Output}
@@ -92,7 +93,7 @@ pub record Book : Type 0 where
   pub settled : ℕ  -- how many features are complete in what no crash takes away
   pub pauses : List ℕ  -- how many commands are held back at each pause that is to come
   pub keeps : Bool  -- whether there is a record
-  pub short : Bool  -- whether memory has run out before the client was on its connection
+  pub short : Bool  -- whether memory has run out, so that nothing is left but to say so, after the connection
   pub spent : Bool  -- whether it has run out
   pub key : Option (List ℕ)  -- that of the record's seals, if it is sealed
   pub noted : Notes
@@ -103,7 +104,7 @@ pub record Marks : Type 0 where
   pub lost : Bool  -- whether that could not be kept
   pub listed : ℕ  -- how many features are in their file, forced to the device
   pub lists : Bool  -- whether that file grows, and could be kept
-  pub printed : Bool  -- whether the report was printed
+  pub printed : Option Bool  -- whether the report was printed, once that was asked for
   pub written : Written  -- which files have their whole text at the end
 
 abbrev pub none_written : Written
@@ -155,6 +156,7 @@ pub record State : Type 0 where
   pub course : Course
   pub files : Files
   pub begun : Bool  -- whether its client has come to the connection
+  pub unbegun : Bool  -- whether the stop file was there before its server was called
   pub text : List ℕ  -- what is printed at the end
   pub list : List ℕ  -- what the features file is to have
   pub held : ℕ  -- how many features it has then
@@ -182,7 +184,7 @@ first_reports named lists number before = record {
     lost = false;
     listed = 0;
     lists = lists;
-    printed = false;
+    printed = None;
     written = none_written;
   };
 }
@@ -317,8 +319,7 @@ marked (Some Named) true s m = m
 marked (Some Named) false s m = record m { lists = false }
 marked (Some Listed) true s m = record m { listed = s.held }
 marked (Some Listed) false s m = record m { lists = false }
-marked (Some Report) true s m = record m { printed = true }
-marked (Some Report) false s m = m
+marked (Some Report) done s m = record m { printed = Some done }
 marked (Some Stood) true s m = record m { written = with_written whole.Record true m.written }
 marked (Some Stood) false s m = m
 marked (Some (Whole kept)) done s m = record m { written = with_written kept done m.written }
@@ -391,6 +392,11 @@ abbrev pub declines : (first : Bool) → Reply → Bool
 declines first (Bytes bytes) = not (bytes_eq bytes (10 ∷ []) || (first && bytes_eq bytes (13 ∷ [])))
 declines first Short = false
 declines first reply = true
+
+-- the stop file is there before the server is called
+abbrev pub is_unbegun : Stage → Reply → Bool
+is_unbegun stage.Peeking Found = true
+is_unbegun st reply = false
 
 -- an answer that stops the run: the stop file is there, or the operator does not confirm a pause
 abbrev pub is_stop : Stage → Reply → Bool
@@ -585,14 +591,31 @@ is_written named (Some done) = done
 -- the client has measured all that was asked for, its report was printed, and each file that is named was written whole
 pub record HasDone (s : State) : Type 0 where
   pub done : s.pair.end.client.state ≡ state.Done
-  pub printed : s.reports.marks.printed ≡ true
+  pub printed : is_written true s.reports.marks.printed ≡ true
   pub features : is_written (is_some s.files.features) s.reports.marks.written.features ≡ true
   pub recorded : is_written s.book.keeps s.reports.marks.written.kept ≡ true
   pub contacts : is_written s.reports.named s.reports.marks.written.contacts ≡ true
 
--- the exit status is 0 only then
+abbrev pub has_done : State → Bool
+has_done s = is_complete s.pair.end.client.state && (is_written true s.reports.marks.printed
+    && (is_written (is_some s.files.features) s.reports.marks.written.features
+    && (is_written s.book.keeps s.reports.marks.written.kept && is_written s.reports.named s.reports.marks.written.contacts)))
+
+-- the exit status that its connection has given it, or what has kept it from that
+abbrev pub base : State → ℕ
+base s = if s.begun then of_end s.course s.pair.end.client.state else of_unbegun s.unbegun
+
+-- and with what could not be said, printed or written: 4 if the last message is that memory has run out
+abbrev pub status_at : State → ℕ
+status_at s = if s.book.short then 4 else if has_failed s.reports.marks.printed then 1 else of_files s.reports.marks.written (base s)
+
+-- nothing has failed, and not all is done: 3
+abbrev pub exit_of : State → ℕ
+exit_of s = if status_at s == 0 && not (has_done s) then 3 else status_at s
+
+-- the exit status is that; and 0 only if all is done
 abbrev pub IsExit : State → Ask → Type 0
-IsExit s (Exit status) = status ≡ 0 → HasDone s
+IsExit s (Exit status) = (status ≡ exit_of s) × (status ≡ 0 → HasDone s)
 IsExit s ask = ⊥
 
 -- what each stage asks for, and nothing else
@@ -670,7 +693,8 @@ IsOneVersion = (v w : _) → header v ≡ header w → v ≡ w
 -- what holds besides before an effect is asked for: what is printed is the client's report, after its features file; what is made of the
 -- features file, or replaces it, are the features that the client holds, and what it gets are those since the last that it got; what is added
 -- to the record without being forced completes no feature; nothing is added to a file of contacts that could not be kept; the operator is
--- asked at a pause; what is shown as complete is on the device; and what is said last follows all files
+-- asked at a pause; what is shown as complete is on the device; what is said last follows all files; and the message that needs no memory is said
+-- once that has run out
 pub data Want : Type 0 where
   Shown : Want
   Features : Want
@@ -680,6 +704,7 @@ pub data Want : Type 0 where
   Pause : Want
   Complete : Want
   Tried : Want
+  Last : Want
 
 abbrev pub wants : Stage → Option Want
 wants stage.Printing = Some Shown
@@ -692,6 +717,7 @@ wants stage.Awaiting = Some Pause
 wants stage.Returning = Some Pause
 wants stage.Showing = Some Complete
 wants stage.Ending = Some Tried
+wants stage.Telling = Some Last
 wants s = None
 
 -- how many features may be shown as complete: those that are in the record on the device, if it could be kept; else those in the features file
@@ -712,6 +738,7 @@ IsDueBy (Some Kept) s = s.reports.marks.lost ≡ false
 IsDueBy (Some Pause) s = IsPaused s
 IsDueBy (Some Complete) s = s.shown ≤ complete s
 IsDueBy (Some Tried) s = HasTried s
+IsDueBy (Some Last) s = s.book.short ≡ true
 
 abbrev pub IsDue : State → Type 0
 IsDue s = IsDueBy (wants s.stage) s
@@ -762,11 +789,12 @@ abbrev pub HasEnded : State → Type 0
 HasEnded s = open_off s ≡ none_open
 
 -- how far a record has followed its client before an effect: its text has all that was counted; then its file has it, and nothing is due: on
--- the connection, or before it and after its end; or that is not known
+-- the connection, while the run on it is not over, or not; or before it and after its end; or that is not known
 pub data Pace : Type 0 where
   Unknown : Pace
   Told : Pace
   Filed : Pace
+  Going : Pace
   Apart : Pace
 
 -- it is not known once memory has run out
@@ -780,12 +808,12 @@ pace stage.Settling = Told
 pace stage.Reporting = Filed
 pace stage.Listing = Filed
 pace stage.Showing = Filed
-pace stage.Sending = Filed
-pace stage.Checking = Filed
-pace stage.Timing = Filed
-pace stage.Receiving = Filed
-pace stage.Awaiting = Filed
-pace stage.Returning = Filed
+pace stage.Sending = Going
+pace stage.Checking = Going
+pace stage.Timing = Going
+pace stage.Receiving = Going
+pace stage.Awaiting = Going
+pace stage.Returning = Going
 pace stage.Telling = Unknown
 pace stage.Exiting = Unknown
 pace st = Apart
@@ -794,16 +822,18 @@ abbrev pub is_filed : Pace → Bool
 is_filed Unknown = false
 is_filed Told = false
 is_filed Filed = true
+is_filed Going = true
 is_filed Apart = true
 
 abbrev pub IsAt : Pace → State → Type 0
 IsAt Unknown s = ⊤
 IsAt Told s = HasTold s
 IsAt Filed s = HasTold s × HasAll s
+IsAt Going s = (HasTold s × HasAll s) × (over s ≡ false)
 IsAt Apart s = HasTold s × HasEnded s
 
 -- whatever is sent, received, shown as complete or printed, the record's file has all that the client had counted before, or could not be kept;
--- and all that was due is noted
+-- and all that was due is noted; and commands are sent, and anything is awaited, only while the run on the connection is not over
 abbrev pub HasFollowed : State → Type 0
 HasFollowed s = s.book.short ≡ false → IsAt (pace s.stage) s
 
@@ -813,6 +843,10 @@ StaysTold s t = HasTold s → HasTold t
 -- a record that has followed its client follows it further
 abbrev pub Follows : State → State → Type 0
 Follows s t = HasTold s → HasAll s → HasFollowed t
+
+-- and while its run is not over
+abbrev pub FollowsGoing : State → State → Type 0
+FollowsGoing s t = HasTold s → HasAll s → over s ≡ false → HasFollowed t
 
 abbrev pub FollowsApart : State → State → Type 0
 FollowsApart s t = HasTold s → HasEnded s → HasFollowed t

@@ -60,7 +60,6 @@ impl Session {
         ensures followed { OnOk result (spec.FollowsApart self.old self.new) }
     {
         self.verdict = unwritten_line(self.alloc, self.run.name(kept), answer)?;
-        self.status = 1;
         self.stage = Stage::Leaving;
         Ok(())
     }

@@ -1,6 +1,7 @@
 // Before the connection: the log is opened, and the server is called.
 
-ghost use Rattle.std.specs.Prelude.{◌≡◌, OnOk, None};
+ghost use Rattle.std.specs.Prelude.{◌≡◌, OnOk, None, true};
+ghost use Rattle.effects.specs.Effects.{the_reply};
 ghost use Rattle.run_session.specs.Records as spec;
 
 use crate::sessions::LOOK_MS;
@@ -52,7 +53,9 @@ impl Session {
 
     /// The stop file is there: nothing was begun.
     fn not_begun(&mut self) -> Result<(), AllocError>
-        ensures quiet { spec.IsQuiet self.old self.new }
+        ensures ran { spec.Keeps self.old self.new }
+        ensures book { self.new.book ≡ self.old.book }
+        ensures unbegun { OnOk result (self.new.unbegun ≡ true) }
         ensures due { OnOk result (spec.IsDue self.new) }
         ensures followed { OnOk result (spec.FollowsApart self.old self.new) }
     {
@@ -60,7 +63,6 @@ impl Session {
         let line = format!(in self.alloc; "dme: {name} exists: nothing was begun\n")?;
         self.unwritten.push_str(line.as_str())?;
         self.early = Some(RunEnding::NotBegun);
-        self.status = NOT_DONE;
         self.stage = Stage::Leaving;
         Ok(())
     }
@@ -78,7 +80,6 @@ impl Session {
             cause => String::from_str(self.alloc, why_unconnected(cause))?,
         };
         self.verdict = format!(in self.alloc; "dme: connection failed\n{line}")?;
-        self.status = 1;
         self.stage = Stage::Leaving;
         Ok(())
     }
@@ -134,6 +135,8 @@ impl Session {
     pub(crate) fn call(&mut self, answer: Answer<'_>) -> Result<(), AllocError>
         ensures ran { spec.Keeps self.old self.new }
         ensures book { self.new.book ≡ self.old.book }
+        ensures unbegun { OnOk result (spec.is_unbegun self.old.stage
+            (the_reply answer.entry) ≡ true → self.new.unbegun ≡ true) }
         ensures due { OnOk result (spec.IsDue self.new) }
         ensures followed { OnOk result (spec.FollowsApart self.old self.new) }
     {

@@ -84,7 +84,6 @@ impl Session {
         let line = unwritten_line(self.alloc, self.run.name(kept), answer)?;
         if self.verdict.is_empty() {
             self.verdict = line;
-            self.status = 1;
             return Ok(());
         }
         self.unwritten.push_str(line.as_str())
@@ -133,13 +132,13 @@ impl Session {
         ensures nears { ends.NearsOn result self.old self.new }
     {
         if let Answer::Done = answer {
-            self.is_printed = true;
+            self.printed = Some(true);
             self.stage = self.after_report();
             return Ok(());
         }
+        self.printed = Some(false);
         self.unwritten.clear();
         self.verdict = String::from_str(self.alloc, UNPRINTED)?;
-        self.status = 1;
         self.stage = Stage::Leaving;
         Ok(())
     }
@@ -153,7 +152,7 @@ impl Session {
         ensures stays { OnErr result (self.new.stage ≡ self.old.stage) }
     {
         if self.is_short {
-            self.tell();
+            self.stage = Stage::Telling;
             return Ok(());
         }
         if self.run.record.is_some() && self.written.kept.is_none() {

@@ -3,7 +3,7 @@
 ghost use Rattle.std.specs.Prelude.{◌≡◌, ℕ, [], ◌∷◌, List, ◌++◌, true, false, length, map, None, Some, codes, decimal};
 ghost use Rattle.record_text.specs.declared.notes.Note.TheVariants.{By, Operator, Opened, Dated, Left, Refused, Sealed};
 ghost use Rattle.record_text.specs.Growths.{Growth, with_notes};
-ghost use Rattle.link_world.specs.declared.connections.pumps.PumpFault.TheVariants.{Ended, ReadFailed};
+ghost use Rattle.link_world.specs.declared.connections.pumps.PumpFault.TheVariants.{Ended, Memory, ReadFailed};
 ghost use Rattle.run_session.specs.Evidence.{course_of, due, ended, given_notes, has_due, noted_open, passed};
 ghost use Rattle.client_core.specs.Calls.{Abort};
 ghost use Rattle.contact_ledger.specs.declared.acts.Act.{Act};
@@ -18,7 +18,7 @@ ghost use Rattle.effects.specs.Effects.{Append, Keep, Send, Byte, Receive, Remov
 ghost use Rattle.effects.specs.declared.vocabulary.Peer.TheVariants.{Server};
 ghost use Rattle.protocol_model.specs.declared.states.State.TheVariants.{Running, Failing, Aborting, Halted, Done as Completed};
 ghost use Rattle.effects.specs.declared.vocabulary.Growth.TheVariants.{Record, Features, Contacts};
-ghost use Rattle.run_session.specs.Records.{State, Outside, Marks, AsksAt, IsDue, IsDueBy, Unforced, HasTold, HasFollowed, AreFeaturesLines, appended, kept, filed_by, lacking, is_due, confirms_pause, Reports, HasReported, reported_text, marked_at, is_stop, stopped, IsFree, IsLater, Ran, nothing, Stops, Turns, closed, seal_if, with_due, with_said};
+ghost use Rattle.run_session.specs.Records.{State, Outside, Marks, AsksAt, IsDue, IsDueBy, Unforced, HasAll, HasTold, HasFollowed, is_unbegun, none_written, over, status_at, AreFeaturesLines, appended, kept, filed_by, lacking, is_due, confirms_pause, Reports, HasReported, reported_text, marked_at, is_stop, stopped, IsFree, IsLater, Ran, nothing, Stops, Turns, closed, seal_if, with_due, with_said};
 ghost use Rattle.dme_line.specs.declared.commands.Command.TheVariants.{AbortE as Aborts};
 ghost use Rattle.dme_line.specs.declared.commands.Kind.TheVariants.{AbortE, GoTo, PtMeas};
 ghost use Rattle.dme_line.specs.declared.tags.Tag.TheVariants.{Event, Std};
@@ -27,6 +27,7 @@ ghost use Rattle.dmis_program.specs.declared.features.Wanted.{Wanted};
 ghost use Rattle.run_session.specs.Ends.{Nears, steps_left};
 ghost use Rattle.run_session.specs.ErrorRows.{row, two};
 ghost use Rattle.run_session.specs.Errors.{Hears, Records, Talk, error_kept, error_line, new_talk, touch_text, with_about, with_written};
+ghost use Rattle.run_session.specs.Statuses.{of_end, of_files, of_unbegun};
 ghost use Rattle.run_session.specs.Progress.{cell, clock, full_cells, left, pace_line, paced};
 ghost use Rattle.run_session.specs.declared.progress.Pace.{Pace};
 ghost use Rattle.run_session.specs.declared.runs.Output.{Output};
@@ -64,8 +65,7 @@ pub fn ask_rows()
         → AsksAt Reporting s (Append Contacts (7 ∷ 8 ∷ [])) → ⊥ }
     ensures lost { (s : State) → s.book.lost ≡ true → lacking s ≡ [] }
     ensures exit { (s : State) → s.pair.end.client.state ≡ Running → AsksAt Exiting s (Exit 0) → ⊥ }
-    ensures unreported { (s : State) → s.reports.marks.printed ≡ false → AsksAt Exiting s (Exit 0) → ⊥ }
-    ensures failure { (s : State) → AsksAt Exiting s (Exit 3) }
+    ensures unreported { (s : State) → s.reports.marks.printed ≡ None → AsksAt Exiting s (Exit 0) → ⊥ }
     ensures early { (s : State) → AsksAt Ending s (Exit 0) → ⊥ }
     ensures unsent { (s : State) → AsksAt Showing s (Send Server (7 ∷ [])) → ⊥ }
     ensures unprinted { (s : State) → AsksAt Closing s (Print (7 ∷ [])) → ⊥ }
@@ -88,10 +88,6 @@ pub fn whole_rows()
         → (marked_at s Done m).written ≡ record (m.written) { kept = Some true } }
     ensures differs { (s : State) (m : Marks) → s.stage ≡ Standing → marked_at s Missing m ≡ m }
     ensures elsewhere { (s : State) (m : Marks) → s.stage ≡ Settling → marked_at s Done m ≡ m }
-    ensures done { (s : State) → s.pair.end.client.state ≡ Completed → s.reports.marks.printed ≡ true
-        → s.reports.marks.written
-        ≡ record { features = Some true; kept = Some true; contacts = Some true }
-        → AsksAt Exiting s (Exit 0) }
     ensures unlisted { (s : State) (file : Output) → s.files.features ≡ Some file
         → s.reports.marks.written.features ≡ None → AsksAt Exiting s (Exit 0) → ⊥ }
     ensures unrecorded { (s : State) → s.book.keeps ≡ true → s.reports.marks.written.kept ≡ None
@@ -106,6 +102,49 @@ pub fn whole_rows()
         → s.reports.marks.written.kept ≡ None → IsDue s → ⊥ }
     ensures skipped { (s : State) → s.stage ≡ Ending → s.begun ≡ true → s.reports.named ≡ true
         → s.reports.marks.written.contacts ≡ None → IsDue s → ⊥ }
+{}
+
+/// The exit status: that of its connection, or of what has kept a run from it; 1 if a file could not be written, unless a message was shown
+/// before; 1 if the report could not be printed, whatever else; 4 if the last message is that memory has run out; and 3 for what is not done
+/// though nothing has failed.
+pub fn status_rows()
+    ensures lapsed { of_end (course_of (Some Memory) true false) Running ≡ 1 }
+    ensures memory { of_end (course_of (Some Memory) false false) Completed ≡ 4 }
+    ensures broken { of_end (course_of (Some Ended) false false) Completed ≡ 1 }
+    ensures stopped { of_end (course_of None false true) Halted ≡ 3 }
+    ensures complete { of_end (course_of None false false) Completed ≡ 0 }
+    ensures found { of_unbegun true ≡ 3 }
+    ensures unreached { of_unbegun false ≡ 1 }
+    ensures features { of_files (record none_written { features = Some false }) 0 ≡ 1 }
+    ensures record { of_files (record none_written { kept = Some false }) 3 ≡ 1 }
+    ensures contacts { of_files (record none_written { contacts = Some false }) 0 ≡ 1 }
+    ensures said { of_files (record none_written { contacts = Some false }) 4 ≡ 4 }
+    ensures written { of_files (record none_written { kept = Some true }) 3 ≡ 3 }
+    ensures last { (s : State) → s.book.short ≡ true → status_at s ≡ 4 }
+    ensures unprinted { (s : State) → s.book.short ≡ false → s.begun ≡ true
+        → s.reports.marks.printed ≡ Some false → s.course ≡ course_of (Some Memory) false false
+        → status_at s ≡ 1 }
+    ensures unasked { (s : State) → s.book.short ≡ false → s.begun ≡ true
+        → s.reports.marks.printed ≡ None → s.reports.marks.written ≡ none_written
+        → s.course ≡ course_of (Some Memory) false false → status_at s ≡ 4 }
+    ensures early { (s : State) → s.book.short ≡ false → s.begun ≡ false → s.unbegun ≡ true
+        → s.reports.marks.printed ≡ None → s.reports.marks.written ≡ none_written → status_at s ≡ 3 }
+    ensures unfinished { (s : State) → s.book.short ≡ false → s.begun ≡ true
+        → s.reports.marks.printed ≡ Some true → s.reports.marks.written ≡ none_written
+        → s.course ≡ course_of None false false → s.pair.end.client.state ≡ Running
+        → AsksAt Exiting s (Exit 3) }
+    ensures failure { (s : State) → s.book.short ≡ true → AsksAt Exiting s (Exit 3) → ⊥ }
+    ensures done { (s : State) → s.book.short ≡ false → s.begun ≡ true
+        → s.course ≡ course_of None false false → s.pair.end.client.state ≡ Completed
+        → s.reports.marks.printed ≡ Some true → s.reports.marks.written
+        ≡ record { features = Some true; kept = Some true; contacts = Some true }
+        → AsksAt Exiting s (Exit 0) }
+    ensures unmarked { (s : State) (m : Marks) → s.stage ≡ Printing
+        → marked_at s Short m ≡ record m { printed = Some false } }
+    ensures message { (s : State) → s.stage ≡ Telling → s.book.short ≡ false → IsDue s → ⊥ }
+    ensures peeked { is_unbegun Peeking Found ≡ true }
+    ensures unfound { is_unbegun Peeking Missing ≡ false }
+    ensures later { is_unbegun Checking Found ≡ false }
 {}
 
 /// A features file that lacks the last feature gets its lines, and one that has all gets nothing; what was answered of it is known.
@@ -185,7 +224,13 @@ pub fn follow_rows()
         → lacking s ≡ 7 ∷ [] → HasFollowed s → ⊥ }
     ensures adding { (s : State) → s.stage ≡ Recording → HasTold s → HasFollowed s }
     ensures without { (s : State) → s.stage ≡ Sending → s.book.keeps ≡ false
-        → s.reports.named ≡ false → lacking s ≡ [] → is_due s false ≡ false → HasFollowed s }
+        → s.reports.named ≡ false → lacking s ≡ [] → is_due s false ≡ false → over s ≡ false
+        → HasFollowed s }
+    ensures over { (s : State) → s.stage ≡ Sending → s.book.short ≡ false → over s ≡ true
+        → HasFollowed s → ⊥ }
+    ensures awaits { (s : State) → s.stage ≡ Awaiting → s.book.short ≡ false → over s ≡ true
+        → HasFollowed s → ⊥ }
+    ensures shows { (s : State) → s.stage ≡ Showing → HasTold s → HasAll s → HasFollowed s }
     ensures undue { (s : State) → s.stage ≡ Sending → s.book.short ≡ false
         → is_due s false ≡ true → HasFollowed s → ⊥ }
     ensures ended { (s : State) → s.stage ≡ Printing → s.book.short ≡ false

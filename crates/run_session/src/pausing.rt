@@ -92,6 +92,7 @@ impl Session {
         ensures book { spec.of_file self.new.book ≡ spec.of_file self.old.book }
         ensures short { self.new.book.short ≡ self.old.book.short }
         ensures told { spec.StaysTold self.old self.new }
+        ensures runs { spec.over self.new ≡ spec.over self.old }
         ensures opens { spec.open_on self.new ≡ spec.open_on self.old }
         ensures ends { spec.IsPaused self.old
             → self.new.book.pauses ≡ drop 1 self.old.book.pauses }
@@ -107,7 +108,7 @@ impl Session {
         ensures book { spec.of_file self.new.book ≡ spec.of_file self.old.book }
         ensures short { self.new.book.short ≡ self.old.book.short }
         ensures due { spec.IsDue self.new }
-        ensures followed { spec.Follows self.old self.new }
+        ensures followed { spec.FollowsGoing self.old self.new }
         ensures ends { spec.IsPaused self.old
             → self.new.book.pauses ≡ drop 1 self.old.book.pauses }
     {
@@ -133,7 +134,7 @@ impl Session {
     fn await_end(&mut self)
         ensures quiet { spec.IsQuiet self.old self.new }
         ensures due { spec.IsDue self.new }
-        ensures followed { spec.Follows self.old self.new }
+        ensures followed { spec.FollowsGoing self.old self.new }
     {
         if self.is_paused() {
             self.stage = Stage::Returning;
@@ -155,7 +156,7 @@ impl Session {
         ensures pauses { spec.confirms_pause self.old.stage (the_reply answer.entry) ≡ false
             → self.new.book.pauses ≡ self.old.book.pauses }
         ensures due { OnOk result (spec.IsDue self.new) }
-        ensures followed { OnOk result (spec.Follows self.old self.new) }
+        ensures followed { OnOk result (spec.FollowsGoing self.old self.new) }
         ensures ends { spec.IsPaused self.old
             → spec.confirms_pause self.old.stage (the_reply answer.entry) ≡ true
             → self.new.book.pauses ≡ drop 1 self.old.book.pauses }

@@ -3,6 +3,7 @@
 ghost use Rattle.std.specs.Prelude.{◌≡◌, false};
 ghost use Rattle.std.specs.Option.{option_map_or};
 ghost use Rattle.run_session.specs.Records as spec;
+ghost use Rattle.run_session.specs.Statuses as statuses;
 
 use crate::evidence::Noted;
 
@@ -84,6 +85,13 @@ impl Written {
         }
     }
 
+    /// Whether one could not be written.
+    pub fn lacks_file(self) -> bool
+        ensures { result ≡ statuses.lacks_file self }
+    {
+        has_failed(self.features) || has_failed(self.kept) || has_failed(self.contacts)
+    }
+
     /// A file has its whole text, or could not be written.
     pub fn note(&mut self, kept: Kept, is_done: bool)
         ensures { self.new ≡ spec.with_written kept is_done self.old }
@@ -93,6 +101,16 @@ impl Written {
             Kept::Record => self.kept = Some(is_done),
             Kept::Contacts => self.contacts = Some(is_done),
         }
+    }
+}
+
+/// Whether it could not be written.
+pub(crate) fn has_failed(mark: Option<bool>) -> bool
+    ensures { result ≡ statuses.has_failed mark }
+{
+    match mark {
+        Some(is_done) => !is_done,
+        None => false,
     }
 }
 

@@ -1,6 +1,6 @@
 // A session: what it asks, and what it does with an answer.
 
-ghost use Rattle.std.specs.Prelude.{◌≡◌, true, false, length, drop, map, is_some, option_map, None, OnOk, IfOk};
+ghost use Rattle.std.specs.Prelude.{◌≡◌, ◌&&◌, ◌⊎◌, true, false, length, drop, map, is_some, option_map, None, OnOk, IfOk};
 ghost use Rattle.std.specs.Option.{option_map_or};
 ghost use Rattle.effects.specs.Effects.{the_ask, the_reply};
 ghost use Rattle.protocol_model.specs.Ends.{end_connected};
@@ -56,7 +56,7 @@ impl Model for Begun {
 
     ghost Value = { Start };
 
-    ghost use Rattle.std.specs.Prelude.{is_some, false, option_map};
+    ghost use Rattle.std.specs.Prelude.{is_some, false, None, option_map};
 
     ghost view = { λ b. record {
       growth = b.growth;
@@ -73,7 +73,7 @@ impl Model for Begun {
           lost = b.reported.has_failed;
           listed = b.listed.settled;
           lists = b.listed.is_kept;
-          printed = false;
+          printed = None;
           written = none_written;
         };
       };
@@ -176,7 +176,7 @@ pub struct Session {
     /// Whether its client has come to the connection, and is there.
     pub(crate) has_begun: bool,
     pub(crate) is_on: bool,
-    /// Whether memory has run out before, and whether it has run out.
+    /// Whether memory has run out and that is said last, and whether it has run out.
     pub(crate) is_short: bool,
     pub(crate) is_spent: bool,
     /// Whether the stop file was seen, or the operator has not confirmed a pause; and in which state the client was then.
@@ -196,7 +196,7 @@ pub struct Session {
     /// How often it has looked whether a server that is left leaves, too.
     pub(crate) looks: u32,
     /// Whether the report was printed, and which files were written whole at the end.
-    pub(crate) is_printed: bool,
+    pub(crate) printed: Option<bool>,
     pub(crate) written: Written,
     /// What is added to the log, or printed.
     pub(crate) text: Vec<u8>,
@@ -205,11 +205,9 @@ pub struct Session {
     pub(crate) verdict: String,
     /// What is said before the verdict.
     pub(crate) unwritten: String,
-    pub(crate) message: &'static str,
     pub(crate) broken: Option<PumpFault<ClientFault>>,
     pub(crate) lapse: Option<Lapse>,
     pub(crate) early: Option<RunEnding>,
-    pub(crate) status: u8,
 }
 
 impl Model for Session {
@@ -243,7 +241,7 @@ impl Model for Session {
           lost = s.reported.has_failed;
           listed = s.listed.settled;
           lists = s.listed.is_kept;
-          printed = s.is_printed;
+          printed = s.printed;
           written = s.written;
         };
       };
@@ -256,6 +254,7 @@ impl Model for Session {
       };
       files = files_of s.run;
       begun = s.has_begun;
+      unbegun = is_some s.early;
       text = s.text.items;
       list = s.listed.text.items;
       held = s.listed.held;
@@ -349,17 +348,15 @@ impl Session {
             last: Vec::new(alloc),
             has_ended: false,
             looks: 0,
-            is_printed: false,
+            printed: None,
             written: Written::new(),
             text: Vec::new(alloc),
             said: String::new(alloc),
             verdict: String::new(alloc),
             unwritten: String::new(alloc),
-            message: "",
             broken: None,
             lapse: None,
             early: None,
-            status: 0,
         };
         if !session.is_logged {
             session.stage = session.after_log();
@@ -439,6 +436,10 @@ impl Session {
 
     /// Whether each file that is named was written whole.
     fn has_written(&self) -> bool
+        ensures is { result ≡ (spec.is_written (is_some self.now.files.features)
+            self.now.reports.marks.written.features && (spec.is_written self.now.book.keeps
+            self.now.reports.marks.written.kept && spec.is_written self.now.reports.named
+            self.now.reports.marks.written.contacts)) }
         ensures features { result ≡ true → spec.is_written (is_some self.now.files.features)
             self.now.reports.marks.written.features ≡ true }
         ensures recorded { result ≡ true → spec.is_written self.now.book.keeps
@@ -451,17 +452,32 @@ impl Session {
             && is_written(self.run.contacts.is_some(), self.written.contacts)
     }
 
-    /// The exit status: 0 only once all that was asked for is measured and written.
-    fn exit_status(&self) -> u8
-        ensures { result ≡ 0 → spec.HasDone self.now }
+    /// Whether all that was asked for is measured, printed and written.
+    fn has_done(&self) -> bool
+        ensures is { result ≡ spec.has_done self.now }
+        ensures done { result ≡ true → spec.HasDone self.now }
     {
-        if self.status != 0 {
-            self.status
-        } else if self.is_printed && self.has_written() && self.client.state() == State::Done {
-            0
-        } else {
-            NOT_DONE
+        let is_complete = matches!(self.client.state(), State::Done);
+        is_complete && is_written(true, self.printed) && self.has_written()
+    }
+
+    /// The exit status: 0 only then.
+    fn exit_status(&self) -> u8
+        ensures is { result ≡ spec.exit_of self.now }
+        ensures done { result ≡ 0 → spec.HasDone self.now }
+    {
+        let status = self.status();
+        if status == 0 && !self.has_done() {
+            return NOT_DONE;
         }
+        status
+    }
+
+    /// The run ends.
+    fn exits(&self) -> Effect<'_>
+        ensures { spec.IsExit self.now (the_ask result) }
+    {
+        Effect::Exit(self.exit_status())
     }
 
     fn asks_at_end(&self) -> Effect<'_>
@@ -493,8 +509,8 @@ impl Session {
                 self.reported.text.as_slice(),
             ),
             Stage::Ending => Effect::Say(self.said.as_str()),
-            Stage::Telling => Effect::Say(self.message),
-            _ => Effect::Exit(self.exit_status()),
+            Stage::Telling => Effect::Say(OUT_OF_MEMORY),
+            _ => self.exits(),
         }
     }
 
@@ -531,6 +547,11 @@ impl Session {
         ensures goes { spec.GoesOn self.old (the_reply answer.entry) self.new }
         ensures pauses { spec.confirms_pause self.old.stage (the_reply answer.entry) ≡ false
             → self.new.book.pauses ≡ self.old.book.pauses }
+        ensures short { self.old.book.short ≡ true → self.new.book.short ≡ true }
+        ensures lasts { self.new.book.spent ≡ false
+            → self.new.book.short ≡ self.old.book.short }
+        ensures unbegun { spec.is_unbegun self.old.stage (the_reply answer.entry) ≡ true
+            → (self.new.unbegun ≡ true) ⊎ (self.new.book.spent ≡ true) }
         ensures due { spec.IsDue self.new }
         ensures followed { spec.HasFollowed self.old → spec.HasFollowed self.new }
         ensures ends { spec.IsDue self.old
@@ -548,6 +569,9 @@ impl Session {
         ensures goes { spec.GoesOn self.old (the_reply answer.entry) self.new }
         ensures pauses { spec.confirms_pause self.old.stage (the_reply answer.entry) ≡ false
             → self.new.book.pauses ≡ self.old.book.pauses }
+        ensures short { self.new.book.short ≡ self.old.book.short }
+        ensures unbegun { OnOk result (spec.is_unbegun self.old.stage
+            (the_reply answer.entry) ≡ true → self.new.unbegun ≡ true) }
         ensures due { OnOk result (spec.IsDue self.new) }
         ensures followed { OnOk result (spec.HasFollowed self.old → spec.HasFollowed self.new) }
         ensures ends { spec.IsDue self.old
@@ -595,14 +619,14 @@ impl Session {
     }
 
     /// The last message is to be said, which needs no memory.
-    pub(crate) fn tell(&mut self)
-        ensures quiet { spec.IsQuiet self.old self.new }
+    fn tell(&mut self)
+        ensures ran { spec.Keeps self.old self.new }
+        ensures book { self.new.book ≡ record (self.old.book) { short = true } }
         ensures due { spec.IsDue self.new }
         ensures followed { spec.HasFollowed self.new }
         ensures nears { ends.IsWithin 1 self.new }
     {
-        self.message = OUT_OF_MEMORY;
-        self.status = 4;
+        self.give_up();
         self.stage = Stage::Telling;
     }
 
@@ -636,6 +660,7 @@ impl Session {
         ensures ran { spec.Keeps (spec.left self.old) self.new }
         ensures book { spec.of_file self.new.book ≡ spec.of_file self.old.book }
         ensures pauses { self.new.book.pauses ≡ self.old.book.pauses }
+        ensures short { self.old.book.short ≡ true → self.new.book.short ≡ true }
         ensures spent { self.new.book.spent ≡ true }
         ensures due { spec.IsDue self.new }
         ensures followed { spec.HasFollowed self.new }

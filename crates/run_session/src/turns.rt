@@ -187,7 +187,7 @@ impl Session {
     fn ask_more(&mut self) -> Result<(), AllocError>
         ensures quiet { spec.IsQuiet self.old self.new }
         ensures due { OnOk result (spec.IsDue self.new) }
-        ensures followed { OnOk result (spec.Follows self.old self.new) }
+        ensures followed { OnOk result (spec.FollowsGoing self.old self.new) }
     {
         if !self.client.out().is_empty() {
             self.stage = Stage::Sending;
@@ -203,7 +203,7 @@ impl Session {
     pub(crate) fn await_bytes(&mut self)
         ensures quiet { spec.IsQuiet self.old self.new }
         ensures due { spec.IsDue self.new }
-        ensures followed { spec.Follows self.old self.new }
+        ensures followed { spec.FollowsGoing self.old self.new }
     {
         if self.run.stop.is_some() && !self.is_stopped {
             self.stage = Stage::Checking;
@@ -216,7 +216,7 @@ impl Session {
     fn await_unstopped(&mut self)
         ensures quiet { spec.IsQuiet self.old self.new }
         ensures due { spec.IsDue self.new }
-        ensures followed { spec.Follows self.old self.new }
+        ensures followed { spec.FollowsGoing self.old self.new }
     {
         self.stage = if self.is_asked && self.is_paused() {
             Stage::Awaiting
@@ -261,7 +261,7 @@ impl Session {
             (the_reply answer.entry)) self.old self.new) }
         ensures book { self.new.book ≡ self.old.book }
         ensures due { OnOk result (spec.IsDue self.new) }
-        ensures followed { OnOk result (spec.Follows self.old self.new) }
+        ensures followed { OnOk result (spec.FollowsGoing self.old self.new) }
     {
         if let Answer::Found = answer {
             return self.stop();
@@ -296,7 +296,7 @@ impl Session {
         ensures ran { spec.Keeps self.old self.new }
         ensures book { self.new.book ≡ self.old.book }
         ensures due { OnOk result (spec.IsDue self.new) }
-        ensures followed { OnOk result (spec.Follows self.old self.new) }
+        ensures followed { OnOk result (spec.FollowsGoing self.old self.new) }
     {
         match (self.stage, answer) {
             (Stage::Timing, Answer::At(now)) => {
@@ -386,7 +386,9 @@ impl Session {
     {
         match answer {
             Answer::Done => self.has_sent(),
-            Answer::Nothing => self.lapsed(Lapse::Taken, PumpFault::WriteFailed),
+            Answer::Nothing if self.run.timeout.is_some() => {
+                self.lapsed(Lapse::Taken, PumpFault::WriteFailed)
+            }
             Answer::Short => Err(AllocError),
             _ => self.fail(PumpFault::WriteFailed),
         }

@@ -1,8 +1,8 @@
-use Rattle.run_session.proofs.Names.{ap, Apart, Book, Filed, of_file, refl, Stage, State, the_reply, Told}
+use Rattle.run_session.proofs.Names.{ap, Apart, Book, Filed, Going, of_file, refl, Stage, State, the_reply, Told}
 use Rattle.run_session.proofs.Filing.{arm, is_other, is_quiet, noted_goes, or_other, or_quiet, quiet_goes, quiet_keeps}
 use Rattle.run_session.proofs.Stops.{answered_later, is_still, later, may_stop, notes_go, notes_turn, or_still, runs_go, still, still_noted}
 use Rattle.run_session.specs.Records.{answered, is_noting, is_stop}
-use Rattle.run_session.proofs.Paces.{also_filed, is_paced, on_apart, on_filed, on_told, or_paced}
+use Rattle.run_session.proofs.Paces.{also_going, is_paced, on_apart, on_filed, on_going, on_told, or_paced}
 use Rattle.run_session.proofs.sessions.Session.step.Goals as goal
 
 pub returns-in-Logged-clause-goes : goal.returns-in-Logged-clause-goes
@@ -95,24 +95,24 @@ returns-in-MakingContacts-clause-followed c = on_apart c.begin.result _ c.args.s
     (or_paced Apart c.self.inside.stage Stage.MakingContacts refl (is_paced Apart c.self.inside.stage Stage.BeginningContacts refl) c.in-MakingContacts.is) (ap (λ (b : Book). b.short) c.begin.ensures.book) c.begin.ensures.followed
 
 pub returns-in-Checking-clause-followed : goal.returns-in-Checking-clause-followed
-returns-in-Checking-clause-followed c = on_filed c.checked.result _ c.args.self.now c.checked.new.self c.self.view_is
-    (is_paced Filed c.self.inside.stage Stage.Checking refl c.in-Checking.is) (ap (λ (b : Book). b.short) c.checked.ensures.book) c.checked.ensures.followed
+returns-in-Checking-clause-followed c = on_going c.checked.result _ c.args.self.now c.checked.new.self c.self.view_is
+    (is_paced Going c.self.inside.stage Stage.Checking refl c.in-Checking.is) (ap (λ (b : Book). b.short) c.checked.ensures.book) c.checked.ensures.followed
 
 pub returns-in-Timing-clause-followed : goal.returns-in-Timing-clause-followed
-returns-in-Timing-clause-followed c = on_filed c.receive.result _ c.args.self.now c.receive.new.self c.self.view_is
-    (or_paced Filed c.self.inside.stage Stage.Timing refl (is_paced Filed c.self.inside.stage Stage.Receiving refl) c.in-Timing.is) (ap (λ (b : Book). b.short) c.receive.ensures.book) c.receive.ensures.followed
+returns-in-Timing-clause-followed c = on_going c.receive.result _ c.args.self.now c.receive.new.self c.self.view_is
+    (or_paced Going c.self.inside.stage Stage.Timing refl (is_paced Going c.self.inside.stage Stage.Receiving refl) c.in-Timing.is) (ap (λ (b : Book). b.short) c.receive.ensures.book) c.receive.ensures.followed
 
 pub returns-in-Sending-clause-followed : goal.returns-in-Sending-clause-followed
-returns-in-Sending-clause-followed c = on_filed c.sent.result _ c.args.self.now c.sent.new.self c.self.view_is
-    (is_paced Filed c.self.inside.stage Stage.Sending refl c.in-Sending.is) (ap (λ (b : Book). b.short) c.sent.ensures.book) (also_filed c.sent.result c.args.self.now c.sent.new.self c.sent.ensures.followed)
+returns-in-Sending-clause-followed c = on_going c.sent.result _ c.args.self.now c.sent.new.self c.self.view_is
+    (is_paced Going c.self.inside.stage Stage.Sending refl c.in-Sending.is) (ap (λ (b : Book). b.short) c.sent.ensures.book) (also_going c.sent.result c.args.self.now c.sent.new.self c.sent.ensures.followed)
 
 pub returns-in-Awaiting-clause-followed : goal.returns-in-Awaiting-clause-followed
-returns-in-Awaiting-clause-followed c = on_filed c.typed.result _ c.args.self.now c.typed.new.self c.self.view_is
-    (is_paced Filed c.self.inside.stage Stage.Awaiting refl c.in-Awaiting.is) c.typed.ensures.short c.typed.ensures.followed
+returns-in-Awaiting-clause-followed c = on_going c.typed.result _ c.args.self.now c.typed.new.self c.self.view_is
+    (is_paced Going c.self.inside.stage Stage.Awaiting refl c.in-Awaiting.is) c.typed.ensures.short c.typed.ensures.followed
 
 pub returns-in-Returning-clause-followed : goal.returns-in-Returning-clause-followed
-returns-in-Returning-clause-followed c = on_filed c.typed-in-Returning.result _ c.args.self.now c.typed-in-Returning.new.self c.self.view_is
-    (is_paced Filed c.self.inside.stage Stage.Returning refl c.in-Returning.is) c.typed-in-Returning.ensures.short c.typed-in-Returning.ensures.followed
+returns-in-Returning-clause-followed c = on_going c.typed-in-Returning.result _ c.args.self.now c.typed-in-Returning.new.self c.self.view_is
+    (is_paced Going c.self.inside.stage Stage.Returning refl c.in-Returning.is) c.typed-in-Returning.ensures.short c.typed-in-Returning.ensures.followed
 
 pub returns-in-Tracing-clause-followed : goal.returns-in-Tracing-clause-followed
 returns-in-Tracing-clause-followed c = on_told c.show_on.result _ c.args.self.now c.show_on.new.self c.self.view_is

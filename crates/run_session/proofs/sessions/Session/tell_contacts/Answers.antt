@@ -10,6 +10,6 @@ returns-clause-ran c = tells_reports c.follow.result _ _ c.follow.new.self.text.
       lost = r.has_failed;
       listed = c.self.inside.listed.settled;
       lists = c.self.inside.listed.is_kept;
-      printed = c.self.inside.is_printed;
+      printed = c.self.inside.printed;
       written = c.self.inside.written;
     }) c.follow.ensures.same)
