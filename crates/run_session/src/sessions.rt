@@ -550,6 +550,8 @@ impl Session {
         ensures short { self.old.book.short ≡ true → self.new.book.short ≡ true }
         ensures lasts { self.new.book.spent ≡ false
             → self.new.book.short ≡ self.old.book.short }
+        ensures base { spec.is_at_end self.old.stage ≡ true → self.new.book.spent ≡ false
+            → spec.base self.new ≡ spec.base self.old }
         ensures unbegun { spec.is_unbegun self.old.stage (the_reply answer.entry) ≡ true
             → (self.new.unbegun ≡ true) ⊎ (self.new.book.spent ≡ true) }
         ensures due { spec.IsDue self.new }
@@ -570,6 +572,8 @@ impl Session {
         ensures pauses { spec.confirms_pause self.old.stage (the_reply answer.entry) ≡ false
             → self.new.book.pauses ≡ self.old.book.pauses }
         ensures short { self.new.book.short ≡ self.old.book.short }
+        ensures base { spec.is_at_end self.old.stage ≡ true
+            → spec.base self.new ≡ spec.base self.old }
         ensures unbegun { OnOk result (spec.is_unbegun self.old.stage
             (the_reply answer.entry) ≡ true → self.new.unbegun ≡ true) }
         ensures due { OnOk result (spec.IsDue self.new) }
