@@ -18,7 +18,7 @@ ghost use Rattle.effects.specs.Effects.{Append, Keep, Send, Byte, Receive, Remov
 ghost use Rattle.effects.specs.declared.vocabulary.Peer.TheVariants.{Server};
 ghost use Rattle.protocol_model.specs.declared.states.State.TheVariants.{Running, Failing, Aborting, Halted, Done as Completed};
 ghost use Rattle.effects.specs.declared.vocabulary.Growth.TheVariants.{Record, Features, Contacts};
-ghost use Rattle.run_session.specs.Records.{State, Outside, Marks, AsksAt, IsDue, IsDueBy, Unforced, HasAll, HasTold, HasFollowed, is_unbegun, none_written, over, status_at, AreFeaturesLines, appended, kept, filed_by, lacking, is_due, confirms_pause, Reports, HasReported, reported_text, marked_at, is_stop, stopped, IsFree, IsLater, Ran, nothing, Stops, Turns, closed, seal_if, with_due, with_said};
+ghost use Rattle.run_session.specs.Records.{State, Outside, Marks, AsksAt, IsDue, IsDueBy, Unforced, Going, HasAll, HasTold, HasFollowed, is_unbegun, none_written, over, pace, status_at, AreFeaturesLines, appended, kept, filed_by, lacking, is_due, confirms_pause, Reports, HasReported, reported_text, marked_at, is_stop, stopped, IsFree, IsLater, Ran, nothing, Stops, Turns, closed, seal_if, with_due, with_said};
 ghost use Rattle.dme_line.specs.declared.commands.Command.TheVariants.{AbortE as Aborts};
 ghost use Rattle.dme_line.specs.declared.commands.Kind.TheVariants.{AbortE, GoTo, PtMeas};
 ghost use Rattle.dme_line.specs.declared.tags.Tag.TheVariants.{Event, Std};
@@ -32,7 +32,7 @@ ghost use Rattle.run_session.specs.Progress.{cell, clock, full_cells, left, pace
 ghost use Rattle.run_session.specs.declared.progress.Pace.{Pace};
 ghost use Rattle.run_session.specs.declared.runs.Output.{Output};
 ghost use Rattle.session_telling.specs.Dialogues.{Reported};
-ghost use Rattle.run_session.specs.declared.stages.Stage.TheVariants.{Checking, Peeking, MakingFeatures, BeginningFeatures, Recording, Settling, Reporting, Standing, ReplacingFeatures, ReplacingRecord, ReplacingContacts, Listing, Showing, Sending, Receiving, Awaiting, Returning, Noting, Printing, Closing, Draining, Leaving, Ending, Telling, Exiting};
+ghost use Rattle.run_session.specs.declared.stages.Stage.TheVariants.{Checking, Peeking, Timing, MakingFeatures, BeginningFeatures, Recording, Settling, Reporting, Standing, ReplacingFeatures, ReplacingRecord, ReplacingContacts, Listing, Showing, Sending, Receiving, Awaiting, Returning, Noting, Printing, Closing, Draining, Leaving, Ending, Telling, Exiting};
 
 /// What was added is in the file, and on the device only if it was forced there; of what was not written the file has the first bytes, and
 /// what was safe stays so.
@@ -215,7 +215,8 @@ pub fn complete_rows()
 {}
 
 /// Nothing is sent before an act that was counted has its line, nor received before the file has it; while it is added the file may lack it;
-/// without a record no act needs a line; and nothing is known of the last message, which is that of memory that has run out.
+/// without a record no act needs a line; nothing is sent or awaited once the run is over; and nothing is known of the last message, which is
+/// that of memory that has run out.
 pub fn follow_rows()
     ensures untold { (s : State) → s.stage ≡ Sending → s.book.short ≡ false → s.book.keeps ≡ true
         → length s.pair.end.client.table.tally.counted ≡ 1 → s.pair.recording.told ≡ 0
@@ -228,8 +229,8 @@ pub fn follow_rows()
         → HasFollowed s }
     ensures over { (s : State) → s.stage ≡ Sending → s.book.short ≡ false → over s ≡ true
         → HasFollowed s → ⊥ }
-    ensures awaits { (s : State) → s.stage ≡ Awaiting → s.book.short ≡ false → over s ≡ true
-        → HasFollowed s → ⊥ }
+    ensures going { (pace Sending ≡ Going) × ((pace Checking ≡ Going) × (pace Timing ≡ Going))
+        × ((pace Receiving ≡ Going) × (pace Awaiting ≡ Going) × (pace Returning ≡ Going)) }
     ensures shows { (s : State) → s.stage ≡ Showing → HasTold s → HasAll s → HasFollowed s }
     ensures undue { (s : State) → s.stage ≡ Sending → s.book.short ≡ false
         → is_due s false ≡ true → HasFollowed s → ⊥ }

@@ -1,6 +1,6 @@
 // A session: what it asks, and what it does with an answer.
 
-ghost use Rattle.std.specs.Prelude.{◌≡◌, ◌&&◌, ◌⊎◌, true, false, length, drop, map, is_some, option_map, None, OnOk, IfOk};
+ghost use Rattle.std.specs.Prelude.{◌≡◌, ◌⊎◌, true, false, length, drop, map, is_some, option_map, None, OnOk, IfOk};
 ghost use Rattle.std.specs.Option.{option_map_or};
 ghost use Rattle.effects.specs.Effects.{the_ask, the_reply};
 ghost use Rattle.protocol_model.specs.Ends.{end_connected};
@@ -434,31 +434,16 @@ impl Session {
         }
     }
 
-    /// Whether each file that is named was written whole.
-    fn has_written(&self) -> bool
-        ensures is { result ≡ (spec.is_written (is_some self.now.files.features)
-            self.now.reports.marks.written.features && (spec.is_written self.now.book.keeps
-            self.now.reports.marks.written.kept && spec.is_written self.now.reports.named
-            self.now.reports.marks.written.contacts)) }
-        ensures features { result ≡ true → spec.is_written (is_some self.now.files.features)
-            self.now.reports.marks.written.features ≡ true }
-        ensures recorded { result ≡ true → spec.is_written self.now.book.keeps
-            self.now.reports.marks.written.kept ≡ true }
-        ensures contacts { result ≡ true → spec.is_written self.now.reports.named
-            self.now.reports.marks.written.contacts ≡ true }
-    {
-        is_written(self.run.features.is_some(), self.written.features)
-            && is_written(self.run.record.is_some(), self.written.kept)
-            && is_written(self.run.contacts.is_some(), self.written.contacts)
-    }
-
     /// Whether all that was asked for is measured, printed and written.
     fn has_done(&self) -> bool
         ensures is { result ≡ spec.has_done self.now }
         ensures done { result ≡ true → spec.HasDone self.now }
     {
-        let is_complete = matches!(self.client.state(), State::Done);
-        is_complete && is_written(true, self.printed) && self.has_written()
+        matches!(self.client.state(), State::Done)
+            && is_written(true, self.printed)
+            && is_written(self.run.features.is_some(), self.written.features)
+            && is_written(self.run.record.is_some(), self.written.kept)
+            && is_written(self.run.contacts.is_some(), self.written.contacts)
     }
 
     /// The exit status: 0 only then.
