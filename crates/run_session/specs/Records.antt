@@ -93,7 +93,7 @@ pub record Book : Type 0 where
   pub settled : ℕ  -- how many features are complete in what no crash takes away
   pub pauses : List ℕ  -- how many commands are held back at each pause that is to come
   pub keeps : Bool  -- whether there is a record
-  pub short : Bool  -- whether memory has run out, so that nothing is left but to say so, after the connection
+  pub short : Bool  -- whether memory has run out, and all that is left is to leave the connection, if there is one, and to say so
   pub spent : Bool  -- whether it has run out
   pub key : Option (List ℕ)  -- that of the record's seals, if it is sealed
   pub noted : Notes
@@ -601,15 +601,15 @@ has_done s = is_complete s.pair.end.client.state && (is_written true s.reports.m
     && (is_written (is_some s.files.features) s.reports.marks.written.features
     && (is_written s.book.keeps s.reports.marks.written.kept && is_written s.reports.named s.reports.marks.written.contacts)))
 
--- the exit status that its connection has given it, or what has kept it from that
+-- the exit status by how its connection has ended, or by what has kept it from one
 abbrev pub base : State → ℕ
 base s = if s.begun then of_end s.course s.pair.end.client.state else of_unbegun s.unbegun
 
--- and with what could not be said, printed or written: 4 if the last message is that memory has run out
+-- and by what could not be printed or written: 4 if all that is left is to say that memory has run out
 abbrev pub status_at : State → ℕ
 status_at s = if s.book.short then 4 else if has_failed s.reports.marks.printed then 1 else of_files s.reports.marks.written (base s)
 
--- nothing has failed, and not all is done: 3
+-- 3 if nothing has failed, and not all is done
 abbrev pub exit_of : State → ℕ
 exit_of s = if status_at s == 0 && not (has_done s) then 3 else status_at s
 

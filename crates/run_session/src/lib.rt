@@ -7,7 +7,8 @@
 //! - `following`: what the client has counted goes to the files; `reported`, `listed`: those of contacts and of features
 //! - `evidence`: what the record notes of the run; `progress`: how far it is
 //! - `pausing`: texts for the operator, at which the run waits if it is asked to
-//! - `ending`: the files get their whole texts, and the report is printed; `leaving`: the server is left; `verdicts`: what is said last
+//! - `ending`: the files get their whole texts, and the report is printed; `leaving`: the server is left; `verdicts`: what is said last, and the
+//!   exit status
 //! - `running`: the session with hands that carry its effects out
 //! - `laws`: what a record's file holds, also once the program is killed; `examples`: what is asked, and what comes of it
 #![tactic(auto)]

@@ -176,7 +176,7 @@ pub struct Session {
     /// Whether its client has come to the connection, and is there.
     pub(crate) has_begun: bool,
     pub(crate) is_on: bool,
-    /// Whether memory has run out and that is said last, and whether it has run out.
+    /// Whether memory has run out and all that is left is to say so, and whether it has run out.
     pub(crate) is_short: bool,
     pub(crate) is_spent: bool,
     /// Whether the stop file was seen, or the operator has not confirmed a pause; and in which state the client was then.

@@ -1,4 +1,4 @@
-// What a run says last.
+// What a run says last, and its exit status.
 
 ghost use Rattle.std.specs.Prelude.{◌≡◌, OnOk, OnErr, option_map};
 ghost use Rattle.link_world.specs.declared.connections.links.LoopFault.{LoopFault};
@@ -48,7 +48,7 @@ impl Session {
         }
     }
 
-    /// The exit status that its connection has given it, or what has kept it from that.
+    /// The exit status by how its connection has ended, or by what has kept it from one.
     fn base(&self) -> u8
         ensures { result ≡ spec.base self.now }
     {
