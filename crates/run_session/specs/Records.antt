@@ -871,6 +871,10 @@ StopsOn (Err e) s reply t = IsLaterNoting (stopped (is_stop s.stage reply) s) t 
 abbrev pub IsQuiet : State → State → Type 0
 IsQuiet s t = t ≡ record s { stage = t.stage; text = t.text; list = t.list; held = t.held; looks = t.looks }
 
+-- memory has run out, and all that is left is to say so
+abbrev pub shortened : State → State
+shortened s = record s { book = record (s.book) { short = true } }
+
 -- ---- the features file while it grows
 
 -- it has the text of as many features of the client as are known to be in it

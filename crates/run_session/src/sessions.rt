@@ -609,8 +609,7 @@ impl Session {
 
     /// The last message is to be said, which needs no memory.
     fn tell(&mut self)
-        ensures ran { spec.Keeps self.old self.new }
-        ensures book { self.new.book ≡ record (self.old.book) { short = true } }
+        ensures quiet { spec.IsQuiet (spec.shortened self.old) self.new }
         ensures due { spec.IsDue self.new }
         ensures followed { spec.HasFollowed self.new }
         ensures nears { ends.IsWithin 1 self.new }
@@ -621,8 +620,7 @@ impl Session {
 
     /// Memory has run out before the connection: files that did not begin are left as they were.
     fn give_up(&mut self)
-        ensures ran { spec.Keeps self.old self.new }
-        ensures book { self.new.book ≡ record (self.old.book) { short = true } }
+        ensures quiet { spec.IsQuiet (spec.shortened self.old) self.new }
         ensures due { spec.IsDue self.new }
         ensures followed { spec.HasFollowed self.new }
     {
