@@ -21,6 +21,7 @@ impl Session {
         ensures quiet { spec.IsQuiet self.old self.new }
         ensures due { OnOk result (spec.IsDue self.new) }
         ensures followed { OnOk result (spec.Follows self.old self.new) }
+        ensures nears { ends.OverWithin (ends.within 21 self.old) result self.old self.new }
     {
         if self.has_to_note(true) {
             self.stage = Stage::Noting;
@@ -34,6 +35,7 @@ impl Session {
         ensures quiet { spec.IsQuiet self.old self.new }
         ensures due { OnOk result (spec.IsDue self.new) }
         ensures followed { OnOk result (spec.FollowsApart self.old self.new) }
+        ensures nears { ends.EndsWithin 21 result self.old self.new }
     {
         self.is_on = false;
         self.judge()?;

@@ -3,10 +3,11 @@
 ghost use Rattle.std.specs.Prelude.{◌≡◌, ◌∷◌, ◌++◌, [], true, false, IfOk, OnOk, map, option_map, string_bytes};
 ghost use Rattle.effects.specs.Effects.{the_reply};
 ghost use Rattle.record_text.specs.Notes.{IsNoteText, is_error};
+ghost use Rattle.run_session.specs.Ends as ends;
 ghost use Rattle.run_session.specs.Evidence as noting;
 ghost use Rattle.run_session.specs.Records as spec;
 
-use crate::Session;
+use crate::{Session, Stage};
 use client_core::{ClientFault, State};
 use effects::Answer;
 use link_world::PumpFault;
@@ -280,6 +281,7 @@ impl Session {
         ensures ran { spec.KeepsNoting self.old self.new }
         ensures book { self.new.book ≡ self.old.book }
         ensures told { spec.StaysTold self.old self.new }
+        ensures still { ends.IsStill self.old self.new }
     {
         let Answer::Bytes(time) = answer else {
             return Ok(());
@@ -296,6 +298,7 @@ impl Session {
         ensures book { self.new.book
             ≡ record (self.old.book) { noted = self.new.book.noted } }
         ensures told { spec.StaysTold self.old self.new }
+        ensures still { ends.IsStill self.old self.new }
     {
         let (complete, is_over) = (self.growth.features(), self.is_over());
         add_seal(&mut self.growth, self.alloc, is_over, &self.run.key)?;
@@ -304,7 +307,9 @@ impl Session {
     }
 
     /// The time is known, or not: then it is not noted.
+    #[tactic(auto, using(crate::proofs::Steps::still_on))]
     pub(crate) fn noted(&mut self, answer: Answer<'_>) -> Result<(), AllocError>
+        requires { self.old.stage ≡ Stage.Noting }
         ensures exact { OnOk result (spec.Keeps (spec.noted_now self.old (the_reply answer.entry))
             self.new) }
         ensures ran { spec.KeepsNoting self.old self.new }
@@ -314,6 +319,8 @@ impl Session {
             ≡ (spec.noted_now self.old (the_reply answer.entry)).book.noted) }
         ensures due { OnOk result (spec.IsDue self.new) }
         ensures followed { OnOk result (spec.FollowsTold self.old self.new) }
+        ensures nears { ends.is_closing self.old ≡ true
+            → ends.FollowsOn result self.old self.new }
     {
         if let Answer::Short = answer {
             return Err(AllocError);

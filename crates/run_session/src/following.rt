@@ -1,7 +1,8 @@
 // What the client has counted goes to the files, and the features that are complete are shown.
 
-ghost use Rattle.std.specs.Prelude.{◌≡◌, ◌∷◌, [], ◌<◌, ◌≤◌, map, length, true, IsNone, IfSome, OnOk, Some};
+ghost use Rattle.std.specs.Prelude.{◌≡◌, ◌∷◌, [], ◌+◌, ◌<◌, ◌≤◌, map, length, true, IsNone, IfSome, OnOk, Some};
 ghost use Rattle.effects.specs.Effects.{the_reply};
+ghost use Rattle.run_session.specs.Ends as ends;
 ghost use Rattle.run_session.specs.Records as spec;
 
 use crate::progress::{Pace, pace_line, touches_of};
@@ -26,6 +27,7 @@ impl Session {
         ensures ran { spec.Keeps self.old self.new }
         ensures book { self.new.book ≡ self.old.book }
         ensures told { OnOk result (spec.HasLines self.new) }
+        ensures still { ends.IsStill self.old self.new }
     {
         self.growth.tell(&self.client)
     }
@@ -35,6 +37,7 @@ impl Session {
         ensures ran { spec.Keeps self.old self.new }
         ensures book { self.new.book ≡ self.old.book }
         ensures told { spec.HasLines self.old → spec.HasLines self.new }
+        ensures still { ends.IsStill self.old self.new }
     {
         let errors = self.errors.take();
         let told = self.growth.tell_errors(errors.as_slice());
@@ -48,16 +51,20 @@ impl Session {
         ensures book { self.new.book ≡ self.old.book }
         ensures lines { spec.HasLines self.old → spec.HasLines self.new }
         ensures told { OnOk result (spec.HasActs self.new) }
+        ensures still { ends.IsStill self.old self.new }
     {
         self.reported.follow(self.number, &self.client)
     }
 
     /// What the client has counted since, and the errors of its server, are to be in the files.
+    #[tactic(auto, using(crate::proofs::Steps::follows))]
     pub(crate) fn follow(&mut self) -> Result<(), AllocError>
         ensures ran { spec.Keeps self.old self.new }
         ensures book { self.new.book ≡ self.old.book }
         ensures due { OnOk result (spec.IsDue self.new) }
         ensures followed { OnOk result (spec.HasFollowed self.new) }
+        ensures nears { ends.OverWithin (35 + ends.spare_steps self.old) result
+            self.old self.new }
     {
         if self.run.record.is_some() {
             self.tell_acts()?;
@@ -75,6 +82,7 @@ impl Session {
         ensures book { self.new.book ≡ self.old.book }
         ensures due { OnOk result (spec.IsDue self.new) }
         ensures followed { OnOk result (spec.FollowsTold self.old self.new) }
+        ensures nears { ends.OverWithin (ends.within 29 self.old) result self.old self.new }
     {
         if self.shown.is_empty() {
             return self.log();
@@ -88,6 +96,7 @@ impl Session {
         ensures book { self.new.book ≡ self.old.book }
         ensures due { OnOk result (spec.IsDue self.new) }
         ensures followed { OnOk result (spec.FollowsTold self.old self.new) }
+        ensures nears { ends.OverWithin (ends.within 28 self.old) result self.old self.new }
     {
         if self.logged.is_empty() {
             return self.record();
@@ -98,10 +107,13 @@ impl Session {
 
     /// They were shown, or logged.
     pub(crate) fn show_on(&mut self, answer: Answer<'_>) -> Result<(), AllocError>
+        requires { ends.within 27 self.old ≤ ends.steps_left self.old }
         ensures ran { spec.Keeps self.old self.new }
         ensures book { self.new.book ≡ self.old.book }
         ensures due { OnOk result (spec.IsDue self.new) }
         ensures followed { OnOk result (spec.FollowsTold self.old self.new) }
+        ensures nears { ends.is_closing self.old ≡ true
+            → ends.FollowsOn result self.old self.new }
     {
         match (self.stage, answer) {
             (Stage::Tracing, _) => {
@@ -132,6 +144,7 @@ impl Session {
         ensures book { self.new.book ≡ self.old.book }
         ensures due { OnOk result (spec.IsDue self.new) }
         ensures followed { OnOk result (spec.FollowsTold self.old self.new) }
+        ensures nears { ends.OverWithin (ends.to_record self.old) result self.old self.new }
     {
         if self.has_to_note(self.is_over()) {
             self.stage = Stage::Noting;
@@ -171,6 +184,7 @@ impl Session {
         ensures talk { self.new.talk ≡ self.old.talk }
         ensures reports { self.new.reports ≡ self.old.reports }
         ensures told { spec.StaysTold self.old self.new }
+        ensures same { self.new ≡ record (self.old) { book = self.new.book } }
     {
         self.filed = self.growth.text().len();
         if let Stage::Settling = self.stage {
@@ -185,6 +199,7 @@ impl Session {
         ensures talk { self.new.talk ≡ self.old.talk }
         ensures reports { self.new.reports ≡ self.old.reports }
         ensures told { spec.StaysTold self.old self.new }
+        ensures same { self.new ≡ record (self.old) { book = self.new.book } }
     {
         self.is_lost = true;
     }
@@ -199,6 +214,8 @@ impl Session {
         ensures noted { self.new.book.noted ≡ self.old.book.noted }
         ensures due { OnOk result (spec.IsDue self.new) }
         ensures followed { OnOk result (spec.FollowsTold self.old self.new) }
+        ensures nears { ends.is_closing self.old ≡ true
+            → ends.FollowsOn result self.old self.new }
     {
         match answer {
             Answer::Done if !self.is_lost => {
@@ -218,6 +235,7 @@ impl Session {
         ensures book { self.new.book ≡ self.old.book }
         ensures due { OnOk result (spec.IsDue self.new) }
         ensures followed { OnOk result (spec.Follows self.old self.new) }
+        ensures nears { ends.OverWithin (ends.within 24 self.old) result self.old self.new }
     {
         let is_kept = self.run.reports() && !self.reported.has_failed;
         if !is_kept || self.reported.lacking().is_empty() {
@@ -247,6 +265,8 @@ impl Session {
         ensures book { self.new.book ≡ self.old.book }
         ensures due { OnOk result (spec.IsDue self.new) }
         ensures followed { OnOk result (spec.Follows self.old self.new) }
+        ensures nears { ends.is_closing self.old ≡ true
+            → ends.FollowsOn result self.old self.new }
     {
         self.note_reported(answer);
         if let Answer::Done = answer {
@@ -262,6 +282,7 @@ impl Session {
         ensures book { self.new.book ≡ self.old.book }
         ensures due { OnOk result (spec.IsDue self.new) }
         ensures followed { OnOk result (spec.Follows self.old self.new) }
+        ensures nears { ends.OverWithin (ends.within 23 self.old) result self.old self.new }
     {
         if !self.listed.is_kept || self.listed.settled >= self.client.features().len() {
             return self.show_features();
@@ -275,7 +296,8 @@ impl Session {
     #[tactic(auto, using(crate::proofs::Filing::undone, crate::proofs::Filing::features_noted))]
     fn note_listed(&mut self, answer: Answer<'_>)
         requires { self.old.stage ≡ Stage.Listing }
-        ensures { spec.IsQuiet (spec.answered self.old (the_reply answer.entry)) self.new }
+        ensures quiet { spec.IsQuiet (spec.answered self.old (the_reply answer.entry)) self.new }
+        ensures stage { self.new.stage ≡ self.old.stage }
     {
         if let Answer::Done = answer {
             self.listed.settle();
@@ -291,6 +313,8 @@ impl Session {
         ensures book { self.new.book ≡ self.old.book }
         ensures due { OnOk result (spec.IsDue self.new) }
         ensures followed { OnOk result (spec.Follows self.old self.new) }
+        ensures nears { ends.is_closing self.old ≡ true
+            → ends.FollowsOn result self.old self.new }
     {
         self.note_listed(answer);
         if let Answer::Done = answer {
@@ -375,6 +399,7 @@ impl Session {
         ensures told { spec.StaysTold self.old self.new }
         ensures opens { spec.open_on self.new ≡ spec.open_on self.old }
         ensures complete { OnOk result (self.new.shown ≡ spec.complete self.new) }
+        ensures same { self.new ≡ record (self.old) { shown = self.new.shown } }
     {
         let count = self.complete();
         let lines = self.feature_lines(count)?;
@@ -390,6 +415,7 @@ impl Session {
         ensures book { self.new.book ≡ self.old.book }
         ensures due { OnOk result (spec.IsDue self.new) }
         ensures followed { OnOk result (spec.Follows self.old self.new) }
+        ensures nears { ends.OverWithin (ends.within 22 self.old) result self.old self.new }
     {
         self.add_features()?;
         if self.shown.is_empty() {
@@ -401,10 +427,13 @@ impl Session {
 
     /// They were shown.
     pub(crate) fn has_shown(&mut self) -> Result<(), AllocError>
+        requires { self.old.stage ≡ Stage.Showing }
         ensures ran { spec.Keeps self.old self.new }
         ensures book { self.new.book ≡ self.old.book }
         ensures due { OnOk result (spec.IsDue self.new) }
         ensures followed { OnOk result (spec.Follows self.old self.new) }
+        ensures nears { ends.is_closing self.old ≡ true
+            → ends.FollowsOn result self.old self.new }
     {
         self.shown.clear();
         self.go_on()

@@ -11,7 +11,7 @@ ghost use Rattle.record_text.specs.Told.{numbered};
 ghost use Rattle.record_text.specs.declared.opening.Beginning.{Beginning};
 ghost use Rattle.record_text.specs.Recordings.{Pair, AreWritten};
 ghost use Rattle.record_text.specs.Runs.{IsRecordOf, IsKilledRun};
-ghost use Rattle.run_session.specs.Ends.{After};
+ghost use Rattle.run_session.specs.Ends.{After, is_closing};
 ghost use Rattle.run_session.specs.Records.{State, Outside, IsKept, HasReported, HasFollowed, HasTold, is_filed, pace};
 ghost use Rattle.run_session.specs.Records.{GoesOn, IsDue, IsListed, IsNext, IsOneVersion, Made, Stops, did, is_at_end, is_list, writes};
 ghost use Rattle.run_session.specs.declared.stages.Stage.TheVariants.{Exiting, Listing, MakingFeatures};
@@ -92,8 +92,11 @@ pub fn features_files_grow()
         → IsListed t text }
 {}
 
-/// A run at its end asks for at most 22 effects, whatever is answered (`Session::take`): after that many answers only its exit is left.
+/// A run asks for at most 50 effects once it is over and what was counted is kept, and at its end for at most 22, whatever is answered
+/// (`Session::take`): after that many answers only its exit is left.
 pub fn runs_exit()
-    ensures { (n : ℕ) (s t : State) → is_at_end s.stage ≡ true → After n s t → 22 ≤ n
+    ensures over { (n : ℕ) (s t : State) → is_closing s ≡ true → After n s t → 50 ≤ n
+        → t.stage ≡ Exiting }
+    ensures ends { (n : ℕ) (s t : State) → is_at_end s.stage ≡ true → After n s t → 22 ≤ n
         → t.stage ≡ Exiting }
 {}

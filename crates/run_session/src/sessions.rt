@@ -569,6 +569,8 @@ impl Session {
         ensures stops { spec.StopsOn result self.old (the_reply answer.entry) self.new }
         ensures nears { spec.is_at_end self.old.stage ≡ true
             → ends.NearsOn result self.old self.new }
+        ensures over { ends.is_following self.old.stage ≡ true → ends.is_closing self.old ≡ true
+            → ends.FollowsOn result self.old self.new }
     {
         match self.stage {
             Stage::Logged | Stage::Beginning | Stage::Peeking | Stage::Connecting => {
@@ -623,6 +625,7 @@ impl Session {
         ensures quiet { spec.IsQuiet (spec.shortened self.old) self.new }
         ensures due { spec.IsDue self.new }
         ensures followed { spec.HasFollowed self.new }
+        ensures nears { ends.IsWithin 7 self.new }
     {
         self.is_short = true;
         self.stage = Stage::Leaving;
@@ -652,11 +655,12 @@ impl Session {
         ensures due { spec.IsDue self.new }
         ensures followed { spec.HasFollowed self.new }
         ensures nears { spec.is_at_end self.old.stage ≡ true → ends.IsWithin 1 self.new }
+        ensures over { ends.IsWithin (ends.short_left self.old) self.new }
     {
-        let is_ending = self.is_ending();
+        let (is_ending, was_spent) = (self.is_ending(), self.is_spent);
         self.is_spent = true;
         self.break_off(PumpFault::Memory);
-        if self.is_on && !is_ending {
+        if self.is_on && !is_ending && !was_spent {
             self.is_on = false;
             if self.follow().is_err() {
                 self.tell();

@@ -5,6 +5,7 @@ ghost use Rattle.dme_line.specs.Tags.{written_tag, IsTag};
 ghost use Rattle.dme_line.specs.declared.tags.Tag.{Tag};
 ghost use Rattle.effects.specs.Effects.{the_reply};
 ghost use Rattle.protocol_model.specs.Client.{may_abort};
+ghost use Rattle.run_session.specs.Ends as ends;
 ghost use Rattle.run_session.specs.Records as spec;
 ghost use Rattle.session_telling.specs.Sessions.{with_command};
 
@@ -130,6 +131,7 @@ impl Session {
         ensures book { self.new.book ≡ self.old.book }
         ensures told { spec.StaysTold self.old self.new }
         ensures opens { spec.open_on self.new ≡ spec.open_on self.old }
+        ensures over { spec.over self.new ≡ true }
     {
         self.client.leave();
         self.broken = Some(why);
@@ -175,8 +177,11 @@ impl Session {
         ensures book { self.new.book ≡ self.old.book }
         ensures due { OnOk result (spec.IsDue self.new) }
         ensures followed { OnOk result (spec.Follows self.old self.new) }
+        ensures nears { ends.OverWithin (ends.within 21 self.old) result self.old self.new }
     {
-        self.send_due()?;
+        if !self.is_over() {
+            self.send_due()?;
+        }
         if self.is_over() {
             return self.end();
         }

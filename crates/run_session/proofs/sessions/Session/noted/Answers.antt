@@ -1,6 +1,7 @@
 use Rattle.run_session.proofs.Names.{◌∙◌, ap, Book, Keeps, State, subst}
 use Rattle.effects.specs.Effects.{the_reply}
 use Rattle.run_session.proofs.Dues.{noted_book, noted_is, told_further}
+use Rattle.run_session.proofs.Steps.{noted_nears}
 use Rattle.run_session.proofs.Stops.{on_ok}
 use Rattle.run_session.proofs.sessions.Session.noted.Goals as goal
 
@@ -21,3 +22,7 @@ returns-clause-passes c = on_ok c.record.result (ap (λ (b : Book). b.noted) c.r
 pub returns-clause-followed : goal.returns-clause-followed
 returns-clause-followed c = told_further c.record.result c.args.self.now c.close_notes.new.self c.record.new.self
     (λ has. c.close_notes.ensures.told (c.note_due.ensures.told has)) c.record.ensures.followed
+
+pub returns-clause-nears : goal.returns-clause-nears
+returns-clause-nears c = noted_nears c.record.result c.args.self.now c.note_due.new.self c.close_notes.new.self c.record.new.self c.requires
+    c.in_ok-close_notes.ensures.exact c.note_due.ensures.still c.close_notes.ensures.still c.record.ensures.nears

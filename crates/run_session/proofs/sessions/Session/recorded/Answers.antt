@@ -1,5 +1,6 @@
 use Rattle.run_session.proofs.Names.{◌∙◌, ◌≡◌, ap, Done, Err, FollowsTold, GoesOn, HasTold, of_file, Ok, OnOk, Reply, Result, State}
 use Rattle.run_session.proofs.Names.{StaysTold, subst, sym, the_reply}
+use Rattle.run_session.proofs.Steps.{filed_nears, lost_nears}
 use Rattle.run_session.proofs.Filing.{filed_goes, lost_goes, goes_further}
 use Rattle.run_session.proofs.sessions.Session.recorded.Goals as goal
 
@@ -29,3 +30,11 @@ after_lost (Err e) s m n t is told f = tt
 pub returns-clause-followed : goal.returns-clause-followed
 returns-clause-followed c = after_lost c.record-2.result c.args.self.now c.lose_record.new.self c.lose.new.self c.record-2.new.self
     c.in_ok-lose.ensures c.lose_record.ensures.told c.record-2.ensures.followed
+
+pub returns-in-Done-clause-nears : goal.returns-in-Done-clause-nears
+returns-in-Done-clause-nears c = filed_nears c.record.result c.args.self.now c.file.new.self c.record.new.self c.requires c.file.ensures.same
+    c.file.ensures.book c.record.ensures.nears
+
+pub returns-clause-nears : goal.returns-clause-nears
+returns-clause-nears c = lost_nears c.record-2.result c.args.self.now c.lose_record.new.self c.lose.new.self c.record-2.new.self c.requires
+    c.lose_record.ensures.same c.lose_record.ensures.book c.in_ok-lose.ensures c.record-2.ensures.nears

@@ -24,9 +24,10 @@ returns-else-is_err-clause-stops c =
 pub returns-then-is_err-clause-nears : goal.returns-then-is_err-clause-nears
 returns-then-is_err-clause-nears c =
     let short : is_err c.step.result ≡ true = search rules in
-    nears_short c.step.result c.args.self.now c.step.new.self c.run_short.new.self short c.step.ensures.nears c.run_short.ensures.nears
+    nears_short c.step.result c.args.self.now c.step.new.self c.run_short.new.self short c.step.ensures.nears c.step.ensures.over
+    c.run_short.ensures.nears c.run_short.ensures.over
 
 pub returns-else-is_err-clause-nears : goal.returns-else-is_err-clause-nears
 returns-else-is_err-clause-nears c =
     let done : is_err c.step.result ≡ false = search rules in
-    nears_on c.step.result c.args.self.now c.step.new.self done c.step.ensures.nears
+    nears_on c.step.result c.args.self.now c.step.new.self done c.step.ensures.nears c.step.ensures.over
