@@ -18,7 +18,7 @@ ghost use Rattle.effects.specs.Effects.{Append, Keep, Send, Byte, Receive, Remov
 ghost use Rattle.effects.specs.declared.vocabulary.Peer.TheVariants.{Server};
 ghost use Rattle.protocol_model.specs.declared.states.State.TheVariants.{Running, Failing, Aborting, Halted, Done as Completed};
 ghost use Rattle.effects.specs.declared.vocabulary.Growth.TheVariants.{Record, Features, Contacts};
-ghost use Rattle.run_session.specs.Records.{State, Outside, Marks, AsksAt, IsDue, IsDueBy, Unforced, Going, HasAll, HasTold, HasFollowed, is_unbegun, none_written, over, pace, status_at, AreFeaturesLines, appended, kept, filed_by, lacking, is_due, confirms_pause, Reports, HasReported, reported_text, marked_at, is_stop, stopped, IsFree, IsLater, Ran, nothing, Stops, Turns, closed, seal_if, with_due, with_said};
+ghost use Rattle.run_session.specs.Records.{State, Outside, Marks, AsksAt, IsDue, IsDueBy, Unforced, HasTold, HasFollowed, AreFeaturesLines, appended, kept, filed_by, lacking, is_due, confirms_pause, over, Reports, HasReported, reported_text, marked_at, is_stop, stopped, IsFree, IsLater, Ran, nothing, Stops, Turns, closed, seal_if, with_due, with_said};
 ghost use Rattle.dme_line.specs.declared.commands.Command.TheVariants.{AbortE as Aborts};
 ghost use Rattle.dme_line.specs.declared.commands.Kind.TheVariants.{AbortE, GoTo, PtMeas};
 ghost use Rattle.dme_line.specs.declared.tags.Tag.TheVariants.{Event, Std};
@@ -32,7 +32,7 @@ ghost use Rattle.run_session.specs.Progress.{cell, clock, full_cells, left, pace
 ghost use Rattle.run_session.specs.declared.progress.Pace.{Pace};
 ghost use Rattle.run_session.specs.declared.runs.Output.{Output};
 ghost use Rattle.session_telling.specs.Dialogues.{Reported};
-ghost use Rattle.run_session.specs.declared.stages.Stage.TheVariants.{Checking, Peeking, Timing, MakingFeatures, BeginningFeatures, Recording, Settling, Reporting, Standing, ReplacingFeatures, ReplacingRecord, ReplacingContacts, Listing, Showing, Sending, Receiving, Awaiting, Returning, Noting, Printing, Closing, Draining, Leaving, Ending, Telling, Exiting};
+ghost use Rattle.run_session.specs.declared.stages.Stage.TheVariants.{Checking, Peeking, MakingFeatures, BeginningFeatures, Recording, Settling, Reporting, Standing, ReplacingFeatures, ReplacingRecord, ReplacingContacts, Listing, Showing, Sending, Receiving, Awaiting, Returning, Noting, Tracing, Printing, Closing, Draining, Leaving, Ending, Telling, Exiting};
 
 /// What was added is in the file, and on the device only if it was forced there; of what was not written the file has the first bytes, and
 /// what was safe stays so.
@@ -184,7 +184,25 @@ pub fn end_rows()
         → s.reports.marks.written.kept ≡ Some true → Nears s t → ⊥ }
     ensures exit { (s t : State) → s.stage ≡ Exiting → t.stage ≡ Exiting → Nears s t }
     ensures message { (s t : State) → s.stage ≡ Exiting → t.stage ≡ Telling → Nears s t → ⊥ }
-    ensures earlier { (s t : State) → s.stage ≡ Showing → Nears s t }
+    ensures earlier { (s t : State) → s.stage ≡ Showing → over s ≡ false → Nears s t }
+{}
+
+/// Once a run is over it comes to its end: nothing more is sent, what was shown is not shown again unless memory has run out since, for the
+/// first time, and what is due is noted once.
+pub fn over_rows()
+    ensures most { (s : State) → s.stage ≡ Tracing → is_due s true ≡ true → s.book.spent ≡ false
+        → steps_left s ≡ 49 }
+    ensures again { (s : State) → s.stage ≡ Showing → over s ≡ true → Nears s s → ⊥ }
+    ensures sent { (s t : State) → s.stage ≡ Showing → over s ≡ true → t.stage ≡ Sending
+        → Nears s t → ⊥ }
+    ensures short { (s t : State) → s.stage ≡ Showing → t.stage ≡ Tracing → over s ≡ true
+        → over t ≡ true → s.book.spent ≡ false → t.book.spent ≡ true → Nears s t }
+    ensures twice { (s t : State) → s.stage ≡ Showing → t.stage ≡ Tracing → over s ≡ true
+        → s.book.spent ≡ true → is_due s true ≡ false → Nears s t → ⊥ }
+    ensures noted { (s t : State) → s.stage ≡ Noting → t.stage ≡ Recording → over s ≡ true
+        → over t ≡ true → t.book.spent ≡ s.book.spent → is_due t true ≡ false → Nears s t }
+    ensures due { (s t : State) → s.stage ≡ Noting → t.stage ≡ Recording → over s ≡ true
+        → t.book.spent ≡ s.book.spent → is_due t true ≡ true → Nears s t → ⊥ }
 {}
 
 /// What is to be in the file of contacts: the acts that were reported before, and then those that the client has counted on its connection, as
