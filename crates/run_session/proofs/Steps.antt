@@ -1,14 +1,14 @@
 -- A run that is over comes to its exit.
 use Rattle.run_session.proofs.Names.{◌&&◌, ◌+◌, ◌-◌, ◌<◌, ◌≡◌, ◌≤◌, ◌⊎◌, ◌∙◌, ap, arith, Bool, cond, Err, false, false≢true, inl, inr, Ok, OnErr, OnOk, refl, Reply, Result}
 use Rattle.run_session.proofs.Names.{Stage, State, subst, suc, sym, true, writes, ℕ}
-use Rattle.run_session.proofs.Names.{Book, filed, filed_by, Growth, IsQuiet, is_some, length, List, None, not, Option, Says, Some}
+use Rattle.run_session.proofs.Names.{Book, filed, filed_by, Growth, HasFollowed, IsAt, IsQuiet, is_some, length, List, None, not, Option, pace, Pace, Says, Some}
 use Rattle.record_text.specs.Seals.{seal_of}
 use Rattle.record_text.specs.Tellings.{Telling}
 use Rattle.record_text.specs.declared.notes.Note.TheVariants.{Sealed}
 use Rattle.run_session.specs.Ends.{After, due_steps, EndsWithin, FollowsOn, is_closing, is_following, is_recorded, IsNearer, IsStill, IsWithin, Nears, NearsOn}
 use Rattle.run_session.specs.Ends.{none, one, OverWithin, place_of, short_left, spare_steps, steps_at, steps_left, steps_on, to_close, to_record, within}
 use Rattle.run_session.specs.Evidence.{can_say, Notes}
-use Rattle.run_session.specs.Records.{answered, closed, did, is_at_end, is_done, is_due, is_record, is_tried, marked, over, seal_if, time_of, with_due, with_marks, with_note}
+use Rattle.run_session.specs.Records.{answered, closed, did, Going, is_at_end, is_done, is_due, is_joined, is_record, is_tried, marked, over, seal_if, time_of, with_due, with_marks, with_note}
 use Rattle.std.proofs.Common.{rules}
 use Rattle.std.specs.Prelude.{◌||◌, is_err, nat_lt}
 
@@ -394,3 +394,17 @@ over_exits n s t c a many = exits n 49 s t (following_most s.stage s (due_most s
 
 pub ends_exit : (n : ℕ) (s t : State) → is_at_end s.stage ≡ true → After n s t → 22 ≤ n → t.stage ≡ Stage.Exiting
 ends_exit n s t e a many = exits n 21 s t (ends_most s.stage s e) (after n s t (ends s e) a).1 (omega (arith, many))
+
+joined : (st : Stage) → is_joined (pace st) ≡ true → (pace st ≡ Going) ⊎ (is_following st ≡ true)
+joined st is = grind arith
+
+pub closes : (s : State) → HasFollowed s → s.book.short ≡ false → is_joined (pace s.stage) ≡ true → over s ≡ true → is_closing s ≡ true
+closes s has long is o = go (joined s.stage is)
+  where
+    end : (e f : Bool) → f ≡ true → (e || (f && over s)) ≡ true
+    end true f g = refl
+    end false f g = ap (λ (b : Bool). b && over s) g ∙ o
+
+    go : (pace s.stage ≡ Going) ⊎ (is_following s.stage ≡ true) → is_closing s ≡ true
+    go (inl going) = absurd (false≢true (sym (subst (λ (p : Pace). IsAt p s) going (has long)).1 ∙ o))
+    go (inr f) = end (is_at_end s.stage) (is_following s.stage) f

@@ -825,6 +825,14 @@ is_filed Filed = true
 is_filed Going = true
 is_filed Apart = true
 
+-- on the connection
+abbrev pub is_joined : Pace → Bool
+is_joined Unknown = false
+is_joined Told = true
+is_joined Filed = true
+is_joined Going = true
+is_joined Apart = false
+
 abbrev pub IsAt : Pace → State → Type 0
 IsAt Unknown s = ⊤
 IsAt Told s = HasTold s

@@ -13,7 +13,7 @@ ghost use Rattle.record_text.specs.Recordings.{Pair, AreWritten};
 ghost use Rattle.record_text.specs.Runs.{IsRecordOf, IsKilledRun};
 ghost use Rattle.run_session.specs.Ends.{After, is_closing};
 ghost use Rattle.run_session.specs.Records.{State, Outside, IsKept, HasReported, HasFollowed, HasTold, is_filed, pace};
-ghost use Rattle.run_session.specs.Records.{GoesOn, IsDue, IsListed, IsNext, IsOneVersion, Made, Stops, did, is_at_end, is_list, writes};
+ghost use Rattle.run_session.specs.Records.{GoesOn, is_joined, over, IsDue, IsListed, IsNext, IsOneVersion, Made, Stops, did, is_at_end, is_list, writes};
 ghost use Rattle.run_session.specs.declared.stages.Stage.TheVariants.{Exiting, Listing, MakingFeatures};
 ghost use Rattle.run_session.specs.Killed.{IsBegun, IsLeft};
 
@@ -93,8 +93,11 @@ pub fn features_files_grow()
 {}
 
 /// A run asks for at most 50 effects once it is over and what was counted is kept, and at its end for at most 22, whatever is answered
-/// (`Session::take`): after that many answers only its exit is left.
+/// (`Session::take`): after that many answers only its exit is left. One that `HasFollowed` keeps what was counted as soon as it is over
+/// (`closes`).
 pub fn runs_exit()
+    ensures closes { (s : State) → HasFollowed s → s.book.short ≡ false
+        → is_joined (pace s.stage) ≡ true → over s ≡ true → is_closing s ≡ true }
     ensures over { (n : ℕ) (s t : State) → is_closing s ≡ true → After n s t → 50 ≤ n
         → t.stage ≡ Exiting }
     ensures ends { (n : ℕ) (s t : State) → is_at_end s.stage ≡ true → After n s t → 22 ≤ n
