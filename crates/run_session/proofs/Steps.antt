@@ -53,6 +53,10 @@ pub nears_on : {A E : Type 0} (r : Result A E) (s t : State) → is_err r ≡ fa
 nears_on (Ok a) s t done end follow = λ c. on_closing (is_at_end s.stage) (is_following s.stage) (over s) end (λ is. follow is c) c
 nears_on (Err e) s t done end follow = absurd (false≢true (sym done))
 
+pub of_ok : {A E X : Type 0} (r : Result A E) → is_err r ≡ false → OnOk r X → X
+of_ok (Ok a) done x = x
+of_ok (Err e) done x = absurd (false≢true (sym done))
+
 short : (s t u : State) → (t.stage ≡ s.stage) × (1 < steps_left s) → is_at_end s.stage ≡ true → (is_at_end t.stage ≡ true → IsWithin 1 u) → IsNearer s u
 short s t u n e within =
     let w : IsWithin 1 u = within (ap is_at_end n.0 ∙ e) in
@@ -67,7 +71,7 @@ short_over s t u still f w = record {
 -- ---- while what was counted is kept
 
 pub still_on : (s m t : State) → IsStill s m → IsStill m t → IsStill s t
-still_on s m t a b = record { stage = b.stage ∙ a.stage; spent = b.spent ∙ a.spent; over = b.over ∙ a.over }
+still_on s m t a b = record { stage = b.stage ∙ a.stage; spent = b.spent ∙ a.spent; over = b.over ∙ a.over; course = b.course ∙ a.course }
 
 at : (s : State) (a : Stage) (n : ℕ) → s.stage ≡ a → steps_on a s + steps_at a (is_recorded s) s.looks ≡ n → steps_left s ≡ n
 at s a n e is = ap (λ (st : Stage). steps_on st s + steps_at st (is_recorded s) s.looks) e ∙ is
@@ -77,8 +81,11 @@ spare_same s m is = ap {B = ℕ} (λ (b : Bool). cond b 0 14) is
 
 follows_on : {A E : Type 0} (r : Result A E) (s m t : State) → IsStill s m → EndsWithin (within 29 m) r m t → EndsWithin (35 + spare_steps s) r s t
 follows_on (Ok a) s m t still w = record {
-  ending = w.ending;
-  fewer = omega (arith, IsWithin.fewer w, due_most m, spare_same s m still.spent);
+  within = record {
+    ending = w.within.ending;
+    fewer = omega (arith, IsWithin.fewer w.within, due_most m, spare_same s m still.spent);
+  };
+  course = w.course ∙ still.course;
 }
 follows_on (Err e) s m t still is = still_on s m t still is
 
@@ -98,7 +105,10 @@ place_most b g = go b.lost (nat_lt b.settled g.telling.counted.features) (nat_lt
     go false false false = search arith
 
 raised : {A E : Type 0} (n k : ℕ) (r : Result A E) (s t : State) → n ≤ k → EndsWithin n r s t → EndsWithin k r s t
-raised n k (Ok a) s t few w = record { ending = w.ending; fewer = omega (arith, IsWithin.fewer w, few) }
+raised n k (Ok a) s t few w = record {
+  within = record { ending = w.within.ending; fewer = omega (arith, IsWithin.fewer w.within, few) };
+  course = w.course;
+}
 raised n k (Err e) s t few is = is
 
 pub record_within : {A E : Type 0} (r : Result A E) (s t : State) → OverWithin (to_record s) r s t → OverWithin (within 28 s) r s t
@@ -106,7 +116,7 @@ record_within r s t f = λ o. raised (to_record s) (within 28 s) r s t (omega (a
 
 -- after an answer
 pub nearer : {A E : Type 0} (n : ℕ) (r : Result A E) (s m t : State) → IsStill s m → n < steps_left s → EndsWithin n r m t → FollowsOn r s t
-nearer n (Ok a) s m t still few w = record { ending = w.ending; fewer = inr (omega (arith, IsWithin.fewer w, few)) }
+nearer n (Ok a) s m t still few w = record { ending = w.within.ending; fewer = inr (omega (arith, IsWithin.fewer w.within, few)) }
 nearer n (Err e) s m t still few is = still_on s m t still is
 
 is_over : (e f o : Bool) → e ≡ false → (e || (f && o)) ≡ true → o ≡ true
@@ -127,13 +137,13 @@ nearer_at a n r s m t e off still due few f c = nearer (within n m) r s m t stil
 
 -- a file was written, or not
 pub answered_still : (s m : State) (reply : Reply) → m ≡ answered s reply → IsStill s m
-answered_still s m reply is = record { stage = ap (λ (x : State). x.stage) is; spent = ap (λ (x : State). x.book.spent) is; over = ap over is }
+answered_still s m reply is = record { stage = ap (λ (x : State). x.stage) is; spent = ap (λ (x : State). x.book.spent) is; over = ap over is; course = ap (λ (x : State). x.course) is }
 
 pub answered_due : (s m : State) (reply : Reply) → m ≡ answered s reply → due_steps m ≡ due_steps s
 answered_due s m reply is = ap due_steps is
 
 pub quiet_still : (s m : State) (reply : Reply) → IsQuiet (answered s reply) m → m.stage ≡ s.stage → IsStill s m
-quiet_still s m reply is stage = record { stage = stage; spent = ap (λ (x : State). x.book.spent) is; over = ap over is }
+quiet_still s m reply is stage = record { stage = stage; spent = ap (λ (x : State). x.book.spent) is; over = ap over is; course = ap (λ (x : State). x.course) is }
 
 pub quiet_due : (s m : State) (reply : Reply) → IsQuiet (answered s reply) m → due_steps m ≡ due_steps s
 quiet_due s m reply is = ap due_steps is
@@ -213,6 +223,7 @@ book_nears a b n r s m t e off is spent noted place few f c =
       stage = ap (λ (x : State). x.stage) is;
       spent = ap (λ (x : State). x.book.spent) is ∙ spent;
       over = ap over is;
+      course = ap (λ (x : State). x.course) is;
     } in
     let due : due_steps m ≡ due_steps s = ap due_steps is ∙ ap (λ (x : Notes). due_steps (with_book (record b { noted = x }) s)) noted in
     nearer (to_record m) r s m t still
@@ -265,7 +276,7 @@ pub shown_nears : {A E : Type 0} (r : Result A E) (s m t : State) → within 27 
 shown_nears r s m t late is f c =
     let o : over s ≡ true = is_over (is_at_end s.stage) (is_following s.stage) (over s)
     (apart (is_at_end s.stage) (λ e. omega (arith, late, ends_most s.stage s e))) c in
-    nearer (to_record s) r s s t (record { stage = refl; spent = refl; over = refl })
+    nearer (to_record s) r s s t (record { stage = refl; spent = refl; over = refl; course = refl })
     (omega (arith, late, place_most s.book s.pair.recording)) (subst (λ (x : State). OverWithin (to_record x) r x t) is f o)
 
 -- ---- memory has run out

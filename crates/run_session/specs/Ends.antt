@@ -112,14 +112,19 @@ pub record IsStill (s t : State) : Type 0 where
   pub stage : t.stage ≡ s.stage
   pub spent : t.book.spent ≡ s.book.spent
   pub over : over t ≡ over s
+  pub course : t.course ≡ s.course
 
 abbrev pub FollowsOn : {A E : Type 0} → Result A E → State → State → Type 0
 FollowsOn (Ok a) s t = IsNearer s t
 FollowsOn (Err e) s t = IsStill s t
 
--- a part of that has that many left at most
+-- a part of that has that many left at most, and how the run was broken off stays
+pub record IsPart (most : ℕ) (s t : State) : Type 0 where
+  pub within : IsWithin most t
+  pub course : t.course ≡ s.course
+
 abbrev pub EndsWithin : {A E : Type 0} → ℕ → Result A E → State → State → Type 0
-EndsWithin most (Ok a) s t = IsWithin most t
+EndsWithin most (Ok a) s t = IsPart most s t
 EndsWithin most (Err e) s t = IsStill s t
 
 -- likewise if the run is over

@@ -3,25 +3,47 @@ use Rattle.std.specs.Prelude.{ℕ, Bool, true, false, not, ◌&&◌, ◌||◌, �
 use Rattle.client_core.specs.declared.faults.ClientFault.{ClientFault}
 use Rattle.link_world.specs.declared.connections.links.LoopFault.TheVariants.{Client}
 use Rattle.link_world.specs.declared.connections.pumps.PumpFault.{PumpFault}
+use Rattle.link_world.specs.declared.connections.pumps.PumpFault.TheVariants.{Ended, ReadFailed, WriteFailed}
+use Rattle.effects.specs.Effects.{Reply, Bytes, Done, End, Nothing, Short}
 use Rattle.order_parts.specs.Broken.{break_status}
 use Rattle.order_parts.specs.Faults.{status_of_state}
 use Rattle.protocol_model.specs.declared.states.State.{State}
-use Rattle.protocol_model.specs.declared.states.State.TheVariants.{Done}
+use Rattle.protocol_model.specs.declared.states.State.TheVariants as state
 use Rattle.run_session.specs.Evidence.{Course}
 use Rattle.run_session.specs.declared.runs.Written.{Written}
+use Rattle.run_session.specs.declared.stages.Stage.{Stage}
+use Rattle.run_session.specs.declared.stages.Stage.TheVariants as stage
 
 abbrev pub is_complete : State → Bool
-is_complete Done = true
-is_complete state = false
+is_complete state.Done = true
+is_complete st = false
 
 -- by why its connection was broken off; or by the state of its client
 abbrev pub of_broken : Option (PumpFault ClientFault) → State → ℕ
-of_broken None state = status_of_state state
-of_broken (Some fault) state = break_status (Client fault)
+of_broken None st = status_of_state st
+of_broken (Some fault) st = break_status (Client fault)
+
+-- an answer that breaks the connection off: its server has closed it, or nothing more can be read from it, or written to it
+abbrev pub read_break : Reply → Option (PumpFault ClientFault)
+read_break (Bytes bytes) = None
+read_break Nothing = None
+read_break Short = None
+read_break End = Some Ended
+read_break reply = Some ReadFailed
+
+abbrev pub sent_break : Reply → Option (PumpFault ClientFault)
+sent_break Done = None
+sent_break Short = None
+sent_break reply = Some WriteFailed
+
+abbrev pub break_by : Stage → Reply → Option (PumpFault ClientFault)
+break_by stage.Receiving reply = read_break reply
+break_by stage.Sending reply = sent_break reply
+break_by st reply = None
 
 -- of a run that was on its connection: 1 if the server has not done in time what was due
 abbrev pub of_end : Course → State → ℕ
-of_end c state = if c.lapsed then 1 else of_broken c.broken state
+of_end c st = if c.lapsed then 1 else of_broken c.broken st
 
 -- of one that was not: 3 if its stop file has kept it from calling its server, else 1
 abbrev pub of_unbegun : (found : Bool) → ℕ

@@ -3,7 +3,7 @@
 ghost use Rattle.std.specs.Prelude.{◌≡◌, ℕ, [], ◌∷◌, List, ◌++◌, true, false, length, map, None, Some, codes, decimal};
 ghost use Rattle.record_text.specs.declared.notes.Note.TheVariants.{By, Operator, Opened, Dated, Left, Refused, Sealed};
 ghost use Rattle.record_text.specs.Growths.{Growth, with_notes};
-ghost use Rattle.link_world.specs.declared.connections.pumps.PumpFault.TheVariants.{Ended, Memory, ReadFailed};
+ghost use Rattle.link_world.specs.declared.connections.pumps.PumpFault.TheVariants.{Ended, Memory, ReadFailed, WriteFailed};
 ghost use Rattle.run_session.specs.Evidence.{course_of, due, ended, given_notes, has_due, noted_open, passed};
 ghost use Rattle.client_core.specs.Calls.{Abort};
 ghost use Rattle.contact_ledger.specs.declared.acts.Act.{Act};
@@ -14,7 +14,7 @@ ghost use Rattle.protocol_model.specs.Ends.{ClientEnd, end_aborted};
 ghost use Rattle.contact_ledger.specs.ContactTexts.{contacts_text};
 ghost use Rattle.contact_ledger.specs.declared.acts.Act.TheVariants.{Homed, HomedIs};
 ghost use Rattle.record_text.specs.Recordings.{Pair};
-ghost use Rattle.effects.specs.Effects.{Append, Keep, Send, Byte, Receive, Remove, Replace, Print, Exit, Reply, Done, Bytes, Short, Found, Missing, End};
+ghost use Rattle.effects.specs.Effects.{Append, Keep, Send, Byte, Receive, Remove, Replace, Print, Exit, Reply, Done, Bytes, Short, Found, Missing, End, Nothing};
 ghost use Rattle.effects.specs.declared.vocabulary.Peer.TheVariants.{Server};
 ghost use Rattle.protocol_model.specs.declared.states.State.TheVariants.{Running, Failing, Aborting, Halted, Done as Completed};
 ghost use Rattle.effects.specs.declared.vocabulary.Growth.TheVariants.{Record, Features, Contacts};
@@ -27,7 +27,7 @@ ghost use Rattle.dmis_program.specs.declared.features.Wanted.{Wanted};
 ghost use Rattle.run_session.specs.Ends.{Nears, steps_left};
 ghost use Rattle.run_session.specs.ErrorRows.{row, two};
 ghost use Rattle.run_session.specs.Errors.{Hears, Records, Talk, error_kept, error_line, new_talk, touch_text, with_about, with_written};
-ghost use Rattle.run_session.specs.Statuses.{of_end, of_files, of_unbegun};
+ghost use Rattle.run_session.specs.Statuses.{break_by, of_end, of_files, of_unbegun};
 ghost use Rattle.run_session.specs.Progress.{cell, clock, full_cells, left, pace_line, paced};
 ghost use Rattle.run_session.specs.declared.progress.Pace.{Pace};
 ghost use Rattle.run_session.specs.declared.runs.Output.{Output};
@@ -142,6 +142,12 @@ pub fn status_rows()
     ensures unmarked { (s : State) (m : Marks) → s.stage ≡ Printing
         → marked_at s Short m ≡ record m { printed = Some false } }
     ensures message { (s : State) → s.stage ≡ Telling → s.book.short ≡ false → IsDue s → ⊥ }
+    ensures closed { break_by Receiving End ≡ Some Ended }
+    ensures unread { break_by Receiving Missing ≡ Some ReadFailed }
+    ensures quiet { break_by Receiving Nothing ≡ None }
+    ensures unsent { break_by Sending Nothing ≡ Some WriteFailed }
+    ensures sent { break_by Sending Done ≡ None }
+    ensures elsewhere { break_by Draining End ≡ None }
     ensures peeked { is_unbegun Peeking Found ≡ true }
     ensures unfound { is_unbegun Peeking Missing ≡ false }
     ensures later { is_unbegun Checking Found ≡ false }

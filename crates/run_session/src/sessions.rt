@@ -1,6 +1,6 @@
 // A session: what it asks, and what it does with an answer.
 
-ghost use Rattle.std.specs.Prelude.{◌≡◌, ◌⊎◌, true, false, length, drop, map, is_some, option_map, None, OnOk, IfOk};
+ghost use Rattle.std.specs.Prelude.{◌≡◌, ◌⊎◌, true, false, length, drop, map, is_some, option_map, Some, None, OnOk, IfOk};
 ghost use Rattle.std.specs.Option.{option_map_or};
 ghost use Rattle.effects.specs.Effects.{the_ask, the_reply};
 ghost use Rattle.protocol_model.specs.Ends.{end_connected};
@@ -10,6 +10,9 @@ ghost use Rattle.client_core.specs.Clients.{may_connect};
 ghost use Rattle.run_session.specs.Ends as ends;
 ghost use Rattle.run_session.specs.Evidence.{given_notes};
 ghost use Rattle.run_session.specs.Records as spec;
+ghost use Rattle.run_session.specs.Statuses as statuses;
+ghost use Rattle.client_core.specs.declared.faults.ClientFault.{ClientFault};
+ghost use Rattle.link_world.specs.declared.connections.pumps.PumpFault.{PumpFault};
 
 use crate::calling::NOT_DONE;
 use crate::errors::Errors;
@@ -539,6 +542,9 @@ impl Session {
             → spec.base self.new ≡ spec.base self.old }
         ensures unbegun { spec.is_unbegun self.old.stage (the_reply answer.entry) ≡ true
             → (self.new.unbegun ≡ true) ⊎ (self.new.book.spent ≡ true) }
+        ensures breaks { (by : PumpFault ClientFault)
+            → statuses.break_by self.old.stage (the_reply answer.entry) ≡ Some by
+            → (self.new.course.broken ≡ Some by) ⊎ (self.new.book.spent ≡ true) }
         ensures due { spec.IsDue self.new }
         ensures followed { spec.HasFollowed self.old → spec.HasFollowed self.new }
         ensures ends { spec.IsDue self.old
@@ -569,6 +575,8 @@ impl Session {
         ensures stops { spec.StopsOn result self.old (the_reply answer.entry) self.new }
         ensures nears { spec.is_at_end self.old.stage ≡ true
             → ends.NearsOn result self.old self.new }
+        ensures breaks { (by : PumpFault ClientFault) → statuses.break_by self.old.stage
+            (the_reply answer.entry) ≡ Some by → OnOk result (self.new.course.broken ≡ Some by) }
         ensures over { ends.is_following self.old.stage ≡ true → ends.is_closing self.old ≡ true
             → ends.FollowsOn result self.old self.new }
     {

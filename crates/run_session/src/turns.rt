@@ -1,13 +1,16 @@
 // On the connection: commands are sent, and lines are heard.
 
-ghost use Rattle.std.specs.Prelude.{◌≡◌, ◌<◌, ◌∷◌, ◌++◌, ℕ, List, true, length, drop, OnOk, OnErr, None};
+ghost use Rattle.std.specs.Prelude.{◌≡◌, ◌<◌, ◌⊎◌, ◌∷◌, ◌++◌, ℕ, List, Some, true, length, drop, OnOk, OnErr, None};
 ghost use Rattle.dme_line.specs.Tags.{written_tag, IsTag};
 ghost use Rattle.dme_line.specs.declared.tags.Tag.{Tag};
 ghost use Rattle.effects.specs.Effects.{the_reply};
 ghost use Rattle.protocol_model.specs.Client.{may_abort};
 ghost use Rattle.run_session.specs.Ends as ends;
 ghost use Rattle.run_session.specs.Records as spec;
+ghost use Rattle.run_session.specs.Statuses as statuses;
 ghost use Rattle.session_telling.specs.Sessions.{with_command};
+ghost use Rattle.client_core.specs.declared.faults.ClientFault.{ClientFault};
+ghost use Rattle.link_world.specs.declared.connections.pumps.PumpFault.{PumpFault};
 
 use crate::{Session, Stage};
 use client_core::{ClientFault, State};
@@ -28,6 +31,17 @@ fn add_shown(shown: &mut Vec<u8>, line: &[u8]) -> Result<(), AllocError> {
         shown.extend_from_slice(part.get(..room).unwrap_or(part))?;
     }
     Ok(())
+}
+
+/// Why the connection is broken off, if this answer to a read breaks it off.
+fn read_fault(answer: Answer<'_>) -> PumpFault<ClientFault>
+    ensures { (by : PumpFault ClientFault) → statuses.read_break (the_reply answer.entry) ≡ Some by
+        → result ≡ by }
+{
+    match answer {
+        Answer::End => PumpFault::Ended,
+        _ => PumpFault::ReadFailed,
+    }
 }
 
 impl Session {
@@ -132,6 +146,8 @@ impl Session {
         ensures told { spec.StaysTold self.old self.new }
         ensures opens { spec.open_on self.new ≡ spec.open_on self.old }
         ensures over { spec.over self.new ≡ true }
+        ensures course { self.new.course
+            ≡ record (self.old.course) { broken = Some why } }
     {
         self.client.leave();
         self.broken = Some(why);
@@ -281,6 +297,8 @@ impl Session {
         ensures book { self.new.book ≡ self.old.book }
         ensures due { OnOk result (spec.IsDue self.new) }
         ensures followed { OnOk result (spec.HasFollowed self.new) }
+        ensures course { OnOk result (self.new.course
+            ≡ record (self.old.course) { broken = Some why; lapsed = true }) }
     {
         self.lapse = Some(lapse);
         self.fail(why)
@@ -292,16 +310,21 @@ impl Session {
         ensures book { self.new.book ≡ self.old.book }
         ensures due { OnOk result (spec.IsDue self.new) }
         ensures followed { OnOk result (spec.HasFollowed self.new) }
+        ensures course { OnOk result (self.new.course
+            ≡ record (self.old.course) { broken = Some why }) }
     {
         self.break_off(why);
         self.follow()
     }
 
     pub(crate) fn receive(&mut self, answer: Answer<'_>) -> Result<(), AllocError>
+        requires { (self.old.stage ≡ Stage.Timing) ⊎ (self.old.stage ≡ Stage.Receiving) }
         ensures ran { spec.Keeps self.old self.new }
         ensures book { self.new.book ≡ self.old.book }
         ensures due { OnOk result (spec.IsDue self.new) }
         ensures followed { OnOk result (spec.FollowsGoing self.old self.new) }
+        ensures breaks { (by : PumpFault ClientFault) → statuses.break_by self.old.stage
+            (the_reply answer.entry) ≡ Some by → OnOk result (self.new.course.broken ≡ Some by) }
     {
         match (self.stage, answer) {
             (Stage::Timing, Answer::At(now)) => {
@@ -314,9 +337,8 @@ impl Session {
             (Stage::Timing, _) => self.stage = Stage::Receiving,
             (_, Answer::Bytes(piece)) => return self.came(piece),
             (_, Answer::Nothing) => return self.go_on(),
-            (_, Answer::End) => return self.fail(PumpFault::Ended),
             (_, Answer::Short) => return Err(AllocError),
-            _ => return self.fail(PumpFault::ReadFailed),
+            _ => return self.fail(read_fault(answer)),
         }
         Ok(())
     }
@@ -384,10 +406,13 @@ impl Session {
 
     /// Commands were sent, or not.
     pub(crate) fn sent(&mut self, answer: Answer<'_>) -> Result<(), AllocError>
+        requires { self.old.stage ≡ Stage.Sending }
         ensures ran { spec.Keeps self.old self.new }
         ensures book { self.new.book ≡ self.old.book }
         ensures due { OnOk result (spec.IsDue self.new) }
         ensures followed { OnOk result (spec.FollowsTold self.old self.new) }
+        ensures breaks { (by : PumpFault ClientFault) → statuses.break_by self.old.stage
+            (the_reply answer.entry) ≡ Some by → OnOk result (self.new.course.broken ≡ Some by) }
     {
         match answer {
             Answer::Done => self.has_sent(),

@@ -5,5 +5,5 @@ use Rattle.run_session.proofs.sessions.Session.has_shown.Goals as goal
 
 pub returns-clause-nears : goal.returns-clause-nears
 returns-clause-nears c = nearer_at Stage.Showing 21 c.go_on.result c.args.self.now c.args.self.now c.go_on.new.self c.requires refl
-    (record { stage = refl; spent = refl; over = refl }) refl (omega arith)
+    (record { stage = refl; spent = refl; over = refl; course = refl }) refl (omega arith)
     (subst (λ (x : State). OverWithin (within 21 x) c.go_on.result x c.go_on.new.self) c.self.view_is c.go_on.ensures.nears)

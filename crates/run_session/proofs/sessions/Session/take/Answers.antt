@@ -3,7 +3,8 @@ use Rattle.run_session.proofs.Filing.{goes_further}
 use Rattle.std.proofs.Common.{◌≡◌, false, rules, true}
 use Rattle.std.specs.Prelude.{is_err}
 use Rattle.run_session.proofs.Stops.{keeps_left, left_stops, ok_stops}
-use Rattle.run_session.proofs.Steps.{nears_on, nears_short}
+use Rattle.run_session.proofs.Names.{inl}
+use Rattle.run_session.proofs.Steps.{nears_on, nears_short, of_ok}
 use Rattle.run_session.proofs.sessions.Session.take.Goals as goal
 
 pub returns-then-is_err-clause-goes : goal.returns-then-is_err-clause-goes
@@ -31,3 +32,8 @@ pub returns-else-is_err-clause-nears : goal.returns-else-is_err-clause-nears
 returns-else-is_err-clause-nears c =
     let done : is_err c.step.result ≡ false = search rules in
     nears_on c.step.result c.args.self.now c.step.new.self done c.step.ensures.nears c.step.ensures.over
+
+pub returns-else-is_err-clause-breaks : goal.returns-else-is_err-clause-breaks
+returns-else-is_err-clause-breaks c = λ by is.
+    let done : is_err c.step.result ≡ false = search rules in
+    inl (of_ok c.step.result done (c.step.ensures.breaks by is))
