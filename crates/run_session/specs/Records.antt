@@ -6,6 +6,8 @@ use Rattle.contact_ledger.specs.ContactTexts.{contacts_text}
 use Rattle.contact_ledger.specs.declared.acts.Act.{Act}
 use Rattle.contact_ledger.specs.FeatureTexts.{features_text, header}
 use Rattle.contact_ledger.specs.declared.features.Feature.{Feature}
+use Rattle.line_framing.specs.Framing.{IsLineDue}
+use Rattle.line_framing.specs.Next.{next_of}
 use Rattle.link_world.specs.Reports.{report_text}
 use Rattle.link_world.specs.Showing.{IsRunCall}
 use Rattle.protocol_model.specs.Ends.{ClientEnd}
@@ -56,14 +58,18 @@ anything = record { aborts = true; notes = true }
 abbrev pub nothing : May
 nothing = record { aborts = false; notes = false }
 
--- a command is sent only if it is not held back, and an abort only where aborts are allowed
+-- a whole line has come that the client has not read
+abbrev pub HasLine : ClientEnd → Type 0
+HasLine e = IsLineDue (next_of e.input.rest)
+
+-- a command is sent only if it is not held back and each line that has come is read, and an abort only where aborts are allowed
 abbrev pub IsFree : (aborts : Bool) → ℕ → ClientEnd → Call → Type 0
-IsFree aborts count e Sends = count < length e.client.table.tally.unsent
+IsFree aborts count e Sends = (count < length e.client.table.tally.unsent) × (HasLine e → ⊥)
 IsFree aborts count e Abort = aborts ≡ true
 IsFree aborts count e call = ⊤
 
 -- a client on its connection and its record, with the pauses that are to come and what is known of its server's errors, from what they were
--- at first: the client makes calls of its own, and sends nothing that is held back; what it writes is noted, and what it is fed is heard; the
+-- at first: the client makes calls of its own, and sends nothing that is held back, or while a line that has come is not read; what it writes is noted, and what it is fed is heard; the
 -- record gets the lines of what the client has counted, unless memory runs out for them, those of the errors that were heard since, and notes
 -- that are no errors, where notes are allowed; of errors nothing is known once memory has run out for them; and a pause ends only once all
 -- that stands above it is counted

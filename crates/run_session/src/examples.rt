@@ -5,7 +5,7 @@ ghost use Rattle.record_text.specs.declared.notes.Note.TheVariants.{By, Operator
 ghost use Rattle.record_text.specs.Growths.{Growth, with_notes};
 ghost use Rattle.link_world.specs.declared.connections.pumps.PumpFault.TheVariants.{Ended, Memory, ReadFailed, WriteFailed};
 ghost use Rattle.run_session.specs.Evidence.{course_of, due, ended, given_notes, has_due, noted_open, passed};
-ghost use Rattle.client_core.specs.Calls.{Abort};
+ghost use Rattle.client_core.specs.Calls.{Abort, Send as SendsDue};
 ghost use Rattle.contact_ledger.specs.declared.acts.Act.{Act};
 ghost use Rattle.contact_ledger.specs.declared.features.Feature.{Feature};
 ghost use Rattle.contact_ledger.specs.FeatureTexts.{feature_lines, header};
@@ -18,7 +18,7 @@ ghost use Rattle.effects.specs.Effects.{Append, Keep, Send, Byte, Receive, Remov
 ghost use Rattle.effects.specs.declared.vocabulary.Peer.TheVariants.{Server};
 ghost use Rattle.protocol_model.specs.declared.states.State.TheVariants.{Running, Failing, Aborting, Halted, Done as Completed};
 ghost use Rattle.effects.specs.declared.vocabulary.Growth.TheVariants.{Record, Features, Contacts};
-ghost use Rattle.run_session.specs.Records.{State, Outside, Marks, AsksAt, IsDue, IsDueBy, Unforced, HasTold, HasFollowed, AreFeaturesLines, appended, kept, filed_by, lacking, is_due, confirms_pause, over, Reports, HasReported, reported_text, marked_at, is_stop, stopped, IsFree, IsLater, Ran, nothing, Stops, Turns, closed, seal_if, with_due, with_said};
+ghost use Rattle.run_session.specs.Records.{State, Outside, Marks, AsksAt, IsDue, IsDueBy, Unforced, HasTold, HasFollowed, AreFeaturesLines, appended, kept, filed_by, lacking, is_due, confirms_pause, over, Reports, HasReported, reported_text, marked_at, is_stop, stopped, IsFree, HasLine, IsLater, Ran, nothing, Stops, Turns, closed, seal_if, with_due, with_said, Going, HasAll, is_unbegun, none_written, pace, status_at};
 ghost use Rattle.dme_line.specs.declared.commands.Command.TheVariants.{AbortE as Aborts};
 ghost use Rattle.dme_line.specs.declared.commands.Kind.TheVariants.{AbortE, GoTo, PtMeas};
 ghost use Rattle.dme_line.specs.declared.tags.Tag.TheVariants.{Event, Std};
@@ -299,6 +299,8 @@ pub fn stop_rows()
     ensures halted { (s : State) → s.pair.end.client.state ≡ Halted → stopped true s ≡ s }
     ensures done { (s : State) → s.pair.end.client.state ≡ Completed → stopped true s ≡ s }
     ensures calm { (e : ClientEnd) → IsFree false 0 e Abort → ⊥ }
+    ensures unread { (e : ClientEnd) → HasLine e → IsFree true 0 e SendsDue → ⊥ }
+    ensures held { (e : ClientEnd) → e.client.table.tally.unsent ≡ [] → IsFree true 0 e SendsDue → ⊥ }
     ensures since { (before : List (ℕ × Act)) (s t : State)
         → HasReported before s.pair s.reports → IsLater s t
         → Ran nothing s.pair s.talk t.book.pauses t.pair t.talk }

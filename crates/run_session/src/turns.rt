@@ -52,10 +52,11 @@ impl Session {
         self.broken.is_some() || matches!(self.client.state(), State::Done | State::Halted)
     }
 
-    /// The client writes the command that is due, which is not held back.
+    /// The client writes the command that is due, which is not held back; all that has come is read.
     fn send(&mut self) -> Result<(), ClientFault>
-        requires { spec.held self.old.book.pauses
+        requires held { spec.held self.old.book.pauses
             < length self.old.pair.end.client.table.tally.unsent }
+        requires read { spec.HasLine self.old.pair.end → ⊥ }
         ensures ran { spec.Keeps self.old self.new }
         ensures book { self.new.book ≡ self.old.book }
         ensures told { spec.StaysTold self.old self.new }
@@ -166,7 +167,7 @@ impl Session {
         Ok(())
     }
 
-    /// The client sends each command that is due, and is not held back, until its run is over.
+    /// The client sends each command that is due, and is not held back, until its run is over; none while a line that has come is not read.
     fn send_due(&mut self) -> Result<(), AllocError>
         ensures ran { spec.Keeps self.old self.new }
         ensures book { self.new.book ≡ self.old.book }
@@ -177,7 +178,7 @@ impl Session {
             if self.is_over() || self.client.due().is_none() {
                 break;
             }
-            if self.client.unsent() <= self.held() {
+            if self.client.has_line() || self.client.unsent() <= self.held() {
                 break;
             }
             if let Err(fault) = self.send() {

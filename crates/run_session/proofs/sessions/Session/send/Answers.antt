@@ -1,4 +1,4 @@
-use Rattle.run_session.proofs.Names.{◌<◌, ap, done_by, HasTold, held, length, List, Ok, possible, refl, Send, State, subst, sym, ℕ}
+use Rattle.run_session.proofs.Names.{ap, done_by, HasTold, held, IsFree, length, List, Ok, possible, refl, Send, State, subst, sym, ℕ}
 use Rattle.run_session.proofs.ClientCalls.{call_keeps, unsent_keeps}
 use Rattle.run_session.proofs.Noting.{send_noted}
 use Rattle.run_session.proofs.Paces.{send_counts, stays, writes_count}
@@ -10,7 +10,7 @@ use Rattle.run_session.proofs.sessions.Session.send.Goals as goal
 pub returns-in_err-send-clause-ran : goal.returns-in_err-send-clause-ran
 returns-in_err-send-clause-ran c = keeps_by _ _ _ _ _ c.self.view_is
     (unsent_keeps c.in_err-send.field-0.0 c.self.inside.pauses.items c.self.inside.client c.send.new.self c.self.inside.growth c.self.inside.errors
-    (λ b. subst (λ (s : State). held s.book.pauses < length s.pair.end.client.table.tally.unsent) (sym c.self.view_is) c.requires)
+    (λ b. subst (λ (s : State). IsFree b (held s.book.pauses) s.pair.end Send) (sym c.self.view_is) (c.requires.held, c.requires.read))
     c.in_err-send.ensures.refused)
 
 pub returns-in_err-send-clause-told : goal.returns-in_err-send-clause-told
@@ -23,7 +23,7 @@ returns-in_err-note-clause-ran c = λ w run. forgot_keeps w _ c.note.new.self (n
     c.note.ensures.rest c.in_err-note.ensures.lost (keeps_by _ _ _ _ _ c.self.view_is
     (call_keeps c.self.inside.pauses.items Send c.self.inside.client c.send.new.self c.self.inside.growth c.self.inside.errors
     (noted_by Send c.self.inside.client c.self.inside.errors) tt
-    (λ b. subst (λ (s : State). held s.book.pauses < length s.pair.end.client.table.tally.unsent) (sym c.self.view_is) c.requires)
+    (λ b. subst (λ (s : State). IsFree b (held s.book.pauses) s.pair.end Send) (sym c.self.view_is) (c.requires.held, c.requires.read))
     c.in_ok-send.ensures.can c.in_ok-send.ensures.ok refl) w run)
 
 pub returns-in_err-note-clause-told : goal.returns-in_err-note-clause-told
@@ -39,7 +39,7 @@ returns-clause-ran c = λ w run. noted_keeps w _ c.note.new.self (noted_by Send 
     (ap (λ (l : List ℕ). length l) c.out-before.ensures) c.in_ok-note.ensures.noted) (keeps_by _ _ _ _ _ c.self.view_is
     (call_keeps c.self.inside.pauses.items Send c.self.inside.client c.send.new.self c.self.inside.growth c.self.inside.errors
     (noted_by Send c.self.inside.client c.self.inside.errors) tt
-    (λ b. subst (λ (s : State). held s.book.pauses < length s.pair.end.client.table.tally.unsent) (sym c.self.view_is) c.requires)
+    (λ b. subst (λ (s : State). IsFree b (held s.book.pauses) s.pair.end Send) (sym c.self.view_is) (c.requires.held, c.requires.read))
     c.in_ok-send.ensures.can c.in_ok-send.ensures.ok refl) w run)
 
 pub returns-clause-told : goal.returns-clause-told
