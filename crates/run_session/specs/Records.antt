@@ -29,10 +29,12 @@ use Rattle.order_parts.specs.Kept.{IsFeaturesText}
 use Rattle.run_session.specs.Errors as errors
 use Rattle.run_session.specs.Errors.{noted_by, Records, Talk}
 use Rattle.run_session.specs.Evidence.{Course, Notes, can_note, can_say, ended, given_due, has_due, is_over, made, passed}
-use Rattle.run_session.specs.Statuses.{has_failed, is_complete, of_end, of_files, of_unbegun}
+use Rattle.run_session.specs.Statuses.{first_last, is_shown, late, unwritten, has_failed, is_complete, of_end, of_files, of_unbegun}
 use Rattle.run_session.specs.declared.runs.Kept as which
 use Rattle.run_session.specs.declared.runs.Kept.TheVariants as whole
 use Rattle.run_session.specs.declared.runs.Output.{Output}
+use Rattle.run_session.specs.declared.runs.Said.{Said}
+use Rattle.run_session.specs.declared.runs.Said.TheVariants as say
 use Rattle.run_session.specs.declared.runs.Run.{Run}
 use Rattle.run_session.specs.declared.runs.Written.{Written}
 use Rattle.run_session.specs.declared.stages.Stage.{Stage}
@@ -167,6 +169,7 @@ pub record State : Type 0 where
   pub list : List ℕ  -- what the features file is to have
   pub held : ℕ  -- how many features it has then
   pub shown : ℕ  -- how many features were shown as complete
+  pub said : List Said  -- what is named as having failed, in what is said last
   pub looks : ℕ  -- how often it has looked whether a server that is left leaves, too
 
 -- the text of the acts that were reported before, and then of those that a client has counted on its connection, as many as are known
@@ -615,6 +618,14 @@ base s = if s.begun then of_end s.course s.pair.end.client.state else of_unbegun
 abbrev pub status_at : State → ℕ
 status_at s = if s.book.short then 4 else if has_failed s.reports.marks.printed then 1 else of_files s.reports.marks.written (base s)
 
+-- what is named as having failed, in what is said last: each file that could not be written, before how the connection ended, or what has kept the
+-- run from one; a report that could not be printed takes the place of that, and of the features file
+abbrev pub said_at : State → List Said
+said_at s = if has_failed s.reports.marks.printed then late s.reports.marks.written ++ say.Unprinted ∷ []
+    else if is_shown (base s) then unwritten s.reports.marks.written ++ say.Ended ∷ []
+    else if not s.begun && s.unbegun then say.Unbegun ∷ unwritten s.reports.marks.written
+    else first_last (unwritten s.reports.marks.written)
+
 -- 3 if nothing has failed, and not all is done
 abbrev pub exit_of : State → ℕ
 exit_of s = if status_at s == 0 && not (has_done s) then 3 else status_at s
@@ -699,7 +710,7 @@ IsOneVersion = (v w : _) → header v ≡ header w → v ≡ w
 -- what holds besides before an effect is asked for: what is printed is the client's report, after its features file; what is made of the
 -- features file, or replaces it, are the features that the client holds, and what it gets are those since the last that it got; what is added
 -- to the record without being forced completes no feature; nothing is added to a file of contacts that could not be kept; the operator is
--- asked at a pause; what is shown as complete is on the device; what is said last follows all files; and the message that needs no memory is said
+-- asked at a pause; what is shown as complete is on the device; what is said last follows all files, and names what has failed; and the message that needs no memory is said
 -- once that has run out
 pub data Want : Type 0 where
   Shown : Want
@@ -743,7 +754,7 @@ IsDueBy (Some Unforced) s = s.pair.recording.telling.counted.features ≤ s.book
 IsDueBy (Some Kept) s = s.reports.marks.lost ≡ false
 IsDueBy (Some Pause) s = IsPaused s
 IsDueBy (Some Complete) s = s.shown ≤ complete s
-IsDueBy (Some Tried) s = HasTried s
+IsDueBy (Some Tried) s = HasTried s × (s.said ≡ said_at s)
 IsDueBy (Some Last) s = s.book.short ≡ true
 
 abbrev pub IsDue : State → Type 0
@@ -883,7 +894,7 @@ StopsOn (Err e) s reply t = IsLaterNoting (stopped (is_stop s.stage reply) s) t 
 
 -- what is neither the client's nor the record's changes
 abbrev pub IsQuiet : State → State → Type 0
-IsQuiet s t = t ≡ record s { stage = t.stage; text = t.text; list = t.list; held = t.held; looks = t.looks }
+IsQuiet s t = t ≡ record s { stage = t.stage; text = t.text; list = t.list; held = t.held; said = t.said; looks = t.looks }
 
 -- memory has run out, and all that is left is to say so
 abbrev pub shortened : State → State

@@ -1,5 +1,5 @@
 -- The exit status of a run (this profile).
-use Rattle.std.specs.Prelude.{ℕ, Bool, true, false, not, ◌&&◌, ◌||◌, ◌==◌, Option, Some, None, if◌then◌else◌}
+use Rattle.std.specs.Prelude.{ℕ, List, [], ◌∷◌, ◌++◌, Bool, true, false, not, ◌&&◌, ◌||◌, ◌==◌, Option, Some, None, if◌then◌else◌}
 use Rattle.client_core.specs.declared.faults.ClientFault.{ClientFault}
 use Rattle.link_world.specs.declared.connections.links.LoopFault.TheVariants.{Client}
 use Rattle.link_world.specs.declared.connections.pumps.PumpFault.{PumpFault}
@@ -10,6 +10,10 @@ use Rattle.order_parts.specs.Faults.{status_of_state}
 use Rattle.protocol_model.specs.declared.states.State.{State}
 use Rattle.protocol_model.specs.declared.states.State.TheVariants as state
 use Rattle.run_session.specs.Evidence.{Course}
+use Rattle.run_session.specs.declared.runs.Kept.{Kept}
+use Rattle.run_session.specs.declared.runs.Kept.TheVariants as kept
+use Rattle.run_session.specs.declared.runs.Said.{Said}
+use Rattle.run_session.specs.declared.runs.Said.TheVariants as say
 use Rattle.run_session.specs.declared.runs.Written.{Written}
 use Rattle.run_session.specs.declared.stages.Stage.{Stage}
 use Rattle.run_session.specs.declared.stages.Stage.TheVariants as stage
@@ -56,6 +60,23 @@ has_failed (Some done) = not done
 
 abbrev pub lacks_file : Written → Bool
 lacks_file w = has_failed w.features || (has_failed w.kept || has_failed w.contacts)
+
+-- ---- what is said last
+
+-- a file is named if it could not be written
+abbrev pub named : Kept → Option Bool → List Said
+named file mark = if has_failed mark then say.Unwritten file ∷ [] else []
+
+-- those that could not be written, without that of features, and with it
+abbrev pub late : Written → List Said
+late w = named kept.Record w.kept ++ named kept.Contacts w.contacts
+
+abbrev pub unwritten : Written → List Said
+unwritten w = named kept.Features w.features ++ late w
+
+abbrev pub first_last : List Said → List Said
+first_last [] = []
+first_last (first ∷ others) = others ++ first ∷ []
 
 -- a message says why, with this status
 abbrev pub is_shown : ℕ → Bool

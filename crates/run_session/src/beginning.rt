@@ -7,7 +7,7 @@ ghost use Rattle.run_session.specs.Records as spec;
 use crate::runs::Kept;
 use crate::{Session, Stage};
 use effects::Answer;
-use session_telling::unwritten_line;
+use session_telling::cause_of;
 use std::alloc::AllocError;
 
 impl Session {
@@ -59,7 +59,7 @@ impl Session {
         ensures due { OnOk result (spec.IsDue self.new) }
         ensures followed { OnOk result (spec.FollowsApart self.old self.new) }
     {
-        self.verdict = unwritten_line(self.alloc, self.run.name(kept), answer)?;
+        self.unopened = Some((kept, cause_of(answer)));
         self.stage = Stage::Leaving;
         Ok(())
     }

@@ -7,8 +7,8 @@ ghost use Rattle.run_session.specs.Records as spec;
 use crate::sessions::LOOK_MS;
 use crate::{Session, Stage};
 use effects::{Answer, Cause};
-use order_parts::{RunEnding, refused_call, unknown_host};
-use session_telling::{cause_of, unwritten_line, why_unconnected};
+use order_parts::RunEnding;
+use session_telling::{cause_of, unwritten_line};
 use std::alloc::AllocError;
 
 /// The exit status of a run that is not Done though nothing has failed, as one that its stop file has kept from beginning.
@@ -59,9 +59,6 @@ impl Session {
         ensures due { OnOk result (spec.IsDue self.new) }
         ensures followed { OnOk result (spec.FollowsApart self.old self.new) }
     {
-        let name = self.run.stop_name();
-        let line = format!(in self.alloc; "dme: {name} exists: nothing was begun\n")?;
-        self.unwritten.push_str(line.as_str())?;
         self.early = Some(RunEnding::NotBegun);
         self.stage = Stage::Leaving;
         Ok(())
@@ -73,13 +70,6 @@ impl Session {
         ensures due { OnOk result (spec.IsDue self.new) }
         ensures followed { OnOk result (spec.FollowsApart self.old self.new) }
     {
-        let host = self.run.host.as_str();
-        let line = match self.missed {
-            Cause::UnknownHost => unknown_host(self.alloc, host)?,
-            Cause::Refused => refused_call(self.alloc, host, self.run.port)?,
-            cause => String::from_str(self.alloc, why_unconnected(cause))?,
-        };
-        self.verdict = format!(in self.alloc; "dme: connection failed\n{line}")?;
         self.stage = Stage::Leaving;
         Ok(())
     }

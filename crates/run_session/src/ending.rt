@@ -10,10 +10,8 @@ use crate::{Session, Stage};
 use client_core::State;
 use effects::Answer;
 use order_parts::end_report;
-use session_telling::unwritten_line;
+use session_telling::cause_of;
 use std::alloc::AllocError;
-
-const UNPRINTED: &str = "dme: cannot write -\n";
 
 impl Session {
     /// The run on the connection is over: its features are to be in their file.
@@ -38,7 +36,6 @@ impl Session {
         ensures nears { ends.EndsWithin 21 result self.old self.new }
     {
         self.is_on = false;
-        self.judge()?;
         if self.run.features.is_none() {
             return self.print();
         }
@@ -71,24 +68,19 @@ impl Session {
         }
     }
 
-    /// A file was written at the end, or not: then that is what is said last, unless something else is.
+    /// A file was written at the end, or not: then that is said last.
     #[tactic(auto, using(crate::proofs::Filing::undone, crate::proofs::Filing::whole_noted))]
-    fn note_replaced(&mut self, answer: Answer<'_>) -> Result<(), AllocError>
+    fn note_replaced(&mut self, answer: Answer<'_>)
         requires { spec.writes self.old.stage ≡ Some (spec.Whole (spec.replaced self.old.stage)) }
         ensures { self.new ≡ spec.answered self.old (the_reply answer.entry) }
     {
         let kept = self.replaced_file();
         if let Answer::Done = answer {
             self.written.note(kept, true);
-            return Ok(());
+            return;
         }
         self.written.note(kept, false);
-        let line = unwritten_line(self.alloc, self.run.name(kept), answer)?;
-        if self.verdict.is_empty() {
-            self.verdict = line;
-            return Ok(());
-        }
-        self.unwritten.push_str(line.as_str())
+        self.causes.note(kept, cause_of(answer));
     }
 
     /// A file has its whole text, or could not be written.
@@ -104,7 +96,7 @@ impl Session {
         ensures followed { OnOk result (spec.FollowsApart self.old self.new) }
         ensures nears { ends.NearsOn result self.old self.new }
     {
-        self.note_replaced(answer)?;
+        self.note_replaced(answer);
         match self.stage {
             Stage::ReplacingFeatures => self.print(),
             _ => self.close(),
@@ -139,8 +131,6 @@ impl Session {
             return Ok(());
         }
         self.printed = Some(false);
-        self.unwritten.clear();
-        self.verdict = String::from_str(self.alloc, UNPRINTED)?;
         self.stage = Stage::Leaving;
         Ok(())
     }

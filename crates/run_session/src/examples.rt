@@ -18,7 +18,7 @@ ghost use Rattle.effects.specs.Effects.{Append, Keep, Send, Byte, Receive, Remov
 ghost use Rattle.effects.specs.declared.vocabulary.Peer.TheVariants.{Server};
 ghost use Rattle.protocol_model.specs.declared.states.State.TheVariants.{Running, Failing, Aborting, Halted, Done as Completed};
 ghost use Rattle.effects.specs.declared.vocabulary.Growth.TheVariants.{Record, Features, Contacts};
-ghost use Rattle.run_session.specs.Records.{State, Outside, Marks, AsksAt, IsDue, IsDueBy, Unforced, HasTold, HasFollowed, AreFeaturesLines, appended, kept, filed_by, lacking, is_due, confirms_pause, over, Reports, HasReported, reported_text, marked_at, is_stop, stopped, IsFree, HasLine, IsLater, Ran, nothing, Stops, Turns, closed, seal_if, with_due, with_said, Going, HasAll, is_unbegun, none_written, pace, status_at};
+ghost use Rattle.run_session.specs.Records.{State, Outside, Marks, AsksAt, IsDue, IsDueBy, Unforced, HasTold, HasFollowed, AreFeaturesLines, appended, kept, filed_by, lacking, is_due, confirms_pause, over, Reports, HasReported, reported_text, marked_at, is_stop, stopped, IsFree, HasLine, IsLater, Ran, nothing, Stops, Turns, closed, seal_if, with_due, with_said, Going, HasAll, is_unbegun, none_written, pace, said_at, status_at};
 ghost use Rattle.dme_line.specs.declared.commands.Command.TheVariants.{AbortE as Aborts};
 ghost use Rattle.dme_line.specs.declared.commands.Kind.TheVariants.{AbortE, GoTo, PtMeas};
 ghost use Rattle.dme_line.specs.declared.tags.Tag.TheVariants.{Event, Std};
@@ -30,9 +30,11 @@ ghost use Rattle.run_session.specs.Errors.{Hears, Records, Talk, error_kept, err
 ghost use Rattle.run_session.specs.Statuses.{break_by, of_end, of_files, of_unbegun};
 ghost use Rattle.run_session.specs.Progress.{cell, clock, full_cells, left, pace_line, paced};
 ghost use Rattle.run_session.specs.declared.progress.Pace.{Pace};
+ghost use Rattle.run_session.specs.declared.runs.Kept.TheVariants.{Features as FeaturesFile, Record as RecordFile, Contacts as ContactsFile};
 ghost use Rattle.run_session.specs.declared.runs.Output.{Output};
+ghost use Rattle.run_session.specs.declared.runs.Said.TheVariants.{Unwritten, Unprinted, Ended as Broken, Unbegun};
 ghost use Rattle.session_telling.specs.Dialogues.{Reported};
-ghost use Rattle.run_session.specs.declared.stages.Stage.TheVariants.{Checking, Peeking, MakingFeatures, BeginningFeatures, Recording, Settling, Reporting, Standing, ReplacingFeatures, ReplacingRecord, ReplacingContacts, Listing, Showing, Sending, Receiving, Awaiting, Returning, Noting, Tracing, Printing, Closing, Draining, Leaving, Ending, Telling, Exiting};
+ghost use Rattle.run_session.specs.declared.stages.Stage.TheVariants.{Checking, Peeking, MakingFeatures, BeginningFeatures, Recording, Settling, Reporting, Standing, ReplacingFeatures, ReplacingRecord, ReplacingContacts, Listing, Showing, Sending, Receiving, Awaiting, Returning, Noting, Tracing, Printing, Closing, Draining, Leaving, Ending, Telling, Exiting, Timing};
 
 /// What was added is in the file, and on the device only if it was forced there; of what was not written the file has the first bytes, and
 /// what was safe stays so.
@@ -151,6 +153,37 @@ pub fn status_rows()
     ensures peeked { is_unbegun Peeking Found ≡ true }
     ensures unfound { is_unbegun Peeking Missing ≡ false }
     ensures later { is_unbegun Checking Found ≡ false }
+{}
+
+/// What is named last as having failed: files before how the connection ended, or before a report that could not be printed, which leaves that
+/// and the features file out; of files alone the first comes last; and a stop file that was there comes first.
+pub fn said_rows()
+    ensures unprinted { (s : State) → s.reports.marks.printed ≡ Some false
+        → s.reports.marks.written
+        ≡ record { features = Some false; kept = Some false; contacts = None }
+        → said_at s ≡ Unwritten RecordFile ∷ Unprinted ∷ [] }
+    ensures broken { (s : State) → s.begun ≡ true → s.reports.marks.printed ≡ Some true
+        → s.course ≡ course_of (Some Ended) false false
+        → s.reports.marks.written ≡ record none_written { features = Some false }
+        → said_at s ≡ Unwritten FeaturesFile ∷ Broken ∷ [] }
+    ensures unreached { (s : State) → s.begun ≡ false → s.unbegun ≡ false
+        → s.reports.marks.printed ≡ None → s.reports.marks.written ≡ none_written
+        → said_at s ≡ Broken ∷ [] }
+    ensures files { (s : State) → s.begun ≡ true → s.reports.marks.printed ≡ Some true
+        → s.course ≡ course_of None false false → s.pair.end.client.state ≡ Completed
+        → s.reports.marks.written
+        ≡ record { features = Some false; kept = Some false; contacts = Some false }
+        → said_at s
+        ≡ Unwritten RecordFile ∷ Unwritten ContactsFile ∷ Unwritten FeaturesFile ∷ [] }
+    ensures unbegun { (s : State) → s.begun ≡ false → s.unbegun ≡ true
+        → s.reports.marks.printed ≡ None
+        → s.reports.marks.written ≡ record none_written { kept = Some false }
+        → said_at s ≡ Unbegun ∷ Unwritten RecordFile ∷ [] }
+    ensures done { (s : State) → s.begun ≡ true → s.reports.marks.printed ≡ Some true
+        → s.course ≡ course_of None false false → s.pair.end.client.state ≡ Completed
+        → s.reports.marks.written ≡ none_written → said_at s ≡ [] }
+    ensures unsaid { (s : State) → s.stage ≡ Ending → s.said ≡ [] → said_at s ≡ Broken ∷ []
+        → IsDue s → ⊥ }
 {}
 
 /// A features file that lacks the last feature gets its lines, and one that has all gets nothing; what was answered of it is known.

@@ -1,11 +1,13 @@
 // What a run is to do.
 
-ghost use Rattle.std.specs.Prelude.{◌≡◌, false};
+ghost use Rattle.std.specs.Prelude.{◌≡◌, ◌++◌, OnOk, false};
 ghost use Rattle.std.specs.Option.{option_map_or};
 ghost use Rattle.run_session.specs.Records as spec;
 ghost use Rattle.run_session.specs.Statuses as statuses;
 
 use crate::evidence::Noted;
+use effects::Cause;
+use std::alloc::AllocError;
 
 /// A file that is replaced: its name, and whether it grows during the run.
 #[derive(Drop)]
@@ -65,6 +67,53 @@ pub(crate) enum Kept {
     Record,
 }
 
+/// What has failed, or has kept a run from beginning, as it is said last.
+#[derive(Clone, Copy, Debug, PartialEq, Eq)]
+pub(crate) enum Said {
+    /// A file could not be written at the end.
+    Unwritten(Kept),
+    /// The report could not be printed.
+    Unprinted,
+    /// The connection was not made, or was broken off.
+    Ended,
+    /// The stop file was there before the server was called.
+    Unbegun,
+}
+
+/// Why files could not be written at the end.
+#[derive(Clone, Copy, Debug)]
+pub(crate) struct Causes {
+    features: Cause,
+    kept: Cause,
+    contacts: Cause,
+}
+
+impl Causes {
+    pub fn new() -> Causes {
+        Causes {
+            features: Cause::Unknown,
+            kept: Cause::Unknown,
+            contacts: Cause::Unknown,
+        }
+    }
+
+    pub fn note(&mut self, kept: Kept, cause: Cause) {
+        match kept {
+            Kept::Features => self.features = cause,
+            Kept::Record => self.kept = cause,
+            Kept::Contacts => self.contacts = cause,
+        }
+    }
+
+    pub fn of(self, kept: Kept) -> Cause {
+        match kept {
+            Kept::Features => self.features,
+            Kept::Record => self.kept,
+            Kept::Contacts => self.contacts,
+        }
+    }
+}
+
 /// Whether each file has its whole text at the end, once that was asked for; `false` for one that could not be written.
 #[derive(Clone, Copy, Debug, PartialEq, Eq)]
 pub(crate) struct Written {
@@ -85,6 +134,22 @@ impl Written {
         }
     }
 
+    /// Those that could not be written are named, the record first.
+    pub fn name_late(self, said: &mut Vec<Said>) -> Result<(), AllocError>
+        ensures { OnOk result (said.new.items ≡ said.old.items ++ statuses.late self) }
+    {
+        name_file(said, Kept::Record, self.kept)?;
+        name_file(said, Kept::Contacts, self.contacts)
+    }
+
+    /// And that of features before them.
+    pub fn name_all(self, said: &mut Vec<Said>) -> Result<(), AllocError>
+        ensures { OnOk result (said.new.items ≡ said.old.items ++ statuses.unwritten self) }
+    {
+        name_file(said, Kept::Features, self.features)?;
+        self.name_late(said)
+    }
+
     /// Whether one could not be written.
     pub fn lacks_file(self) -> bool
         ensures { result ≡ statuses.lacks_file self }
@@ -102,6 +167,16 @@ impl Written {
             Kept::Contacts => self.contacts = Some(is_done),
         }
     }
+}
+
+/// A file is named if it could not be written.
+fn name_file(said: &mut Vec<Said>, kept: Kept, mark: Option<bool>) -> Result<(), AllocError>
+    ensures { OnOk result (said.new.items ≡ said.old.items ++ statuses.named kept mark) }
+{
+    if has_failed(mark) {
+        said.push(Said::Unwritten(kept))?;
+    }
+    Ok(())
 }
 
 /// Whether it could not be written.

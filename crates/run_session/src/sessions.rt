@@ -20,7 +20,7 @@ use crate::evidence::Noting;
 use crate::listed::Listed;
 use crate::progress::Pacing;
 use crate::reported::Reported;
-use crate::runs::{Kept, Written, is_written};
+use crate::runs::{Causes, Kept, Said, Written, is_written};
 use crate::{Run, Stage};
 use client_core::{Client, ClientFault, State};
 use contact_ledger::ServerLedger;
@@ -203,11 +203,11 @@ pub struct Session {
     pub(crate) written: Written,
     /// What is added to the log, or printed.
     pub(crate) text: Vec<u8>,
-    /// What is said last, and the verdict in it.
+    /// What is said last, and what that names; why files could not be written, and which one at the beginning.
     pub(crate) said: String,
-    pub(crate) verdict: String,
-    /// What is said before the verdict.
-    pub(crate) unwritten: String,
+    pub(crate) named: Vec<Said>,
+    pub(crate) causes: Causes,
+    pub(crate) unopened: Option<(Kept, Cause)>,
     pub(crate) broken: Option<PumpFault<ClientFault>>,
     pub(crate) lapse: Option<Lapse>,
     pub(crate) early: Option<RunEnding>,
@@ -262,6 +262,7 @@ impl Model for Session {
       list = s.listed.text.items;
       held = s.listed.held;
       shown = s.told;
+      said = s.named.items;
       looks = s.looks;
     } };
 }
@@ -355,8 +356,9 @@ impl Session {
             written: Written::new(),
             text: Vec::new(alloc),
             said: String::new(alloc),
-            verdict: String::new(alloc),
-            unwritten: String::new(alloc),
+            named: Vec::new(alloc),
+            causes: Causes::new(),
+            unopened: None,
             broken: None,
             lapse: None,
             early: None,
