@@ -21,44 +21,36 @@ use ledger_audit::{Verdict, audit};
 use link_world::{Machine, NewFault, Outcome, Simulated, quiet_run};
 use resume_plan::{Start, plan};
 use server_core::{Job, Server};
-use std::alloc::{AllocError, AllocFailed, Global};
+use std::alloc::{AllocError, Global};
 use std::io::Write;
 use tool_rack::Setup;
 
 // ---- open tags, and commands that wait
 
-/// Open commands, of which one more is drawn.
-#[derive(Drop)]
-struct Drawn {
-    open: Open,
-    tag: Option<Tag>,
-}
-
-impl Called<(), TagFault> for Drawn {
+/// One more tag is drawn.
+impl Called<(), TagFault> for Open {
     fn push_all(&self, out: &mut Vec<u8>) -> Pushed {
-        let open = &self.open;
-        let next = (open.next_tag(Kind::Home), open.next_tag(Kind::AbortE));
-        let marks = (open.is_asking(), open.event_open(), open.has_failed());
-        let (kind, count) = (open.kind_of(Tag::Std(5)), open.count());
+        let next = (self.next_tag(Kind::Home), self.next_tag(Kind::AbortE));
+        let marks = (self.is_asking(), self.event_open(), self.has_failed());
+        let (kind, count) = (self.kind_of(Tag::Std(5)), self.count());
         Ok(write!(out, "{kind:?} {next:?} {marks:?} {count}")?)
     }
 
     fn make(&mut self, _call: &()) -> Result<bool, TagFault> {
-        self.tag = Some(self.open.draw(Kind::IsHomed)?);
+        self.draw(Kind::IsHomed)?;
         Ok(true)
     }
 }
 
 /// A fifth tag is drawn after four.
 fn push_drawn(out: &mut Vec<u8>) -> Pushed {
-    let alloc = *out.allocator();
-    let mut open = Open::new(alloc);
+    let mut open = Open::new(*out.allocator());
     for _ in 0..4u32 {
         open.draw(Kind::GoTo).ok().ok_or(Stop::Memory)?;
     }
-    let mut drawn = Drawn { open, tag: None };
-    push_tried(out, &mut drawn, TagFault::Memory, &())?;
-    Ok(write!(out, "{:?} of {}", drawn.tag, drawn.open.count())?)
+    let tag = open.next_tag(Kind::IsHomed).ok();
+    push_tried(out, &mut open, TagFault::Memory, &())?;
+    Ok(write!(out, "{tag:?} of {}", open.count())?)
 }
 
 /// Commands that wait, and those that were taken.
@@ -146,38 +138,6 @@ fn push_feature_copy(out: &mut Vec<u8>) -> Pushed {
     push_points(out, copy.points.as_slice())
 }
 
-/// Features, to which one more is added.
-#[derive(Drop)]
-struct Kept {
-    ledger: FeatureLedger,
-    next: Option<Feature>,
-}
-
-impl Called<(), AllocError> for Kept {
-    fn push_all(&self, out: &mut Vec<u8>) -> Pushed {
-        push_features(out, self.ledger.list())?;
-        if let Some(next) = &self.next {
-            write!(out, "{}", next.label)?;
-        }
-        Ok(())
-    }
-
-    /// It is added, or handed back if memory is short.
-    fn make(&mut self, _call: &()) -> Result<bool, AllocError> {
-        let Some(mut next) = self.next.take() else {
-            return Ok(false);
-        };
-        next.origin = None;
-        match self.ledger.push(next) {
-            Ok(()) => Ok(true),
-            Err(AllocFailed { value }) => {
-                self.next = Some(value);
-                Err(AllocError)
-            }
-        }
-    }
-}
-
 /// A feature of this label with no point, whose origin is not known.
 fn feature(alloc: Global, label: &[u8]) -> Result<Feature, Stop>
     ensures { IfOk result (λ f. f.origin ≡ None) }
@@ -189,6 +149,18 @@ fn feature(alloc: Global, label: &[u8]) -> Result<Feature, Stop>
     })
 }
 
+/// One more feature is added.
+impl Called<Global, Stop> for FeatureLedger {
+    fn push_all(&self, out: &mut Vec<u8>) -> Pushed {
+        push_features(out, self.list())
+    }
+
+    fn make(&mut self, alloc: &Global) -> Result<bool, Stop> {
+        self.push(feature(*alloc, b"b")?)?;
+        Ok(true)
+    }
+}
+
 /// A fifth feature after four.
 fn push_kept(out: &mut Vec<u8>) -> Pushed {
     let alloc = *out.allocator();
@@ -196,57 +168,38 @@ fn push_kept(out: &mut Vec<u8>) -> Pushed {
     for _ in 0..4u32 {
         ledger.push(feature(alloc, b"a")?)?;
     }
-    let next = Some(feature(alloc, b"b")?);
-    let mut kept = Kept { ledger, next };
-    push_tried(out, &mut kept, AllocError, &())?;
-    kept.push_all(out)
+    push_tried(out, &mut ledger, Stop::Memory, &alloc)?;
+    push_features(out, ledger.list())
 }
 
-/// Acts, to which one more is added.
-#[derive(Drop)]
-struct Done {
-    ledger: ServerLedger,
-    next: Option<Act>,
-}
-
-impl Called<(), AllocError> for Done {
+/// A contact at the zero point is added.
+impl Called<Global, Stop> for ServerLedger {
     fn push_all(&self, out: &mut Vec<u8>) -> Pushed {
-        let (acts, contacts) = (self.ledger.acts(), self.ledger.contacts());
-        Ok(write!(out, "{acts:?} {contacts} {:?}", self.next)?)
+        Ok(write!(out, "{:?} {}", self.acts(), self.contacts())?)
     }
 
-    /// It is added, or handed back if memory is short.
-    fn make(&mut self, _call: &()) -> Result<bool, AllocError> {
-        let Some(next) = self.next.take() else {
-            return Ok(false);
+    fn make(&mut self, alloc: &Global) -> Result<bool, Stop> {
+        let contact = Act::Contact {
+            target: Point::zero(),
+            dir: None,
+            tool: Name::new(*alloc, b"p1")?.ok_or(Stop::Row)?,
+            frame: Frame::Machine,
+            point: Point::zero(),
         };
-        match self.ledger.push(2, next) {
-            Ok(()) => Ok(true),
-            Err(AllocFailed { value }) => {
-                self.next = Some(value);
-                Err(AllocError)
-            }
-        }
+        self.push(2, contact)?;
+        Ok(true)
     }
 }
 
-/// A contact at the zero point after four acts.
+/// A contact after four acts.
 fn push_done(out: &mut Vec<u8>) -> Pushed {
     let alloc = *out.allocator();
     let mut ledger = ServerLedger::new(alloc);
     for _ in 0..4u32 {
         ledger.push(1, Act::Homed)?;
     }
-    let next = Some(Act::Contact {
-        target: Point::zero(),
-        dir: None,
-        tool: Name::new(alloc, b"p1")?.ok_or(Stop::Row)?,
-        frame: Frame::Machine,
-        point: Point::zero(),
-    });
-    let mut done = Done { ledger, next };
-    push_tried(out, &mut done, AllocError, &())?;
-    let counts = (done.ledger.acts().len(), done.ledger.contacts());
+    push_tried(out, &mut ledger, Stop::Memory, &alloc)?;
+    let counts = (ledger.acts().len(), ledger.contacts());
     Ok(write!(out, "{counts:?}")?)
 }
 
