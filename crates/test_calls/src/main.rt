@@ -7,13 +7,13 @@
 //! The input has parts, each after a head in brackets. `program NAME`, `setup` and `held NAME` are texts that the other parts are made of; a
 //! client of the program has the features `held` at its beginning. `client NAME W` is a client of a program with this window, `server` a
 //! server of the setup and `world NAME W` a world, each through all rows of its part. In the others each row is independent. `numerals`,
-//! `directions`, `zeros` and `names` are values, `commands`, `responses`, `points`, `homed`, `errors` and `writes` lines of the interface or
-//! parts of them, `pieces` what is fed to a framing buffer and `queues` what waits to be sent, with `/` between two pieces, `statements` and
-//! `programs` DMIS texts, `long_lines` those with a line of a given length, and `setups`, `schedules`, `features` and `contacts` texts of
-//! files. `values NAME` are calls of what both ends are made of, `quiets NAME W` undisturbed runs, `client_cuts NAME W`, `server_cuts` and
-//! `both_cuts NAME W` arbitrary bytes, and `turns NAME W`, `runs NAME W`, `loops NAME W`, `serves` and `connections` turns and runs over
-//! ports, into which the texts `replies NAME` and `commands NAME` come. A line that begins with `-- ` says what the rows below it show. In a
-//! text `;` means LF, `|` CR, and `\` with two hexadecimal digits any byte.
+//! `directions` and `names` are values, `commands`, `responses`, `points`, `errors` and `writes` lines of the interface or parts of them,
+//! `pieces` what is fed to a framing buffer and `queues` what waits to be sent, with `/` between two pieces, `statements` and `programs` DMIS
+//! texts, and `setups`, `schedules`, `features` and `contacts` texts of files. `values NAME` are calls of what both ends are made of,
+//! `quiets NAME W` undisturbed runs, `client_cuts NAME W`, `server_cuts` and `both_cuts NAME W` arbitrary bytes, and `turns NAME W`,
+//! `runs NAME W`, `loops NAME W`, `serves` and `connections` turns and runs over ports, into which the texts `replies NAME` and
+//! `commands NAME` come. A line that begins with `-- ` says what the rows below it show. In a text `;` means LF, `|` CR, and `\` with two
+//! hexadecimal digits any byte.
 //!
 //! `files NAME W` has a schedule, which is replaced by the features and contacts files that it leaves. `stops NAME W` has a schedule: the
 //! world after each prefix of it is written as `front`, followed by each world that is stopped there in a way of `ways NAME` and brought to
@@ -21,19 +21,6 @@
 //! each followed by `;`, for one world, for each count of features that are held, or for each byte that waits; `*` is that number.
 //! `plays NAME W` has events, each of which shows whether it happens; `show` shows the world, `files` its files. `tests/stopped.py` makes
 //! thousands of worlds and checks them.
-//!
-//! - `parts`: the parts of the input, and their rows
-//! - `texts`, `numerals`, `wire`, `framing`, `statements`, `programs`: what a text says
-//! - `fresh`: what clients, servers and worlds are made of
-//! - `client`, `server`, `events`: what an action of each does, and what it shows
-//! - `values`: calls of the values that both ends are made of
-//! - `links`: turns and runs over ports in memory
-//! - `hostile`, `both`: arbitrary bytes, in pieces, and both ends driven command by command
-//! - `fronts`, `played`: worlds that are stopped after each prefix of a schedule, and worlds through long lists of events
-//! - `ended`: what became of them
-//! - `shown`: the bytes of rows; acts and features as rows show them
-//! - `tried`: calls that are made again if memory is short for them
-//! - `stop`: why it ends early
 #![tactic(auto)]
 
 mod both;

@@ -2,7 +2,7 @@
 
 use crate::stop::{Pushed, Stop};
 use crate::tried::push_written;
-use fixed_um::{Name, Um, is_zero, read_dir, read_um, write_dir, write_um};
+use fixed_um::{Name, Um, read_dir, read_um, write_dir, write_um};
 use std::alloc::AllocError;
 use std::io::Write;
 
@@ -23,12 +23,6 @@ pub(crate) fn push_direction(out: &mut Vec<u8>, numerals: &str) -> Pushed {
         Ok(None) => Ok(write!(out, "none")?),
         Err(fault) => Ok(write!(out, "{fault:?}")?),
     }
-}
-
-/// Whether a numeral is zero.
-pub(crate) fn push_zero(out: &mut Vec<u8>, numeral: &[u8]) -> Pushed {
-    let not = if is_zero(numeral) { "" } else { "not " };
-    Ok(write!(out, "{not}zero")?)
 }
 
 /// The name that a text is.

@@ -1,10 +1,9 @@
 // Statements of DMIS texts.
 
-use crate::shown::{lined, push_visible};
+use crate::shown::push_visible;
 use crate::stop::{Pushed, Stop};
 use crate::tried::push_refused;
 use dmis_text::{Statement, Statements, TextFault};
-use std::alloc::{AllocError, Global};
 use std::io::Write;
 
 /// Appends `line:[label]word|p1|p2;`, with a `?` if a text was left open.
@@ -66,30 +65,4 @@ pub(crate) fn push_statements(out: &mut Vec<u8>, text: &[u8]) -> Pushed {
         }
     }
     Ok(write!(out, "more than twenty")?)
-}
-
-/// A text of the line `A`, a line that begins with these bytes and is padded with `x` to this length, and what follows it.
-fn long_text(
-    alloc: Global,
-    front: &str,
-    count: usize,
-    behind: &str,
-) -> Result<Vec<u8>, AllocError> {
-    let mut text = Vec::from_slice(alloc, b"A\n")?;
-    let front = lined(alloc, front)?;
-    text.extend_from_slice(front.as_slice())?;
-    for _ in front.len()..count {
-        text.push(b'x')?;
-    }
-    text.extend_from_slice(lined(alloc, behind)?.as_slice())?;
-    Ok(text)
-}
-
-/// The statements of such a text. A row gives its first bytes, the length and what follows.
-pub(crate) fn push_long_line(out: &mut Vec<u8>, row: &str) -> Pushed {
-    let (front, rest) = row.split_once(" ").ok_or(Stop::Row)?;
-    let (count, behind) = rest.split_once(" ").ok_or(Stop::Row)?;
-    let count: u16 = count.parse().map_err(|_| Stop::Row)?;
-    let text = long_text(*out.allocator(), front, count as usize, behind)?;
-    push_statements(out, text.as_slice())
 }

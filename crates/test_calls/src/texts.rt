@@ -1,8 +1,9 @@
 // What texts say: values, lines of the interface, DMIS statements and programs, setups, schedules, features and acts. What is read is
 // written again where there is a writer.
 
-use crate::shown::{lined, push_lines};
+use crate::shown::lined;
 use crate::stop::{Pushed, Stop};
+use crate::tried::push_written;
 use crate::{framing, numerals, programs, statements, wire};
 use contact_ledger::{read_contacts, read_features, write_contacts, write_features};
 use fixed_um::Name;
@@ -58,22 +59,14 @@ fn push_schedule(out: &mut Vec<u8>, text: &[u8]) -> Pushed {
 
 fn push_features(out: &mut Vec<u8>, text: &[u8]) -> Pushed {
     match read_features(*out.allocator(), text) {
-        Ok(features) => {
-            let mut written = Vec::new(*out.allocator());
-            write_features(&mut written, features.list())?;
-            Ok(push_lines(out, written.as_slice())?)
-        }
+        Ok(features) => push_written(out, |text| write_features(text, features.list())),
         Err(fault) => Ok(write!(out, "{fault}")?),
     }
 }
 
 fn push_contacts(out: &mut Vec<u8>, text: &[u8]) -> Pushed {
     match read_contacts(*out.allocator(), text) {
-        Ok(ledger) => {
-            let mut written = Vec::new(*out.allocator());
-            write_contacts(&mut written, &ledger)?;
-            Ok(push_lines(out, written.as_slice())?)
-        }
+        Ok(ledger) => push_written(out, |text| write_contacts(text, &ledger)),
         Err(fault) => Ok(write!(out, "{fault}")?),
     }
 }
@@ -82,12 +75,10 @@ fn push_contacts(out: &mut Vec<u8>, text: &[u8]) -> Pushed {
 fn push_bytes(out: &mut Vec<u8>, word: &str, bytes: &[u8]) -> Pushed {
     match word {
         "numerals" => numerals::push_numeral(out, bytes),
-        "zeros" => numerals::push_zero(out, bytes),
         "names" => numerals::push_name(out, bytes),
         "commands" => wire::push_command(out, bytes),
         "responses" => wire::push_response(out, bytes),
         "points" => wire::push_point(out, bytes),
-        "homed" => wire::push_homed(out, bytes),
         "statements" => statements::push_statements(out, bytes),
         "programs" => programs::push_program(out, bytes),
         "setups" => push_setup(out, bytes),
@@ -106,7 +97,6 @@ pub(crate) fn push_row(out: &mut Vec<u8>, (word, row): (&str, &str)) -> Pushed {
         "writes" => wire::push_write(out, row),
         "pieces" => framing::push_pieces(out, row),
         "queues" => framing::push_queue(out, row),
-        "long_lines" => statements::push_long_line(out, row),
         _ => {
             let bytes = lined(*out.allocator(), row)?;
             push_bytes(out, word, bytes.as_slice())

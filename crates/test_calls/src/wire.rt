@@ -7,9 +7,8 @@ use crate::shown::push_visible;
 use crate::stop::{Pushed, Stop};
 use crate::tried::push_written;
 use dme_line::{
-    Kind, Mark, Response, Tag, Text, read_command, read_homed, read_point, read_response,
-    write_command, write_data, write_error, write_homed, write_homed_data, write_point,
-    write_response,
+    Kind, Mark, Response, Tag, Text, read_command, read_point, read_response, write_command,
+    write_data, write_error, write_homed, write_homed_data, write_point, write_response,
 };
 use std::alloc::{AllocError, Global};
 use std::io::Write;
@@ -52,11 +51,6 @@ pub(crate) fn push_point(out: &mut Vec<u8>, text: &[u8]) -> Pushed {
         Ok(point) => push_written(out, |text| write_point(text, point)),
         Err(fault) => Ok(write!(out, "{fault:?}")?),
     }
-}
-
-/// What a text answers to the question whether the machine is homed, or why it is no answer.
-pub(crate) fn push_homed(out: &mut Vec<u8>, text: &[u8]) -> Pushed {
-    Ok(write!(out, "{:?}", read_homed(text))?)
 }
 
 /// The tag and the kind of a command line, or the tag alone of a response line.
