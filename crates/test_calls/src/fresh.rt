@@ -10,13 +10,22 @@ use server_core::Server;
 use std::alloc::Global;
 use tool_rack::Setup;
 
-/// What both ends are made of: the text of the features that the client holds, empty if there are none; the texts of the program and of
-/// the setup; and the window.
+/// The texts of which the rows of a part are made, each empty if there is none, and the window.
 #[derive(Clone, Copy)]
 pub(crate) struct Made<'a> {
+    /// The features that the client holds.
     pub(crate) held: &'a str,
     pub(crate) program: &'a str,
     pub(crate) setup: &'a str,
+    /// What comes in, one piece a line.
+    pub(crate) replies: &'a str,
+    pub(crate) commands: &'a str,
+    /// Likewise if everything was measured.
+    pub(crate) last_replies: &'a str,
+    pub(crate) last_commands: &'a str,
+    /// The ways in which worlds are stopped, and how each is brought to its end.
+    pub(crate) ways: &'a str,
+    pub(crate) ending: &'a str,
     pub(crate) window: u8,
 }
 

@@ -2,36 +2,28 @@
 
 use crate::ended::push_played;
 use crate::fresh::{Made, Task, play, push_new, read_program};
+use crate::played::{happens, moving};
 use crate::stop::{Pushed, Stop};
 use dmis_program::Program;
-use link_world::{Event, World, WorldFault};
+use link_world::World;
 use std::io::Write;
 
 /// More bytes than ever wait on a way.
 const BYTES_MOST: u64 = 1_000_000;
 
-/// The worlds after a prefix: what they are made of, the ways in which they are stopped, and how each is brought to its end.
+/// The worlds after a prefix, and what they are made of.
 #[derive(Clone, Copy)]
 struct Front<'a> {
     made: Made<'a>,
     program: &'a Program,
-    ways: &'a str,
-    ending: &'a str,
     front: &'a [u8],
-}
-
-/// One byte moves.
-fn byte_moves(is_up: bool) -> Event {
-    if is_up { Event::Up(1) } else { Event::Down(1) }
 }
 
 /// How many bytes wait on a way. Counting moves them.
 fn bytes_moved(world: &mut World, is_up: bool) -> Result<u64, Stop> {
     for count in 0..BYTES_MOST {
-        match world.step(byte_moves(is_up)) {
-            Ok(()) => {}
-            Err(WorldFault::NotNow) => return Ok(count),
-            Err(WorldFault::Memory) => return Err(Stop::Memory),
+        if !happens(world, moving(1, is_up))? {
+            return Ok(count);
         }
     }
     Err(Stop::Row)
@@ -78,7 +70,7 @@ impl Front<'_> {
         let mut text = Vec::new(*out.allocator());
         text.extend_from_slice(self.front)?;
         push_lined(&mut text, row, number)?;
-        push_lined(&mut text, self.ending, number)?;
+        push_lined(&mut text, self.made.ending, number)?;
         write!(out, "{way} {number}|")?;
         push_played(out, self.made, (text.as_slice(), Some(self.program)))
     }
@@ -104,7 +96,7 @@ impl Front<'_> {
         write!(out, "front|")?;
         push_played(out, self.made, (self.front, Some(self.program)))?;
         let mut way = 0u64;
-        for row in self.ways.lines() {
+        for row in self.made.ways.lines() {
             self.push_way(out, (way, row))?;
             way = way.saturating_add(1);
         }
@@ -113,20 +105,13 @@ impl Front<'_> {
 }
 
 /// The prefixes of a schedule, from the empty one to the whole.
-pub(crate) fn push_fronts(
-    out: &mut Vec<u8>,
-    made: Made<'_>,
-    (ways, ending): (&str, &str),
-    schedule: &[u8],
-) -> Pushed {
+pub(crate) fn push_fronts(out: &mut Vec<u8>, made: Made<'_>, schedule: &[u8]) -> Pushed {
     let program = read_program(*out.allocator(), made)?;
     for at in 0..=schedule.len() {
         if at == 0 || schedule[at - 1] == b'\n' {
             let front = Front {
                 made,
                 program: &program,
-                ways,
-                ending,
                 front: &schedule[..at],
             };
             front.push(out)?;

@@ -24,24 +24,15 @@ use server_core::Server;
 use std::alloc::Global;
 use std::io::Write;
 
-/// What comes in by the parts of a program, one piece a line.
+/// A call over new ports: its word, words with numbers on the client's ports, or the server's where there is no client, and what comes in.
 #[derive(Clone, Copy)]
-pub(crate) struct Script<'a> {
-    pub(crate) replies: &'a str,
-    pub(crate) commands: &'a str,
-    /// Likewise if everything was measured.
-    pub(crate) last_replies: &'a str,
-    pub(crate) last_commands: &'a str,
-}
-
-/// What a row asks for: a call by its word, and words with numbers on the client's ports, or the server's where there is no client.
-#[derive(Clone, Copy)]
-struct Asked<'a> {
+struct Call<'a> {
     word: &'a str,
     words: &'a str,
+    made: Made<'a>,
 }
 
-impl Asked<'_> {
+impl Call<'_> {
     /// The number of a word; another one if the row does not have it.
     fn number(&self, word: &str, other: usize) -> Result<usize, Stop> {
         for pair in self.words.split(", ") {
@@ -55,7 +46,7 @@ impl Asked<'_> {
     }
 
     /// New ports, into which these pieces come, one a line.
-    fn ports(&self, alloc: Global, pieces: &str) -> Result<MemoryPorts, Stop> {
+    fn ports(&self, alloc: Global, pieces: &str) -> Result<(Pieces, Takes), Stop> {
         let mut source = match self.number("read", 0)? {
             0 => Pieces::new(alloc),
             call => Pieces::failing_at(alloc, call as u64),
@@ -68,7 +59,7 @@ impl Asked<'_> {
             0 => Takes::new(alloc, most),
             call => Takes::failing_at(alloc, most, call as u64),
         };
-        Ok(Ports { source, sink })
+        Ok((source, sink))
     }
 
     /// Whether its call is made again if memory is short for it.
@@ -77,22 +68,17 @@ impl Asked<'_> {
     }
 }
 
-/// What comes in on a side, and what goes out.
-type MemoryPorts = Ports<Pieces, Takes>;
-
 // ---- what is shown
 
-/// The state of a client.
-fn push_state(out: &mut Vec<u8>, client: &Client) -> Pushed {
+/// The state of a client, these lines, and the first of its features.
+fn push_left(out: &mut Vec<u8>, client: &Client, lines: &[u8], count: usize) -> Pushed {
     let connection = if client.is_on() { "on" } else { "off" };
-    Ok(write!(out, " {:?} {connection}: ", client.state())?)
-}
-
-/// The state of a client, what went out, and its features.
-fn push_left(out: &mut Vec<u8>, client: &Client, output: &Takes) -> Pushed {
-    push_state(out, client)?;
-    push_lines(out, output.taken())?;
-    push_features(out, client.features())
+    write!(out, " {:?} {connection}: ", client.state())?;
+    push_lines(out, lines)?;
+    match client.features().get(..count) {
+        Some(first) => push_features(out, first),
+        None => Err(Stop::Changed),
+    }
 }
 
 /// Whether a server takes bytes, as it does on a connection; and what went out.
@@ -100,16 +86,6 @@ fn push_served(out: &mut Vec<u8>, server: &mut Server, output: &Takes) -> Pushed
     let is_on = server.feed(b"").is_ok();
     write!(out, "{}", if is_on { " on: " } else { " off: " })?;
     Ok(push_lines(out, output.taken())?)
-}
-
-/// What a client is and has to send, and the features that it held.
-fn push_held(out: &mut Vec<u8>, client: &Client, held: usize) -> Pushed {
-    push_state(out, client)?;
-    push_lines(out, client.out())?;
-    match client.features().get(..held) {
-        Some(first) => push_features(out, first),
-        None => Err(Stop::Changed),
-    }
 }
 
 /// A watcher that keeps nothing.
@@ -128,13 +104,6 @@ impl Watcher for Unwatched {
 
 // ---- calls, each on a connection of its own
 
-/// A call over new ports, into which these pieces come.
-#[derive(Clone, Copy)]
-struct Call<'a> {
-    asked: Asked<'a>,
-    script: Script<'a>,
-}
-
 /// A client, a server or both, of which a call is made.
 trait Side {
     /// What all readers answer, but for what may be measured or done until memory is short; the client has held this many features before.
@@ -149,7 +118,7 @@ trait Side {
 
 impl Side for Client {
     fn push_kept(&self, out: &mut Vec<u8>, held: usize) -> Pushed {
-        push_held(out, self, held)
+        push_left(out, self, self.out(), held)
     }
 
     fn held(&self) -> usize {
@@ -158,20 +127,16 @@ impl Side for Client {
 
     fn call(&mut self, out: &mut Vec<u8>, call: &Call<'_>, number: u64) -> Pushed {
         self.connected(number)?;
-        let asked = call.asked;
-        let ports = asked.ports(*out.allocator(), call.script.replies)?;
-        let Ports {
-            mut source,
-            mut sink,
-        } = ports;
-        if asked.word == "turns" {
-            let (least, bound) = (asked.number("least", 1)?, asked.number("bound", 1_000)?);
+        let (mut source, mut sink) = call.ports(*out.allocator(), call.made.replies)?;
+        if call.word == "turns" {
+            let (least, bound) = (call.number("least", 1)?, call.number("bound", 1_000)?);
             let answer = client_turns(self, &mut source, &mut sink, least, bound as u64);
             push_answer(out, &answer)?;
         } else {
             push_answer(out, &run_link(self, &mut source, &mut sink))?;
         }
-        push_left(out, self, &sink)
+        let held = self.held();
+        push_left(out, self, sink.taken(), held)
     }
 }
 
@@ -186,15 +151,10 @@ impl Side for Server {
 
     fn call(&mut self, out: &mut Vec<u8>, call: &Call<'_>, number: u64) -> Pushed {
         self.accept(number)?;
-        let asked = call.asked;
-        let ports = asked.ports(*out.allocator(), call.script.commands)?;
-        let Ports {
-            mut source,
-            mut sink,
-        } = ports;
+        let (mut source, mut sink) = call.ports(*out.allocator(), call.made.commands)?;
         let mut machine = Simulated::new(*out.allocator(), self.setup())?;
-        if asked.word == "serves" {
-            let (least, bound) = (asked.number("least", 1)?, asked.number("bound", 1_000)?);
+        if call.word == "serves" {
+            let (least, bound) = (call.number("least", 1)?, call.number("bound", 1_000)?);
             let (from, to, bound) = (&mut source, &mut sink, bound as u64);
             let answer = serve_turns(self, &mut machine, from, to, least, bound);
             push_answer(out, &answer)?;
@@ -216,7 +176,7 @@ struct Both<'c, 's> {
 impl Side for Both<'_, '_> {
     /// Also whether the machine is homed, on which connection the server is, and its first act.
     fn push_kept(&self, out: &mut Vec<u8>, held: usize) -> Pushed {
-        push_held(out, self.client, held)?;
+        push_left(out, self.client, self.client.out(), held)?;
         let view = self.server.view();
         write!(out, "{:?}", (view.homed, view.connection))?;
         Ok(write!(out, "{:?}", self.server.ledger().acts().first())?)
@@ -230,14 +190,12 @@ impl Side for Both<'_, '_> {
         self.client.connected(number)?;
         self.server.accept(number)?;
         let alloc = *out.allocator();
-        let plain = Asked {
-            words: "",
-            ..call.asked
-        };
-        let mut ports = LoopPorts {
-            client: call.asked.ports(alloc, call.script.replies)?,
-            server: plain.ports(alloc, call.script.commands)?,
-        };
+        let (source, sink) = call.ports(alloc, call.made.replies)?;
+        let client = Ports { source, sink };
+        let plain = Call { words: "", ..*call };
+        let (source, sink) = plain.ports(alloc, call.made.commands)?;
+        let server = Ports { source, sink };
+        let mut ports = LoopPorts { client, server };
         let mut machine = Simulated::new(alloc, self.server.setup())?;
         let answer = loop_link(
             self.client,
@@ -247,7 +205,8 @@ impl Side for Both<'_, '_> {
             &mut Unwatched,
         );
         push_answer(out, &answer)?;
-        push_left(out, self.client, &ports.client.sink)?;
+        let held = self.held();
+        push_left(out, self.client, ports.client.sink.taken(), held)?;
         push_served(out, self.server, &ports.server.sink)
     }
 }
@@ -282,7 +241,7 @@ impl<S: Side> Called<Call<'_>, Stop> for Calling<'_, S> {
         let is_last = self.side.held() > self.held;
         let call = if is_last { call.last() } else { *call };
         self.side.call(&mut self.shown, &call, self.last)?;
-        match call.asked.is_made_again()? {
+        match call.is_made_again()? {
             true if begins(self.shown.as_slice(), b"Memory") => Err(Stop::Refused),
             true if begins(self.shown.as_slice(), b"WriteFailed") => Err(Stop::Memory),
             _ => Ok(true),
@@ -293,12 +252,12 @@ impl<S: Side> Called<Call<'_>, Stop> for Calling<'_, S> {
 impl Call<'_> {
     /// Likewise if everything was measured.
     fn last(&self) -> Self {
-        let script = Script {
-            replies: self.script.last_replies,
-            commands: self.script.last_commands,
-            ..self.script
+        let made = Made {
+            replies: self.made.last_replies,
+            commands: self.made.last_commands,
+            ..self.made
         };
-        Call { script, ..*self }
+        Call { made, ..*self }
     }
 
     /// Makes it of a side, after the connection of this number, and appends what it shows. It is made again if the row asks for that.
@@ -311,7 +270,7 @@ impl Call<'_> {
             held,
             shown: Vec::new(alloc),
         };
-        let mut tries = Tries::new(alloc, self.asked.is_made_again()?);
+        let mut tries = Tries::new(alloc, self.is_made_again()?);
         let done = tries.call(&mut calling, Stop::Refused, self);
         tries.push(out)?;
         done?;
@@ -319,15 +278,9 @@ impl Call<'_> {
     }
 }
 
-impl Task<Client> for Call<'_> {
-    fn push(&mut self, out: &mut Vec<u8>, client: &mut Client) -> Pushed {
-        self.push_made(out, client, 0)
-    }
-}
-
-impl Task<Server> for Call<'_> {
-    fn push(&mut self, out: &mut Vec<u8>, server: &mut Server) -> Pushed {
-        self.push_made(out, server, 0)
+impl<S: Side> Task<S> for Call<'_> {
+    fn push(&mut self, out: &mut Vec<u8>, side: &mut S) -> Pushed {
+        self.push_made(out, side, 0)
     }
 }
 
@@ -342,7 +295,7 @@ impl BothTask for Call<'_> {
         (client, server): (&mut Client, &mut Server),
     ) -> Pushed {
         let mut last = 0u64;
-        if self.asked.is_made_again()? {
+        if self.is_made_again()? {
             server::call_all(*out.allocator(), server, HOMED)?;
             last = 1;
         }
@@ -351,31 +304,18 @@ impl BothTask for Call<'_> {
 }
 
 /// What a row of ports shows: a turn or a run of a client or a server, or a loop.
-fn given_to<'a>(word: &str, given: &'a str, script: Script<'a>) -> Script<'a> {
-    match (word, given) {
-        ("loops" | "turns" | "runs", "all") => script,
-        ("loops" | "turns" | "runs", _) => Script {
-            replies: given,
-            ..script
-        },
-        _ => Script {
-            commands: given,
-            ..script
-        },
-    }
-}
-
 pub(crate) fn push_row<'a>(
     out: &mut Vec<u8>,
-    made: Made<'_>,
-    script: Script<'a>,
+    mut made: Made<'a>,
     (word, row): (&'a str, &'a str),
 ) -> Pushed {
     let (words, given) = row.split_once(" < ").ok_or(Stop::Row)?;
-    let mut call = Call {
-        asked: Asked { word, words },
-        script: given_to(word, given, script),
-    };
+    match word {
+        "serves" | "connections" => made.commands = given,
+        _ if given != "all" => made.replies = given,
+        _ => {}
+    }
+    let mut call = Call { word, words, made };
     match word {
         "loops" => push_both(out, made, &mut call),
         "turns" | "runs" => push_new::<Client, _>(out, made, &mut call),

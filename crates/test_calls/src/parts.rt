@@ -2,31 +2,24 @@
 
 use crate::fresh::{Made, Task, push_new};
 use crate::fronts::push_fronts;
-use crate::links::{self, Script};
 use crate::stop::{Pushed, Stop};
-use crate::{ended, hostile, played, texts, values};
+use crate::{ended, hostile, links, played, texts, values};
 use client_core::Client;
 use link_world::World;
 use server_core::Server;
-use std::alloc::{AllocError, Global};
+use std::alloc::Global;
 use std::io::Write;
 
-/// The text of the part with this head; none if there is no such part.
-fn part<'a>(input: &'a str, head: &str) -> Option<&'a str> {
+/// The text of the part whose head is this word followed by this name; empty if there is no such part.
+fn named<'a>(input: &'a str, word: &str, name: &str) -> &'a str {
     for piece in input.split("[") {
         if let Some((title, text)) = piece.split_once("]\n")
-            && title == head
+            && title.strip_suffix(name) == Some(word)
         {
-            return Some(text);
+            return text;
         }
     }
-    None
-}
-
-/// The text of the part of this word and name; empty if there is no such part.
-fn named<'a>(alloc: Global, input: &'a str, word: &str, name: &str) -> Result<&'a str, AllocError> {
-    let head = format!(in alloc; "{word} {name}")?;
-    Ok(part(input, head.as_str()).unwrap_or(""))
+    ""
 }
 
 // ---- rows
@@ -80,7 +73,6 @@ fn push_rows<A: Answers>(out: &mut Vec<u8>, asked: &mut A, text: &str) -> Pushed
 #[derive(Drop)]
 struct Alone<'a> {
     made: Made<'a>,
-    script: Script<'a>,
     word: &'a str,
 }
 
@@ -91,7 +83,7 @@ impl Answers for Alone<'_> {
             "values" | "quiets" => values::push_row(out, made, words),
             "client_cuts" | "server_cuts" | "both_cuts" => hostile::push_row(out, made, words),
             "serves" | "connections" | "loops" | "turns" | "runs" => {
-                links::push_row(out, made, self.script, words)
+                links::push_row(out, made, words)
             }
             _ => texts::push_row(out, words),
         }
@@ -110,53 +102,32 @@ impl<E: Answers> Task<E> for Rows<'_> {
     }
 }
 
-/// Rows that do not depend on each other, with what comes in on either side of the connection of a program of this name.
-fn push_alone(
-    out: &mut Vec<u8>,
-    made: Made<'_>,
-    (input, name): (&str, &str),
-    (word, text): (&str, &str),
-) -> Pushed {
-    let alloc = *out.allocator();
-    let script = Script {
-        replies: named(alloc, input, "replies", name)?,
-        commands: named(alloc, input, "commands", name)?,
-        last_replies: named(alloc, input, "last replies", name)?,
-        last_commands: named(alloc, input, "last commands", name)?,
-    };
-    push_rows(out, &mut Alone { made, script, word }, text)
-}
-
-/// A part of this word, made of texts of this name.
-fn push_made(
-    out: &mut Vec<u8>,
-    made: Made<'_>,
-    (input, name): (&str, &str),
-    (word, text): (&str, &str),
-) -> Pushed {
+/// A part of this word.
+fn push_made(out: &mut Vec<u8>, made: Made<'_>, (word, text): (&str, &str)) -> Pushed {
     match word {
         "client" => push_new::<Client, _>(out, made, &mut Rows { text }),
         "server" => push_new::<Server, _>(out, made, &mut Rows { text }),
         "world" => push_new::<World, _>(out, made, &mut Rows { text }),
         "files" => ended::push_played(out, made, (text.as_bytes(), None)),
         "plays" => played::push_events(out, made, text),
-        "stops" => {
-            let alloc = *out.allocator();
-            let ways = named(alloc, input, "ways", name)?;
-            let ending = named(alloc, input, "ending", name)?;
-            push_fronts(out, made, (ways, ending), text.as_bytes())
-        }
-        _ => push_alone(out, made, (input, name), (word, text)),
+        "stops" => push_fronts(out, made, text.as_bytes()),
+        _ => push_rows(out, &mut Alone { made, word }, text),
     }
 }
 
-/// What both ends are made of, by the rest of a head: the name of a program and a window.
-fn made_of<'a>(alloc: Global, input: &'a str, rest: &str) -> Result<Made<'a>, Stop> {
+/// What a part is made of, by the rest of its head: the name of a program and a window.
+fn made_of<'a>(input: &'a str, rest: &str) -> Result<Made<'a>, Stop> {
     let (name, window) = rest.split_once(" ").unwrap_or((rest, "1"));
     Ok(Made {
-        held: named(alloc, input, "held", name)?,
-        program: named(alloc, input, "program", name)?,
-        setup: part(input, "setup").ok_or(Stop::Row)?,
+        held: named(input, "held ", name),
+        program: named(input, "program ", name),
+        setup: named(input, "setup", ""),
+        replies: named(input, "replies ", name),
+        commands: named(input, "commands ", name),
+        last_replies: named(input, "last replies ", name),
+        last_commands: named(input, "last commands ", name),
+        ways: named(input, "ways ", name),
+        ending: named(input, "ending ", name),
         window: window.parse().ok().ok_or(Stop::Row)?,
     })
 }
@@ -174,9 +145,7 @@ fn push_part_once(out: &mut Vec<u8>, input: &str, piece: &str) -> Pushed {
     if head == "setup" || !rest.is_empty() && TEXTS.iter().any(|text| *text == word) {
         return Ok(write!(out, "{text}")?);
     }
-    let (name, _) = rest.split_once(" ").unwrap_or((rest, ""));
-    let made = made_of(*out.allocator(), input, rest)?;
-    push_made(out, made, (input, name), (word, text))
+    push_made(out, made_of(input, rest)?, (word, text))
 }
 
 /// A part with its answers. If the program is out of memory, or memory is short for what the part is made of, it is started again, once.

@@ -9,8 +9,17 @@ use link_world::{Event, Instruction, Machine, Schedule, Simulated, World, WorldF
 /// At most this many bytes are moved at once.
 const PIECE_MOST: usize = 2_000;
 
+/// This many bytes move on a way.
+pub(crate) fn moving(count: usize, is_up: bool) -> Event {
+    if is_up {
+        Event::Up(count)
+    } else {
+        Event::Down(count)
+    }
+}
+
 /// Whether an event happens.
-fn happens(world: &mut World, event: Event) -> Result<bool, Stop> {
+pub(crate) fn happens(world: &mut World, event: Event) -> Result<bool, Stop> {
     match world.step(event) {
         Ok(()) => Ok(true),
         Err(WorldFault::NotNow) => Ok(false),
@@ -21,13 +30,7 @@ fn happens(world: &mut World, event: Event) -> Result<bool, Stop> {
 /// One event moves all bytes that wait on their way, up to the given number. Answers whether there were any.
 fn moves_all(world: &mut World, is_up: bool) -> Result<bool, Stop> {
     for less in 0..PIECE_MOST {
-        let count = PIECE_MOST - less;
-        let moves = if is_up {
-            Event::Up(count)
-        } else {
-            Event::Down(count)
-        };
-        if happens(world, moves)? {
+        if happens(world, moving(PIECE_MOST - less, is_up))? {
             return Ok(true);
         }
     }
