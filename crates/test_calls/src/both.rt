@@ -1,6 +1,7 @@
 // Both ends, driven command by command on the simulated machine.
 
 use crate::stop::{Pushed, Stop};
+use crate::{client, server};
 use client_core::{Client, State};
 use link_world::{Machine, Simulated};
 use server_core::Server;
@@ -55,8 +56,7 @@ impl<'c, 's> Both<'c, 's> {
     fn serve_next(&mut self) -> Pushed {
         self.client.send()?;
         self.server.feed(self.client.out())?;
-        let count = self.client.out().len();
-        self.client.sent(count);
+        client::take_out(self.client);
         self.server.read_one()?;
         self.server.turn()?;
         self.end_running()?;
@@ -67,8 +67,7 @@ impl<'c, 's> Both<'c, 's> {
     fn end_next(&mut self) -> Pushed {
         self.serve_next()?;
         self.client.feed(self.server.out())?;
-        let count = self.server.out().len();
-        self.server.sent(count);
+        server::take_out(self.server);
         for _ in 0..10u32 {
             self.client.read_one()?;
         }

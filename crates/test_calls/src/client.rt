@@ -17,7 +17,7 @@ use std::alloc::Global;
 use std::io::Write;
 
 /// What was written is sent.
-fn take_out(client: &mut Client) {
+pub(crate) fn take_out(client: &mut Client) {
     let count = client.out().len();
     client.sent(count);
 }
@@ -36,6 +36,8 @@ impl Called<Call<'_>, ClientFault> for Client {
             Call::Word("connected", number) => self.connected(number.parse().unwrap_or(0))?,
             Call::Word("send", _) => self.send()?,
             Call::Word("abort", _) => self.abort()?,
+            Call::Word("restart", count) => self.restart(count.parse().unwrap_or(0))?,
+            Call::Word("leave", _) => self.leave(),
             Call::Word(_, _) => self.resume()?,
         }
         Ok(true)
@@ -119,18 +121,12 @@ impl Driven<'_> {
         match word {
             "sends" | "aborts" | "letters" => self.call_often(word, rest.parse().unwrap_or(0)),
             "ended" if !rest.is_empty() => self.call_often(word, rest.parse().unwrap_or(0)),
-            "connected" | "send" | "abort" | "resume" => self.make(Call::Word(word, rest)),
+            "connected" | "send" | "abort" | "resume" | "restart" | "leave" => {
+                self.make(Call::Word(word, rest))
+            }
             "read" => self.make(Call::Read),
             "ended" | "touched" | "told" => self.end_one(rest),
             "bare" => self.feed_line(&[rest.as_bytes(), b"\n"]),
-            "restart" => {
-                self.client.restart(rest.parse().unwrap_or(0))?;
-                Ok(true)
-            }
-            "leave" => {
-                self.client.leave();
-                Ok(true)
-            }
             _ => self.feed_line(&[action.as_bytes(), b"\r\n"]),
         }
     }

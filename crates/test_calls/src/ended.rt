@@ -1,8 +1,8 @@
 // What became of worlds: one a line, or their files.
 
 use crate::fresh::{Made, Task, play, push_new};
-use crate::shown::push_lines;
 use crate::stop::Pushed;
+use crate::tried::push_written;
 use contact_ledger::{write_contacts, write_features};
 use dmis_program::Program;
 use ledger_audit::{Verdict, audit};
@@ -33,9 +33,7 @@ pub(crate) fn push_ended(out: &mut Vec<u8>, program: &Program, world: &World) ->
     let verdict = audit(alloc, program, world.features(), world.ledger())?;
     push_verdict(out, &verdict)?;
     out.push(b'|')?;
-    let mut text = Vec::new(alloc);
-    write_features(&mut text, world.features())?;
-    push_lines(out, text.as_slice())?;
+    push_written(out, |text| write_features(text, world.features()))?;
     Ok(out.push(b'\n')?)
 }
 

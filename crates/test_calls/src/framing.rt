@@ -2,16 +2,9 @@
 
 use crate::shown::{lined, push_visible};
 use crate::stop::{Pushed, Stop};
-use crate::tried::{Called, Tries, push_refused};
+use crate::tried::{Call, Called, Tries, push_refused};
 use line_framing::{ByteQueue, Lines, LinesFault};
 use std::io::Write;
-
-/// A call for which memory can be short.
-#[derive(Clone, Copy)]
-enum Call<'a> {
-    Feed(&'a [u8]),
-    Next,
-}
 
 fn push_fault(out: &mut Vec<u8>, lines: &Lines) -> Pushed {
     match lines.fault() {
@@ -34,7 +27,7 @@ impl Called<Call<'_>, LinesFault> for Lines {
                 self.feed(piece)?;
                 Ok(true)
             }
-            Call::Next => Ok(self.next_line()?.is_some()),
+            _ => Ok(self.next_line()?.is_some()),
         }
     }
 }
@@ -48,7 +41,7 @@ fn read(
 ) -> Result<(), LinesFault> {
     tries.call(lines, LinesFault::Memory, &Call::Feed(piece))?;
     for _ in 0..64 {
-        if !tries.call(lines, LinesFault::Memory, &Call::Next)? {
+        if !tries.call(lines, LinesFault::Memory, &Call::Read)? {
             break;
         }
         *count = count.saturating_add(1);

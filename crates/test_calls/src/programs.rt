@@ -1,10 +1,10 @@
 // Features and steps of programs, or why they are refused.
 
 use crate::stop::{Pushed, Stop};
-use crate::tried::push_refused;
+use crate::tried::{Called, push_tried};
 use dmis_program::{Frames, Program, ProgramFault, Step, Touch};
 use fixed_um::{Frame, Name, Point, Um};
-use std::alloc::{AllocError, Global};
+use std::alloc::Global;
 use std::io::Write;
 
 fn push_touch(out: &mut Vec<u8>, touch: &Touch) -> Pushed {
@@ -52,32 +52,29 @@ fn part(alloc: Global) -> Result<Name, Stop> {
     Name::new(alloc, b"part")?.ok_or(Stop::Row)
 }
 
-/// Adds the frame PART, whose zero point is at x = 100 mm, and once more if memory is short for it.
-fn add_part(out: &mut Vec<u8>, frames: &mut Frames) -> Result<bool, Stop> {
-    let alloc = *out.allocator();
-    let (name, again) = (part(alloc)?, part(alloc)?);
-    let x = Um::new(100_000).ok_or(Stop::Row)?;
-    let offset = Point { x, ..Point::zero() };
-    if !offset.is_in_volume() {
-        return Err(Stop::Row);
+/// The frame PART is added, whose zero point is at x = 100 mm.
+impl Called<Global, Stop> for Frames {
+    fn push_all(&self, out: &mut Vec<u8>) -> Pushed {
+        let name = part(*out.allocator())?;
+        Ok(write!(out, "{:?}", self.get(&name))?)
     }
-    match frames.add(name, offset) {
-        Ok(added) => Ok(added),
-        Err(AllocError) if frames.get(&again).is_none() => {
-            push_refused(out, b"", b"")?;
-            frames.add(again, offset).ok().ok_or(Stop::ForEver)
+
+    fn make(&mut self, alloc: &Global) -> Result<bool, Stop> {
+        let x = Um::new(100_000).ok_or(Stop::Row)?;
+        let offset = Point { x, ..Point::zero() };
+        if !offset.is_in_volume() {
+            return Err(Stop::Row);
         }
-        Err(AllocError) => Err(Stop::Changed),
+        Ok(self.add(part(*alloc)?, offset)?)
     }
 }
 
 /// Features and steps of a text, or why it is refused.
 pub(crate) fn push_program(out: &mut Vec<u8>, text: &[u8]) -> Pushed {
-    let mut frames = Frames::new(*out.allocator());
-    if !add_part(out, &mut frames)? {
-        return Err(Stop::Row);
-    }
-    match Program::read(*out.allocator(), text, &frames) {
+    let alloc = *out.allocator();
+    let mut frames = Frames::new(alloc);
+    push_tried(out, &mut frames, Stop::Memory, &alloc)?;
+    match Program::read(alloc, text, &frames) {
         Ok(program) => push_read(out, &program),
         Err(ProgramFault::Memory) => Err(Stop::Refused),
         Err(fault) => Ok(write!(out, "{fault}")?),

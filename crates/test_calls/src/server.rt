@@ -15,7 +15,7 @@ use std::alloc::Global;
 use std::io::Write;
 
 /// What was answered is sent.
-fn take_out(server: &mut Server) {
+pub(crate) fn take_out(server: &mut Server) {
     let count = server.out().len();
     server.sent(count);
 }
@@ -45,6 +45,9 @@ impl Called<Call<'_>, ServerFault> for Server {
             Call::Feed(piece) => self.feed(piece)?,
             Call::Read => return self.read_one(),
             Call::Word("turn", _) => self.turn()?,
+            Call::Word("accept", number) => self.accept(number.parse().unwrap_or(0))?,
+            Call::Word("leave", _) => self.leave(),
+            Call::Word("restart", _) => self.restart(),
             Call::Word(word, rest) => self.machine(outcome(word, rest))?,
         }
         Ok(true)
@@ -104,7 +107,9 @@ impl Driven<'_> {
     fn call(&mut self, action: &str) -> Result<bool, ServerFault> {
         let (word, rest) = action.split_once(" ").unwrap_or((action, ""));
         match word {
-            "turn" | "done" | "missed" | "fault" | "touched" => self.make(Call::Word(word, rest)),
+            "turn" | "done" | "missed" | "fault" | "touched" | "accept" | "leave" | "restart" => {
+                self.make(Call::Word(word, rest))
+            }
             "read" => self.make(Call::Read),
             "clear" => {
                 self.feed_line(b"09999 ClearAllErrors()", b"\r\n")?;
@@ -113,18 +118,6 @@ impl Driven<'_> {
             "long" => self.feed_long(),
             "homes" => self.feed_homes(rest.parse().unwrap_or(0)),
             "bad" => self.feed_line(rest.as_bytes(), b"\n"),
-            "accept" => {
-                self.server.accept(rest.parse().unwrap_or(0))?;
-                Ok(true)
-            }
-            "leave" => {
-                self.server.leave();
-                Ok(true)
-            }
-            "restart" => {
-                self.server.restart();
-                Ok(true)
-            }
             _ => self.feed_line(action.as_bytes(), b"\r\n"),
         }
     }

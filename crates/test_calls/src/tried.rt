@@ -9,7 +9,7 @@ use crate::stop::{Pushed, Stop};
 use std::alloc::{AllocError, Global};
 use std::io::Write;
 
-/// A call of a client or of a server: bytes come, a line is read, or a word with what follows it.
+/// A call of a client, a server or a framing buffer: bytes come, a line is read, or a word with what follows it.
 #[derive(Clone, Copy)]
 pub(crate) enum Call<'a> {
     Feed(&'a [u8]),
