@@ -1,5 +1,5 @@
 -- A connection that was broken off is never forgotten.
-use Rattle.std.proofs.Common.{◌≡◌, inl, inr, sym, ap, subst, ◌∙◌, true≢false, true, false, List, [], ◌∷◌, ℕ}
+use Rattle.std.proofs.Common.{◌≡◌, inl, inr, sym, ap, subst, ◌∙◌, true≢false, true, List, [], ◌∷◌, ℕ}
 use Rattle.std.specs.Prelude.{OnOk, Result}
 use Rattle.effects.specs.Effects.{Reply, Bytes, Done}
 use Rattle.protocol_model.specs.Ends.{ServerEnd}

@@ -1,5 +1,5 @@
 -- What the contacts file has stays all that the server has done.
-use Rattle.std.proofs.Common.{◌≡◌, refl, sym, ap, subst, ◌∙◌, true≢false, ℕ, true, false, List, [], ◌∷◌, ◌++◌, drop, map, append-nil, codes}
+use Rattle.std.proofs.Common.{◌≡◌, refl, sym, ap, subst, ◌∙◌, true≢false, ℕ, true, List, [], ◌∷◌, ◌++◌, drop, map, append-nil, codes}
 use Rattle.std.proofs.lemmas.List.{map-append}
 use Rattle.std.proofs.Math.Seq.{drop-append_seam}
 use Rattle.contact_ledger.specs.Lines.{text_of}

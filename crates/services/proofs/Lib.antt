@@ -1,5 +1,6 @@
 pub mod Breaking
 pub mod Courses
+pub mod Exits
 pub mod Keeping
 pub mod Leading
 pub mod Relayed

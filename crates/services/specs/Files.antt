@@ -1,12 +1,19 @@
--- The name of a contacts file, and what of it stays the same when a text is added to it (this profile).
+-- What a session knows of its files: the name of a contacts file, and what of it stays the same when a text is added to it; and how many of
+-- a recording are counted (this profile).
 use Rattle.std.specs.Prelude.{◌≡◌, ℕ, List, [], Option, Some, None, string_bytes}
 use Rattle.services.specs.declared.contacts.Contacts.{Contacts}
 use Rattle.services.specs.declared.contacts.GrowingNames.{GrowingNames}
+use Rattle.services.specs.declared.recordings.Recording.{Recording}
 
 -- the name, or nothing
 abbrev pub name_of : Option GrowingNames → List ℕ
 name_of None = []
 name_of (Some names) = string_bytes names.name
+
+-- how many files of a recording are counted
+abbrev pub made_of : Option Recording → ℕ
+made_of None = 0
+made_of (Some recording) = recording.made
 
 pub record AreSame (old new : Contacts) : Type 0 where
   pub names : new.names ≡ old.names

@@ -4,3 +4,4 @@ pub mod Naming
 pub mod Serving
 pub mod Sessions
 pub mod Relays
+pub mod Ends

@@ -29,6 +29,7 @@ pub record RelayState : Type 0 where
   pub next : RelayStage  -- what comes after what is said, or once files are removed
   pub talk : RelayTalk
   pub end : RelayEnd
+  pub files : ℕ  -- how many files of its recording were made, and not removed; or were forced, once it ends
 
 -- the stages before the one whose effect is due
 abbrev pub is_aside : RelayStage → Bool

@@ -8,7 +8,7 @@ use Rattle.link_world.specs.Reports.{reported, contact_rows}
 use Rattle.effects.specs.declared.vocabulary.Growth.{Growth}
 use Rattle.effects.specs.declared.vocabulary.Growth.TheVariants.{Contacts}
 use Rattle.effects.specs.declared.vocabulary.Peer.TheVariants.{Client}
-use Rattle.effects.specs.Effects.{Ask, Exists, Look, Make, Discard, Begin, Keep, Replace, Extend, Stamp, Now, Sleep, Listen, Accept, Receive, Send, Leave, Print, Say, Exit, Reply, Done, Failed, Found, Did}
+use Rattle.effects.specs.Effects.{Ask, Exists, Look, Make, Discard, Begin, Keep, Replace, Extend, Stamp, Now, Sleep, Listen, Accept, Receive, Send, Leave, Print, Say, Exit, Reply, Done, Found, Did}
 use Rattle.services.specs.Kinds.{IsAdd, IsSay, IsSetAside}
 use Rattle.services.specs.declared.stages.Stage.{Stage}
 use Rattle.services.specs.declared.stages.Stage.TheVariants as stage

@@ -1,7 +1,8 @@
 // The end of a service: the contacts file gets its whole text, the contacts are printed, and what has failed is said.
 
-ghost use Rattle.std.specs.Prelude.{◌≡◌, true, false, OnOk};
+ghost use Rattle.std.specs.Prelude.{◌≡◌, true, false, OnErr, OnOk};
 ghost use Rattle.effects.specs.Effects.{the_reply};
+ghost use Rattle.services.specs.Ends as ends;
 ghost use Rattle.services.specs.Sessions as spec;
 ghost use Rattle.services.specs.Serving as serving;
 
@@ -53,6 +54,8 @@ impl Session {
         ensures broken { self.new.core.broken ≡ self.old.core.broken }
         ensures over { OnOk result (serving.is_over (spec.due self.new) ≡ true) }
         ensures stands { OnOk result (spec.Stands self.new) }
+        ensures nears { OnOk result (ends.IsWithin 2 (ends.ahead self.new)) }
+        ensures stays { OnErr result (self.new.stage ≡ self.old.stage) }
     {
         self.rows.clear();
         write_contact_rows(&mut self.rows, self.server.ledger())?;
@@ -67,6 +70,7 @@ impl Session {
         ensures broken { OnOk result (self.new.core.broken ≡ self.old.core.broken) }
         ensures over { OnOk result (serving.is_over (spec.due self.new) ≡ true) }
         ensures stands { OnOk result (spec.Stands self.new) }
+        ensures nears { ends.NearsOn result self.old self.new }
     {
         match (self.stage, answer) {
             (Stage::Replacing, Answer::Done) => self.print(),
@@ -108,6 +112,8 @@ impl Session {
             (spec.IsStatus self.new.core.status
             ((self.old.core.lost ≡ false) × (self.old.core.broken ≡ false))) }
         ensures talk { self.new.talk ≡ self.old.talk }
+        ensures nears { OnOk result (ends.IsWithin 1 (ends.ahead self.new)) }
+        ensures stays { OnErr result (self.new.stage ≡ self.old.stage) }
     {
         self.status = match self.broken {
             Some(Break::Fault(PumpFault::Memory)) => 4,

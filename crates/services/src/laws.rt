@@ -1,6 +1,6 @@
 // What follows from the definitions. Each function has laws for its contract and does nothing.
 
-ghost use Rattle.std.specs.Prelude.{◌≡◌, ⊤, ℕ, Bool, List, [], ◌∷◌, true, false, Some, None, Ok};
+ghost use Rattle.std.specs.Prelude.{◌≡◌, ◌≤◌, ⊤, ℕ, Bool, List, [], ◌∷◌, true, false, Some, None, Ok};
 ghost use Rattle.effects.specs.declared.vocabulary.Cause.TheVariants.{Device, InUse, Link, Reset};
 ghost use Rattle.effects.specs.Effects.{At, Bytes, Did, Discard, Done, End, Exit, Failed, Found, Look, Make, Nothing, Remove, Replace};
 ghost use Rattle.effects.specs.declared.vocabulary.Growth.TheVariants.{Contacts, Told};
@@ -9,9 +9,11 @@ ghost use Rattle.protocol_model.specs.Ends.{ServerEnd};
 ghost use Rattle.protocol_model.specs.Server.{running_job};
 ghost use Rattle.server_core.specs.Serving.{may_turn};
 ghost use Rattle.tool_rack.specs.Setups.{SetupValue};
+ghost use Rattle.services.specs.Ends.{After, Nears, ahead, ahead_at, at_end};
 ghost use Rattle.services.specs.Sessions.{AreSeen, AsksAt, Breaks, Core, HasServed, IsBrokenOff, IsStatus, Led, NoneBroken, Outside, Ready, State, due, outcome, untouched};
 ghost use Rattle.services.specs.Serving.{Talk, Traffic, Served, IsBreak, IsServing, IsAt, is_over, may_leave, passed};
 ghost use Rattle.link_world.specs.declared.connections.pumps.PumpFault.TheVariants as fault;
+ghost use Rattle.services.specs.declared.stages.Stage.{Stage};
 ghost use Rattle.services.specs.declared.stages.Stage.TheVariants as stage;
 
 /// A server that was served so (`Served`), as that of a session is at any moment, whatever is answered:
@@ -139,4 +141,41 @@ pub fn serving_rows()
     ensures ended { may_leave stage.Receiving End ≡ true }
     ensures stopped { may_leave stage.Checking Found ≡ true }
     ensures lapsed { (ms : ℕ) → may_leave stage.Timing (At ms) ≡ true }
+{}
+
+/// At its end a service asks for at most five effects, and from the whole text of its contacts file on for four, the exit included, whatever is
+/// answered (`Session::take`): after one answer less only its exit is left.
+pub fn services_exit()
+    ensures ends { (n : ℕ) (s t : State) → (ahead s).ends ≡ true → After n (ahead s) (ahead t)
+        → 4 ≤ n → t.stage ≡ stage.Exiting }
+    ensures replaced { (n : ℕ) (s t : State) → s.stage ≡ stage.Replacing
+        → After n (ahead s) (ahead t) → 3 ≤ n → t.stage ≡ stage.Exiting }
+{}
+
+/// At the end no stage comes again, nor one on a connection: the contacts file is written before the contacts are printed, and a message is said
+/// once, before or after; and the exit is the last.
+pub fn exit_rows()
+    ensures most { ahead_at stage.Saying stage.Replacing ≡ at_end 4 }
+    ensures written { (m n : Stage) → Nears (ahead_at stage.Replacing m)
+        (ahead_at stage.Printing n) }
+    ensures again { (m n : Stage) → Nears (ahead_at stage.Replacing m)
+        (ahead_at stage.Replacing n) → ⊥ }
+    ensures back { (m n : Stage) → Nears (ahead_at stage.Printing m)
+        (ahead_at stage.Replacing n) → ⊥ }
+    ensures printed { (n : Stage) → Nears (ahead_at stage.Printing n)
+        (ahead_at stage.Saying stage.Exiting) }
+    ensures said { Nears (ahead_at stage.Saying stage.Exiting)
+        (ahead_at stage.Saying stage.Exiting) → ⊥ }
+    ensures discarded { (m n : Stage) → Nears (ahead_at stage.Discarding m)
+        (ahead_at stage.Telling n) }
+    ensures left { (n : Stage) → ahead_at stage.Discarding n ≡ at_end 2 }
+    ensures told { (m n : Stage) → Nears (ahead_at stage.Telling m)
+        (ahead_at stage.Telling n) → ⊥ }
+    ensures received { (m n : Stage) → Nears (ahead_at stage.Printing m)
+        (ahead_at stage.Receiving n) → ⊥ }
+    ensures exit { (m n : Stage) → Nears (ahead_at stage.Exiting m) (ahead_at stage.Exiting n) }
+    ensures message { (m n : Stage) → Nears (ahead_at stage.Exiting m)
+        (ahead_at stage.Telling n) → ⊥ }
+    ensures serving { (m n : Stage) → Nears (ahead_at stage.Saying stage.Accepting)
+        (ahead_at m n) }
 {}

@@ -2,6 +2,7 @@
 
 ghost use Rattle.std.specs.Prelude.{◌≡◌, ◌≢◌, if◌then◌else◌, true, false, [], OnOk};
 ghost use Rattle.effects.specs.Effects.{the_reply, Reply};
+ghost use Rattle.services.specs.Ends as ends;
 ghost use Rattle.services.specs.Sessions as spec;
 ghost use Rattle.services.specs.Serving as serving;
 
@@ -133,6 +134,7 @@ impl Session {
         ensures broken { self.new.core.broken ≡ self.old.core.broken }
         ensures over { serving.is_over (spec.due self.new) ≡ true }
         ensures stands { spec.Stands self.new }
+        ensures nears { ends.IsWithin 1 (ends.ahead self.new) }
     {
         self.next = Stage::Exiting;
         self.stage = if self.status == 4 {
@@ -162,6 +164,8 @@ impl Session {
         ensures over { serving.is_over self.old.stage ≡ true
             → OnOk result (serving.is_over (spec.due self.new) ≡ true) }
         ensures stands { OnOk result (spec.Stands self.old → spec.Stands self.new) }
+        ensures nears { serving.is_over self.old.stage ≡ true
+            → ends.NearsOn result self.old self.new }
     {
         match (self.stage, answer) {
             (Stage::Discarding, _) => self.discarded(),

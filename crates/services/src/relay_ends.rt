@@ -38,7 +38,7 @@ impl RelaySession {
     /// What comes after the told file was forced.
     fn after_forcing(&mut self) -> Stage
         ensures next { (result ≡ Stage.Settling) ⊎ (result ≡ Stage.Leaving) }
-        ensures same { self.new ≡ self.old }
+        ensures same { self.new ≡ record self.old { files = self.new.files } }
     {
         match &mut self.recording {
             Some(recording) => {

@@ -1,7 +1,8 @@
 // The files of a relay.
 
-ghost use Rattle.std.specs.Prelude.{◌≡◌, ◌⊎◌, true, OnOk, OnErr};
+ghost use Rattle.std.specs.Prelude.{◌≡◌, ◌⊎◌, suc, true, OnOk, OnErr};
 ghost use Rattle.effects.specs.Effects.{the_reply, Reply};
+ghost use Rattle.services.specs.Ends as ends;
 ghost use Rattle.services.specs.Relays as spec;
 
 use crate::recordings::{hold_recording, recording_in, slot_after};
@@ -91,7 +92,8 @@ impl RelaySession {
     #[tactic(auto, using(crate::proofs::Relayed::closing_steps))]
     pub(crate) fn discarded(&mut self)
         requires { self.old.stage ≡ Stage.Discarding }
-        ensures { (reply : Reply) → spec.Steps self.old reply self.new }
+        ensures steps { (reply : Reply) → spec.Steps self.old reply self.new }
+        ensures nears { ends.IsWithin (suc self.old.files) (ends.relay_ahead self.new) }
     {
         self.next = Stage::Exiting;
         self.stage = match &self.recording {
@@ -104,7 +106,8 @@ impl RelaySession {
     #[tactic(auto, using(crate::proofs::Relayed::closing_steps, crate::proofs::Relayed::due_steps))]
     pub(crate) fn removed(&mut self)
         requires { self.old.stage ≡ Stage.Removing }
-        ensures { (reply : Reply) → spec.Steps self.old reply self.new }
+        ensures steps { (reply : Reply) → spec.Steps self.old reply self.new }
+        ensures nears { ends.Nears (ends.relay_ahead self.old) (ends.relay_ahead self.new) }
     {
         if let Some(recording) = &mut self.recording {
             recording.made = recording.made.saturating_sub(1);

@@ -1,13 +1,15 @@
 // What follows from the definitions of a relay. Each function has laws for its contract and does nothing.
 
-ghost use Rattle.std.specs.Prelude.{◌≡◌, ◌++◌, ℕ, Bool, [], ◌∷◌, true, false};
+ghost use Rattle.std.specs.Prelude.{◌≡◌, ◌≤◌, ◌+◌, ◌++◌, ℕ, Bool, [], ◌∷◌, true, false};
 ghost use Rattle.effects.specs.declared.vocabulary.Cause.TheVariants.{Full, Interrupted};
 ghost use Rattle.effects.specs.declared.vocabulary.Growth.TheVariants.{Told};
 ghost use Rattle.effects.specs.declared.vocabulary.Peer.TheVariants.{Client, Server};
 ghost use Rattle.effects.specs.Effects.{Append, Bytes, Done, End, Exit, Failed, Keep, Nothing, Pass, Short, Took};
 ghost use Rattle.watched_ends.specs.Limits.{Past, Within, Limited, up_of, down_of};
 ghost use Rattle.witness.specs.Relaying.{Relaying};
+ghost use Rattle.services.specs.Ends.{After, Nears, at_end, relay_ahead, relay_ahead_at};
 ghost use Rattle.services.specs.Relays.{RelayEnd, RelayOutside, RelayState, RelayTalk, RelayTraffic, AsksAt, EndsAt, Ending, HasPassed, IsRelaying, Sends, Stands, phase, IsVerdict, must_fail, Fails, Counts, Numbers, ReadyAt, phase_of, event_of, passed, nothing_passed, Relayed, HasCourse, IsAt, Keeps};
+ghost use Rattle.services.specs.declared.relay_stages.RelayStage.{RelayStage};
 ghost use Rattle.services.specs.declared.relay_stages.RelayStage.TheVariants as stage;
 
 /// Whatever is answered, on each connection:
@@ -116,4 +118,42 @@ pub fn passing_rows()
         → s.stage ≡ stage.Telling → Keeps s Done t → ⊥ }
     ensures unsaid { (s t : RelayState) → s.talk.is_told ≡ true → t.talk.is_told ≡ false
         → t.end.status ≡ 0 → Keeps s (Failed Full) t → ⊥ }
+{}
+
+/// At its end a relay asks for at most three effects, the exit included, and one more for each file of a recording that it removes, whatever is
+/// answered (`RelaySession::take`): after one answer less only its exit is left.
+pub fn relays_exit()
+    ensures { (n : ℕ) (s t : RelayState) → (relay_ahead s).ends ≡ true
+        → After n (relay_ahead s) (relay_ahead t) → 2 + s.files ≤ n → t.stage ≡ stage.Exiting }
+{}
+
+/// At the end the told file is left, each file of a recording is removed once, and then a message is said, once; and the exit is the last.
+pub fn exit_rows()
+    ensures most { (n : RelayStage) → relay_ahead_at stage.Discarding n 3 ≡ at_end 5 }
+    ensures left { (n : RelayStage) → Nears (relay_ahead_at stage.Discarding n 3)
+        (relay_ahead_at stage.Removing stage.Exiting 3) }
+    ensures again { (m n : RelayStage) → Nears (relay_ahead_at stage.Discarding m 0)
+        (relay_ahead_at stage.Discarding n 0) → ⊥ }
+    ensures unmade { (m n : RelayStage) → Nears (relay_ahead_at stage.Discarding m 0)
+        (relay_ahead_at stage.Parting n 0) }
+    ensures removed { Nears (relay_ahead_at stage.Removing stage.Exiting 2)
+        (relay_ahead_at stage.Removing stage.Exiting 1) }
+    ensures twice { Nears (relay_ahead_at stage.Removing stage.Exiting 2)
+        (relay_ahead_at stage.Removing stage.Exiting 2) → ⊥ }
+    ensures last { Nears (relay_ahead_at stage.Removing stage.Exiting 1)
+        (relay_ahead_at stage.Saying stage.Exiting 0) }
+    ensures said { Nears (relay_ahead_at stage.Saying stage.Exiting 0)
+        (relay_ahead_at stage.Saying stage.Exiting 0) → ⊥ }
+    ensures parted { (m n : RelayStage) → Nears (relay_ahead_at stage.Parting m 0)
+        (relay_ahead_at stage.Parting n 0) → ⊥ }
+    ensures taken { (m n : RelayStage) → Nears (relay_ahead_at stage.Parting m 0)
+        (relay_ahead_at stage.Accepting n 0) → ⊥ }
+    ensures exit { (m n : RelayStage) → Nears (relay_ahead_at stage.Exiting m 0)
+        (relay_ahead_at stage.Exiting n 0) }
+    ensures message { (m n : RelayStage) → Nears (relay_ahead_at stage.Exiting m 0)
+        (relay_ahead_at stage.Parting n 0) → ⊥ }
+    ensures relaying { (m n : RelayStage) → Nears
+        (relay_ahead_at stage.Saying stage.Connecting 0) (relay_ahead_at m n 0) }
+    ensures recording { (m n : RelayStage) → Nears
+        (relay_ahead_at stage.Removing stage.Connecting 1) (relay_ahead_at m n 3) }
 {}

@@ -1,8 +1,9 @@
 // The relay: what it asks, and what it does with an answer.
 
-ghost use Rattle.std.specs.Prelude.{◌≡◌, ◌⊎◌, [], true, false, IfOk};
+ghost use Rattle.std.specs.Prelude.{◌≡◌, ◌⊎◌, [], true, false, IfOk, is_err};
 ghost use Rattle.effects.specs.Effects.{the_ask, the_reply, Reply};
 ghost use Rattle.watched_ends.specs.Limits.{IsTold, down_of};
+ghost use Rattle.services.specs.Ends as ends;
 ghost use Rattle.services.specs.Relays as spec;
 
 use crate::contacts::GrowingNames;
@@ -100,6 +101,7 @@ pub struct RelaySession {
 }
 
 impl Model for RelaySession {
+    ghost use Rattle.services.specs.Files.{made_of};
     ghost use Rattle.services.specs.Relays.{RelayState};
 
     ghost Value = { RelayState };
@@ -114,6 +116,7 @@ impl Model for RelaySession {
         has_ended = s.ends.client;
       };
       end = record { status = s.status; left = s.left };
+      files = made_of s.recording;
     } };
 }
 
@@ -264,6 +267,7 @@ impl RelaySession {
     pub fn take(&mut self, answer: Answer<'_>)
         ensures steps { spec.Steps self.old (the_reply answer.entry) self.new }
         ensures last { self.old.stage ≡ Stage.Exiting → self.new ≡ self.old }
+        ensures nears { ends.Nears (ends.relay_ahead self.old) (ends.relay_ahead self.new) }
     {
         if let Stage::Exiting = self.stage {
             return;
@@ -275,7 +279,9 @@ impl RelaySession {
 
     /// The session after an answer.
     fn step(&mut self, answer: Answer<'_>) -> Result<(), AllocError>
-        ensures { spec.Takes result self.old (the_reply answer.entry) self.new }
+        ensures takes { spec.Takes result self.old (the_reply answer.entry) self.new }
+        ensures nears { ends.Nears (ends.relay_ahead self.old) (ends.relay_ahead self.new) }
+        ensures done { (ends.relay_ahead self.old).ends ≡ true → is_err result ≡ false }
     {
         match self.stage {
             Stage::Making | Stage::Listening | Stage::Listing => self.prepare(answer),
@@ -303,7 +309,8 @@ impl RelaySession {
     #[tactic(auto, using(crate::proofs::Relayed::closing_steps, crate::proofs::Relayed::due_steps, crate::proofs::Relayed::same_due))]
     fn close_on(&mut self)
         requires { spec.is_closing self.old.stage ≡ true }
-        ensures { (reply : Reply) → spec.Steps self.old reply self.new }
+        ensures steps { (reply : Reply) → spec.Steps self.old reply self.new }
+        ensures nears { ends.Nears (ends.relay_ahead self.old) (ends.relay_ahead self.new) }
     {
         match self.stage {
             Stage::Discarding => self.discarded(),

@@ -4,6 +4,7 @@ ghost use Rattle.std.specs.Prelude.{◌≡◌, true, false, [], OnOk, OnErr, IfO
 ghost use Rattle.std.specs.Option.{option_map_or};
 ghost use Rattle.effects.specs.Effects.{the_ask, the_reply, Reply};
 ghost use Rattle.protocol_model.specs.Ends.{serving_left};
+ghost use Rattle.services.specs.Ends as ends;
 ghost use Rattle.services.specs.Sessions as spec;
 ghost use Rattle.services.specs.Serving as serving;
 
@@ -219,6 +220,7 @@ impl Session {
         ensures stays { spec.StaysOn self.old (the_reply answer.entry) self.new }
         ensures breaks { spec.Breaks self.old (the_reply answer.entry) self.new }
         ensures stands { spec.Stands self.old → spec.Stands self.new }
+        ensures nears { ends.Nears (ends.ahead self.old) (ends.ahead self.new) }
     {
         if self.step(answer).is_err() {
             self.run_short();
@@ -234,6 +236,8 @@ impl Session {
         ensures lost { OnErr result
             (spec.Brings true self.old (the_reply answer.entry) (spec.left self.new)) }
         ensures stands { OnOk result (spec.Stands self.old → spec.Stands self.new) }
+        ensures nears { (ends.ahead self.old).ends ≡ true
+            → ends.NearsOn result self.old self.new }
     {
         match self.stage {
             Stage::Logged | Stage::Looking | Stage::Making | Stage::Listening => {
@@ -264,6 +268,7 @@ impl Session {
         ensures talk { self.new.talk ≡ self.old.talk }
         ensures broken { self.new.core.broken ≡ self.old.core.broken }
         ensures stands { spec.Stands self.old → spec.Stands self.new }
+        ensures nears { ends.Nears (ends.ahead self.old) (ends.ahead self.new) }
     {
         self.stage = self.next;
     }
@@ -313,6 +318,8 @@ impl Session {
         ensures broken { self.new.core.broken ≡ true }
         ensures over { serving.is_over (spec.due self.new) ≡ true }
         ensures stands { spec.Stands self.new }
+        ensures nears { spec.is_closing self.old.stage ≡ true
+            → ends.IsWithin 1 (ends.ahead self.new) }
     {
         self.server.leave();
         self.broken = Some(Break::Fault(PumpFault::Memory));
