@@ -16,11 +16,7 @@ import subprocess
 import sys
 import tempfile
 
-from counting import built, plain
-
-ROOT = pathlib.Path(__file__).resolve().parent.parent
-sys.path.insert(0, str(ROOT / "tests"))
-
+from counting import ROOT, built, plain
 from rows import program_rows
 
 # Parts of the input of test_calls that plain programs play too.

@@ -4,23 +4,27 @@ The programs are made by `tests/run`, or by `rt run` in their crates.
 """
 import collections
 import functools
-import os
+import pathlib
 import re
 import subprocess
+import sys
 import tempfile
+
+ROOT = pathlib.Path(__file__).resolve().parent.parent
+sys.path.insert(0, str(ROOT / "tests"))  # some scripts use what is shared there
 
 
 def built(crate):
     """The executable of a crate."""
-    return os.path.join(os.path.dirname(os.path.abspath(__file__)), "..", "crates", crate, "out", crate)
+    return str(ROOT / "crates" / crate / "out" / crate)
 
 
 @functools.cache
 def plain(program="plain"):
     """A program of bench/plain/, built again if its sources have changed."""
-    folder = os.path.join(os.path.dirname(os.path.abspath(__file__)), "plain")
+    folder = ROOT / "bench" / "plain"
     subprocess.run(["cargo", "build", "--release", "--offline", "--quiet"], cwd=folder, check=True)
-    return os.path.join(folder, "target", "release", program)
+    return str(folder / "target" / "release" / program)
 
 
 def profiled(words, with_callees=False):

@@ -22,6 +22,7 @@ import tempfile
 import time
 
 from counting import built, function_of, peak, plain, profiled
+from common import length
 
 SIZES = (1_000, 9_800)  # a program of 10,000 statements cannot hold more touches in features of 100
 WINDOWS = (1, 16)
@@ -43,16 +44,11 @@ def program_of(touches):
         lines.append(f"PTMEAS/CART,{number % 900}.125,20.5,-3.0625,0,0,1")
         if (number + 1) % FEATURE == 0 or number + 1 == touches:
             lines.append("ENDMES")
-    return lines + ["ENDFIL"]
+    return "\n".join(lines + ["ENDFIL", ""])
 
 
 def setup():
-    return ["TOOL P1"] + ["SHIFT " + " ".join(text(length) for length in shift) for shift in SHIFTS]
-
-
-def text(um):
-    """A length, as written on the wire."""
-    return f"{'-' if um < 0 else ''}{abs(um) // 1000}.{abs(um) % 1000:03d}"
+    return "".join(f"{line}\n" for line in ["TOOL P1"] + ["SHIFT " + " ".join(map(length, shift)) for shift in SHIFTS])
 
 
 def touched(command, number):
@@ -83,7 +79,7 @@ def said(lines, window):
                 answers.append(f"{line[:5]} # IsHomed(0)\r\n")
             if "PtMeas(" in line:
                 points.append(touched(line, len(points)))
-                x, y, z = map(text, points[-1])
+                x, y, z = map(length, points[-1])
                 answers.append(f"{line[:5]} # X({x}), Y({y}), Z({z})\r\n")
             answers.append(f"{line[:5]} %\r\n")
         turns += ["".join(f"{line}\r\n" for line in batch).encode(), "".join(answers).encode()]
@@ -96,9 +92,9 @@ class Exchange:
     def __init__(self, folder, ours, theirs, touches, window):
         self.touches, self.window = touches, window
         at = os.path.join(folder, f"{touches}.{window}")
-        for ending, lines in (("dmis", program_of(touches)), ("setup", setup())):
+        for ending, text in (("dmis", program_of(touches)), ("setup", setup())):
             with open(f"{at}.{ending}", "w") as file:
-                file.write("\n".join(lines) + "\n")
+                file.write(text)
         checked = subprocess.run([ours, "check", f"{at}.dmis"], stdout=subprocess.PIPE, text=True, check=True).stdout
         self.turns, self.points = said(checked.splitlines(), window)
         with open(f"{at}.turns", "wb") as file:
@@ -114,7 +110,7 @@ class Exchange:
         """The report of `dme` has the points in their order."""
         rows = printed.decode().splitlines()
         told = [row for row in rows if re.match(r"-?\d", row)]
-        if rows[0] != "STATE Done" or told != [" ".join(map(text, point)) for point in self.points]:
+        if rows[0] != "STATE Done" or told != [" ".join(map(length, point)) for point in self.points]:
             sys.exit(f"{self.name}: printed other points, or has not ended")
 
     def traffic(self, words):

@@ -18,7 +18,7 @@ import sys
 import tempfile
 import threading
 
-from counting import built, counted, peak, plain
+from counting import ROOT, built, counted, peak, plain
 
 WORKERS = 2
 LINES = 100_000
@@ -186,8 +186,7 @@ def quiet_rows():
 
 def revision(folder):
     """The last commit of a folder, and whether it has changes since."""
-    root = os.path.join(os.path.dirname(os.path.abspath(__file__)), "..")
-    told = [subprocess.run(["git"] + words + ["--", folder], cwd=root, capture_output=True, text=True).stdout.strip()
+    told = [subprocess.run(["git"] + words + ["--", folder], cwd=ROOT, capture_output=True, text=True).stdout.strip()
             for words in (["log", "-1", "--format=%h"], ["status", "--porcelain"])]
     return told[0] + (" with changes" if told[1] else "")
 

@@ -11,46 +11,34 @@ It needs valgrind and the built program (see counting.py). It takes a few minute
 usage: bench/record.py [DME]    DME is the program measured, if not the built one
 """
 import concurrent.futures
-import pathlib
-import socket
 import subprocess
 import sys
-import tempfile
-import time
 
 from counting import built, profiled
+from common import room
+from listening import free_port, wait_for_listener
 from loop import program_of, setup
 
 TOUCHES = 9_800
 WINDOWS = (1, 16)
 
 
-def free_port():
-    with socket.create_server(("127.0.0.1", 0)) as listener:
-        return listener.getsockname()[1]
-
-
 def served(dme, folder, port, *more):
     """A server that listens on the port, for one connection."""
     words = [dme, "serve", "--setup", "machine.setup", "--port", str(port), "--connections", "1", *more]
     server = subprocess.Popen(words, cwd=folder, stdout=subprocess.DEVNULL)
-    hexadecimal = f":{port:04X} "
-    while not any(hexadecimal in line and " 0A " in line for line in pathlib.Path("/proc/net/tcp").read_text().splitlines()):
-        time.sleep(0.02)
+    wait_for_listener(port, lambda: server.poll() is not None, 60)
     return server
 
 
 def cost(dme, touches, window, with_record):
     """The instructions of a run of that many touches."""
-    with tempfile.TemporaryDirectory() as room:
-        folder = pathlib.Path(room)
-        (folder / "machine.setup").write_text("\n".join(setup()) + "\n")
-        (folder / "part.dmis").write_text("\n".join(program_of(touches)) + "\n")
+    with room({"machine.setup": setup(), "part.dmis": program_of(touches)}) as folder:
         port = free_port()
         server = served(dme, folder, port)
-        words = [dme, "run", "--setup", f"{room}/machine.setup", "--host", "127.0.0.1", "--port", str(port), "--window", str(window)]
-        words += ["--record", f"{room}/part.record", "--part", "0042/7"] if with_record else []
-        instructions, _, printed = profiled([*words, f"{room}/part.dmis"])
+        words = [dme, "run", "--setup", f"{folder}/machine.setup", "--host", "127.0.0.1", "--port", str(port), "--window", str(window)]
+        words += ["--record", f"{folder}/part.record", "--part", "0042/7"] if with_record else []
+        instructions, _, printed = profiled([*words, f"{folder}/part.dmis"])
         if not printed.startswith(b"STATE Done\n"):
             sys.exit(f"the run is not Done: {printed[:100]}")
         server.wait(60)

@@ -18,27 +18,17 @@ import re
 import socket
 import subprocess
 import sys
-import tempfile
 import threading
 import time
 
 from counting import built, plain
+from common import CONTACTS, TOLD, room
+from listening import free_port, wait_for_listener
 from loop import program_of, setup
-from record import free_port, served
+from record import served
 
 TOUCHES = 9_800
 WINDOWS = (1, 16)
-HEAD = {"told": "DME-TOLD 1\n", "contacts": "DME-CONTACTS 1\n"}
-
-
-def listens(port, process):
-    """Waits until a process listens on a port."""
-    hexadecimal = f":{port:04X} "
-    while process.poll() is None:
-        if any(hexadecimal in line and " 0A " in line for line in pathlib.Path("/proc/net/tcp").read_text().splitlines()):
-            return
-        time.sleep(0.01)
-    sys.exit("it does not listen")
 
 
 class Between:
@@ -54,7 +44,7 @@ class Between:
             "watch": [dme, "watch", "--listen", str(self.port), "--host", "127.0.0.1", "--port", str(server_port), "--told", "told", "--connections", "1"],
         }[kind]
         self.process = subprocess.Popen(words, cwd=folder)
-        listens(self.port, self.process)
+        wait_for_listener(self.port, lambda: self.process.poll() is not None, 60)
 
     def peak(self):
         """The peak of its memory so far, in KiB."""
@@ -70,16 +60,9 @@ class Between:
         return usage.ru_utime + usage.ru_stime
 
 
-def text_of(folder, name):
-    return (folder / name).read_text().removeprefix(HEAD[name])
-
-
 def run(dme, kind, window):
     """The time of a run by the clock and the processor time of what stands between, in seconds."""
-    with tempfile.TemporaryDirectory() as room:
-        folder = pathlib.Path(room)
-        (folder / "machine.setup").write_text("\n".join(setup()) + "\n")
-        (folder / "part.dmis").write_text("\n".join(program_of(TOUCHES)) + "\n")
+    with room({"machine.setup": setup(), "part.dmis": program_of(TOUCHES)}) as folder:
         port = free_port()
         server = served(dme, folder, port, "--contacts", "contacts")
         between = Between(kind, dme, folder, port)
@@ -91,7 +74,7 @@ def run(dme, kind, window):
             sys.exit(f"the run is not Done: {printed[:100]}")
         server.wait(60)
         processor = between.end()
-        if kind == "watch" and text_of(folder, "told") != text_of(folder, "contacts"):
+        if kind == "watch" and (folder / "told").read_text().removeprefix(TOLD) != (folder / "contacts").read_text().removeprefix(CONTACTS):
             sys.exit("the told file is not the contacts")
         return taken, processor
 
@@ -139,10 +122,10 @@ def answer(listener):
 def forwarded(dme, kind, megabytes):
     """The seconds that so many bytes take, the processor time, and the peak of memory after a tenth and at the end."""
     rounds = megabytes * 1_000_000 // (len(UP) + len(DOWN)) + 1
-    with tempfile.TemporaryDirectory() as room, socket.create_server(("127.0.0.1", 0)) as listener:
+    with room() as folder, socket.create_server(("127.0.0.1", 0)) as listener:
         server = threading.Thread(target=answer, args=(listener,), daemon=True)
         server.start()
-        between = Between(kind, dme, room, listener.getsockname()[1])
+        between = Between(kind, dme, folder, listener.getsockname()[1])
         begin, peaks = time.perf_counter(), []
         with socket.create_connection(("127.0.0.1", between.port), 60) as stream:
             for number in range(rounds):
@@ -152,9 +135,9 @@ def forwarded(dme, kind, megabytes):
                     peaks.append(between.peak())
         processor = between.end()
         seconds = time.perf_counter() - begin
-        told = os.path.getsize(f"{room}/told") if kind == "watch" else 0
+        told = os.path.getsize(folder / "told") if kind == "watch" else 0
         line = len("1 MOVED 1.000 2.000 3.000 ?\n")
-        if kind == "watch" and told != len(HEAD["told"]) + rounds * len(TAGS) * line:
+        if kind == "watch" and told != len(TOLD) + rounds * len(TAGS) * line:
             sys.exit(f"the told file has {told} bytes")
         return seconds, processor, peaks
 

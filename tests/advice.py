@@ -7,18 +7,13 @@ summary of that program must have said how many touches are measured in other co
 by itself. `run` calls this; by itself: tests/advice.py
 """
 
-import pathlib
 import re
-import subprocess
 import sys
-import tempfile
 from decimal import Decimal
 
-from rows import EXAMPLES, ROWS, read
+from common import EXAMPLES, called, counted, room
+from rows import ROWS, read
 
-ROOT = pathlib.Path(__file__).resolve().parent.parent
-PROGRAM = ROOT / "crates" / "dme_program" / "out" / "dme_program"
-SECONDS = 20
 # Each program, its setup, and what its mistakes are corrected to, by line.
 PROGRAMS = {
     "calypso_style_ring.dmis": ("", {11: "SNSLCT/S(PRB1)"}),
@@ -73,13 +68,13 @@ class Calls:
     """Calls of `dme` on a text under a setup."""
 
     def __init__(self, folder, setup):
-        self.folder = pathlib.Path(folder)
-        (self.folder / "s").write_text(setup)
+        self.folder = folder
+        (folder / "s").write_text(setup)
 
     def call(self, command, lines):
         (self.folder / "p").write_text("".join(f"{it}\n" for it in lines))
-        run = subprocess.run([PROGRAM, command, "--setup", "s", "p"], cwd=self.folder, capture_output=True, text=True, timeout=SECONDS)
-        return run.stdout.splitlines(), run.returncode
+        status, text, _ = called(self.folder, command, "--setup", "s", "p")
+        return text.splitlines(), status
 
     def refused(self, lines):
         """The refused lines of a text with their codes, and its summary: the lines and the sentence of each group."""
@@ -175,15 +170,13 @@ def faults_in(name, folder):
 
 
 def check_advice():
-    """How often following an advice changes nothing but what it says, and how often it does not."""
     faults, tried = [], 0
     for name in PROGRAMS:
-        with tempfile.TemporaryDirectory() as folder:
+        with room() as folder:
             wrong, count = faults_in(name, folder)
         faults, tried = faults + wrong, tried + count
     print(*faults, sep="\n", end="\n" if faults else "")
-    print(f"advice of reviews: {tried - len(faults)} of {tried}", flush=True)
-    return tried - len(faults), len(faults)
+    return counted("advice of reviews", len(faults), tried)
 
 
 if __name__ == "__main__":

@@ -16,18 +16,13 @@ import hmac
 import html.parser
 import io
 import json
-import pathlib
-import socket
-import subprocess
 import sys
-import tempfile
 import threading
 
-from growths import Wrong, must
-from killed import dme, program
-from listening import free_port
+from common import audited as audit, called, dme, ended, killed, length, listening, must, room, whole, write_into
+from killed import program
 from pages_of_parts import FOREIGN, micrometres
-from watched import ended, listening
+from relayed import Cutter
 
 PARTS = 30
 BROKEN, KILLED, UNFINISHED, OUT = 4, 11, 17, 23
@@ -38,31 +33,11 @@ LEAST, MOST = -10, 10
 KEY = bytes(range(100, 132))
 
 
-def relayed(port, lines, end):
-    """The port of a relay of one connection, which ends after that many lines of the server, once `end` was called."""
-    listener = socket.create_server(("127.0.0.1", 0))
-
-    def forward(source, sink):
-        try:
-            while piece := source.recv(4096):
-                sink.sendall(piece)
-        except OSError:
-            pass
-
-    def relay():
-        client, _ = listener.accept()
-        server = socket.create_connection(("127.0.0.1", port))
-        threading.Thread(target=forward, args=(client, server), daemon=True).start()
-        left = lines
-        while left > 0 and (piece := server.recv(64)):
-            client.sendall(piece)
-            left -= piece.count(b"\n")
-        end()
-        for it in (client, server, listener):
-            it.close()
-
-    threading.Thread(target=relay, daemon=True).start()
-    return listener.getsockname()[1]
+def cut_off(port, most, before_cut=lambda: None):
+    """The port of a relay of one connection, which it cuts after that many bytes of the server."""
+    cutter = Cutter(port, "down", most, "end", before_cut)
+    cutter.start()
+    return str(cutter.port)
 
 
 def name_of(number):
@@ -81,11 +56,11 @@ def measured(folder, number, port, other):
     """Measures a part, by the same call again if its run broke or was killed."""
     runs = []
     if number in (BROKEN, UNFINISHED):
-        runs = [run(folder, number, "--port", str(relayed(port, 200, lambda: None)))]
+        runs = [run(folder, number, "--port", cut_off(port, 4_000))]
     elif number == KILLED:
         started = threading.Event()
-        cut = relayed(port, 300, lambda: (started.wait(), runs[0].kill()))
-        runs.append(run(folder, number, "--port", str(cut)))
+        cut = cut_off(port, 6_000, lambda: (started.wait(), runs[0].kill()))
+        runs.append(run(folder, number, "--port", cut))
         started.set()
     for it in runs:
         must(ended(it)[0] != 0, name_of(number), "was measured at once")
@@ -96,7 +71,7 @@ def measured(folder, number, port, other):
 
 def table_of(folder, number):
     """The deviations along the normal of a part, by feature and touch, in micrometres; none where nothing was measured."""
-    status, text, errors = ended(dme(folder, "export", "--as", "json", "--setup", "machine.setup", "--record", record_of(number), "part.dmis"))
+    status, text, errors = called(folder, "export", "--as", "json", "--setup", "machine.setup", "--record", record_of(number), "part.dmis")
     must(status == (3 if number == UNFINISHED else 0), "table", name_of(number), errors)
     rows = json.loads(text, parse_float=fractions.Fraction)
     return {(it["feature"], it["point"]): it["deviation_along_normal"] for it in rows}
@@ -106,10 +81,6 @@ def rounded(number):
     """To the nearest whole number; of two equally near, the one farther from zero."""
     whole = int(abs(number) + fractions.Fraction(1, 2))
     return whole if number >= 0 else -whole
-
-
-def length(micrometres):
-    return f"{'-' if micrometres < 0 else ''}{abs(micrometres) // 1000}.{abs(micrometres) % 1000:03}"
 
 
 def figures(values):
@@ -123,14 +94,14 @@ def figures(values):
 
 def check_page(folder, number):
     words = ("report", "--record", record_of(number), "--setup", "machine.setup", "--limits", "part.limits", "part.dmis")
-    status, page, errors = ended(dme(folder, *words))
+    status, page, errors = called(folder, *words)
     must(status == (3 if number == UNFINISHED else 0), "page", name_of(number), status, errors)
     must(name_of(number) in page and ("missing" in page) == (number == UNFINISHED), "page", name_of(number), "what is missing")
     must(("Out of limits" in page) == (number == OUT), "page", name_of(number), "what is out of limits")
 
 
 def audited(folder, number, *key):
-    status, text, errors = ended(dme(folder, "audit", "--setup", "machine.setup", "--record", record_of(number), *key, "part.dmis"))
+    status, text, errors = audit(folder, "--record", record_of(number), *key)
     return status, text, errors.partition("\n")[0]
 
 
@@ -214,7 +185,7 @@ def check_chart(part, feature, tables, order):
 
 
 def check_summary_page(folder, words, records, tables, expected):
-    status, text, errors = ended(dme(folder, *words, "--seal-key", "cell.key", "--as", "html", *records))
+    status, text, errors = called(folder, *words, "--seal-key", "cell.key", "--as", "html", *records)
     page = Page(text)
     must(status == 3 and not page.foreign and len(errors.splitlines()) == 2, "the page", status, errors, page.foreign)
     out, points = sum(int(it[-1]) for it in expected), sum(int(it[2]) for it in expected)
@@ -234,37 +205,41 @@ def check_summary(folder):
     expected = [[feature, str(touch), *figures([it[feature, touch] for it in tables])] for feature, touch in tables[0]]
     words = ("summary", "--setup", "machine.setup", "--limits", "part.limits", "--program", "part.dmis")
     records = [record_of(number) for number in range(1, PARTS + 1)]
-    status, text, errors = ended(dme(folder, *words, "--as", "csv", *records))
+    status, text, errors = called(folder, *words, "--as", "csv", *records)
     must(status == 3 and list(csv.reader(io.StringIO(text)))[1:] == expected, "the table of the summary", status, errors)
     check_summary_page(folder, words, records[::-1], tables, expected)
-    status, text, errors = ended(dme(folder, *words, *records))
+    status, text, errors = called(folder, *words, *records)
     lines = text.splitlines()
     must(status == 3 and lines[0] == f"{PARTS} of {PARTS} records count", "the summary", status, errors)
     must([it for it in lines if it.startswith("unfinished: ")] == [lines[1]] and name_of(UNFINISHED) in lines[1], "the unfinished part", lines[1])
     must(sum(it.endswith(", out 1") for it in lines) == sum(it[-1] == "1" for it in expected) > 0, "what is out of limits")
 
 
+def measure_batch():
+    with room() as folder:
+        batch(folder)
+    return f"{PARTS} parts"
+
+
 def batch(folder):
-    (folder / "part.dmis").write_text(program())
-    (folder / "machine.setup").write_text(TOOLS + SHIFTS)
-    (folder / "other.setup").write_text(TOOLS + "SHIFT 0 0 0\nSHIFT 0 0 0\nSHIFT 0 0 0.030\n")
-    (folder / "part.limits").write_text(LIMITS)
+    write_into(folder, {
+        "part.dmis": program(), "machine.setup": TOOLS + SHIFTS, "other.setup": TOOLS + "SHIFT 0 0 0\nSHIFT 0 0 0\nSHIFT 0 0 0.030\n",
+        "part.limits": LIMITS,
+    })
     (folder / "parts").mkdir()
-    ports = free_port(), free_port()
-    (folder / "cell.machine").write_text(f"# cell 3\nSETUP machine.setup\nHOST 127.0.0.1\nPORT {ports[0]}\nWINDOW 4\nRECORDS parts\nSEALKEY cell.key\n")
     (folder / "cell.key").write_bytes(KEY)
-    servers = [
-        listening(folder, port, "serve", "--setup", setup, "--port", str(port), "--endless") for port, setup in zip(ports, ("machine.setup", "other.setup"))
-    ]
+    setups = ("machine.setup", "other.setup")
+    servers, ports = zip(*(listening(folder, "serve", "--setup", it, "--port", "PORT", "--endless") for it in setups))
+    machine = f"# cell 3\nSETUP machine.setup\nHOST 127.0.0.1\nPORT {ports[0]}\nWINDOW 4\nRECORDS parts\nSEALKEY cell.key\n"
+    (folder / "cell.machine").write_text(machine)
     try:
         for number in range(1, PARTS + 1):
             measured(folder, number, *ports)
     finally:
         for it in servers:
-            it.kill()
-            it.communicate()
-    names = {pathlib.Path(record_of(number)).name for number in range(1, PARTS + 1)}
-    must({it.name for it in (folder / "parts").iterdir()} == names, "the records of the parts")
+            killed(it)
+    names = {record_of(number) for number in range(1, PARTS + 1)}
+    must({f"parts/{it.name}" for it in (folder / "parts").iterdir()} == names, "the records of the parts")
     for number in (1, BROKEN, KILLED, UNFINISHED, OUT):
         check_page(folder, number)
         check_seals(folder, number)
@@ -272,15 +247,7 @@ def batch(folder):
 
 
 def check_batch():
-    """(passed, failed)."""
-    with tempfile.TemporaryDirectory() as folder:
-        try:
-            batch(pathlib.Path(folder))
-            print("ok batch")
-        except (Wrong, subprocess.TimeoutExpired, OSError) as wrong:
-            print(f"FAILED batch: {wrong}")
-            return 0, 1
-    return 1, 0
+    return whole("ok batch", measure_batch)
 
 
 if __name__ == "__main__":

@@ -9,7 +9,8 @@ import pathlib
 import re
 import sys
 
-from generated import ROOT, is_present
+from common import ROOT, kept
+from generated import is_present
 
 PAGE = ROOT / "docs" / "AUDITOR.md"
 TESTS = {"test_calls", "test_sessions", "test_units", "bench_world"}
@@ -80,10 +81,7 @@ def check_clauses():
     ]
     traits = traits_of(["trait Said {\n    fn say(&self) -> u8\n        ensures { result ≡ 1 };\n}\n", "pub trait Silent {\n    fn say(&self) -> u8;\n}\n"])
     faults += [f"planted: {bare(text, traits)[0]}, not {names}" for text, names in planted if bare(text, traits)[0] != names]
-    for fault in faults:
-        print(f"clauses: {fault}")
-    print(f"code without a clause: {'as listed' if not faults else 'not as listed'}", flush=True)
-    return (0, 1) if faults else (1, 0)
+    return kept("clauses", "code without a clause", faults, "as listed")
 
 
 if __name__ == "__main__":

@@ -4,14 +4,12 @@ forms, and the codes that `dme explain` knows. The line of each command in the h
 `run` calls this; by itself: tests/completion.py
 """
 
-import pathlib
 import re
 import subprocess
 import sys
 
-ROOT = pathlib.Path(__file__).resolve().parent.parent
-PROGRAM = ROOT / "crates" / "dme_program" / "out" / "dme_program"
-SECONDS = 20
+from common import ROOT, SECONDS, called, listed
+
 COMPLETE = 'source docs/dme.bash && COMP_WORDS=("$@") && COMP_CWORD=$(($# - 1)) && _dme && printf "%s\\n" "${COMPREPLY[@]}"'
 
 
@@ -22,8 +20,8 @@ def completed(*words):
 
 
 def told(*words):
-    run = subprocess.run([PROGRAM, *words], cwd=ROOT, capture_output=True, text=True, timeout=SECONDS)
-    return run.returncode, run.stdout + run.stderr
+    status, text, error = called(ROOT, *words)
+    return status, text + error
 
 
 def commands():
@@ -56,13 +54,8 @@ def is_whole(name):
 
 
 def check_completion():
-    """How many lists are as the program reports, and how many are not."""
-    names = ["commands", "codes", "forms", "check", "simulate", "audit", "loop", "serve", "run", "explain", "export", "report", "summary", "review", "lower", "ledger", "judge", "watch"]
-    wrong = [it for it in names if not (PROGRAM.exists() and is_whole(it))]
-    for name in wrong:
-        print(f"completion of {name}: not as the program says")
-    print(f"completions: {len(names) - len(wrong)} of {len(names)}", flush=True)
-    return len(names) - len(wrong), len(wrong)
+    names = "commands codes forms check simulate audit loop serve run explain export report summary review lower ledger judge watch".split()
+    return listed("completions", "completion of", names, is_whole)
 
 
 if __name__ == "__main__":

@@ -9,18 +9,14 @@ by itself: tests/documents.py
 
 import contextlib
 import os
-import pathlib
 import re
 import shutil
 import subprocess
 import sys
-import tempfile
 
+from common import PROGRAM, ROOT, SECONDS, counted, room
 from listening import free_port, wait_for_listener
 
-ROOT = pathlib.Path(__file__).resolve().parent.parent
-PROGRAM = ROOT / "crates" / "dme_program" / "out" / "dme_program"
-SECONDS = 20
 INDENT = "    "
 IN_CRATE = re.compile(r"cd crates/dme_program && rt (?:try|run)(?: --data \S+)? -- (.*)")
 CLIENT = "dme run --setup machine.setup --host 127.0.0.1 --port 4000 circle.dmis"
@@ -68,8 +64,8 @@ def blocks_of(document):
             yield calls, printed_below(parts, at)
 
 
-class Room:
-    """A folder with the files of examples/, in which calls are run with `dme` on the path."""
+class Calls:
+    """Calls in a folder with the files of examples/, with `dme` on the path."""
 
     def __init__(self, folder):
         self.folder = folder
@@ -102,29 +98,29 @@ def must_end_well(process):
     return output
 
 
-def run_block(room, calls):
+def run_block(called, calls):
     """What the last call of a block prints."""
     port = free_port()
     words = [it.split()[1] for it in calls]
     if words[0] == "serve":
         count = int(calls[0].split("--connections ")[1].split()[0]) if "--connections " in calls[0] else 1
-        with room.serving(calls[0], port):
+        with called.serving(calls[0], port):
             for call in calls[1:] or [CLIENT] * count:
-                output = must_end_well(room.started(call, port))
+                output = must_end_well(called.started(call, port))
         return output
     for word, call in zip(words, calls):
-        with room.serving(SERVER, port) if word == "run" else contextlib.nullcontext():
-            output = must_end_well(room.started(call, port))
+        with called.serving(SERVER, port) if word == "run" else contextlib.nullcontext():
+            output = must_end_well(called.started(call, port))
     return output
 
 
-def faults_of(room, document):
+def faults_of(called, document):
     """How many blocks of a document have calls, and their faults."""
     faults, count = [], 0
     for calls, printed in blocks_of(document):
         count += 1
         try:
-            output = run_block(room, calls)
+            output = run_block(called, calls)
             if printed is not None and output != printed:
                 faults.append(f"{calls[-1]}: {output!r}, not {printed!r}")
         except (AssertionError, subprocess.TimeoutExpired) as why:
@@ -133,16 +129,14 @@ def faults_of(room, document):
 
 
 def check_documents():
-    """How many blocks of calls are correct, and how many are not."""
-    passed = failed = 0
+    failed = blocks = 0
     for document in [ROOT / "README.md", *sorted((ROOT / "docs").glob("*.md"))]:
-        with tempfile.TemporaryDirectory() as folder:
-            count, faults = faults_of(Room(pathlib.Path(folder)), document) if PROGRAM.exists() else (1, ["no executable"])
+        with room() as folder:
+            count, faults = faults_of(Calls(folder), document) if PROGRAM.exists() else (1, ["no executable"])
         for fault in faults:
             print(f"{document.name}: {fault}")
-        passed, failed = passed + count - len(faults), failed + len(faults)
-    print(f"calls in documents: {passed} of {passed + failed}", flush=True)
-    return passed, failed
+        failed, blocks = failed + len(faults), blocks + count
+    return counted("calls in documents", failed, blocks)
 
 
 if __name__ == "__main__":

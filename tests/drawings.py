@@ -8,14 +8,13 @@ leaves the sheet. The drawings in docs/ are what is printed now.
 `run` calls this; by itself: tests/drawings.py
 """
 
-import pathlib
 import re
-import subprocess
 import sys
 import xml.etree.ElementTree as trees
 from decimal import ROUND_UP, Decimal
 
-from tables import EXAMPLES, PROGRAM, ROOT, along, origins_of, points_of, printed, touches_of
+from common import EXAMPLES, ROOT, counted, holds, must
+from tables import along, origins_of, points_of, printed, touches_of
 
 # The picture in docs/, the schedule of its features file, and the program.
 DRAWINGS = {
@@ -32,15 +31,6 @@ SCALES = sorted(Decimal(m).scaleb(e) for e in range(7) for m in ("1", "2", "2.5"
 SCALES = [1 / it for it in reversed(SCALES)] + [it for it in SCALES if 1 < it <= 10000]
 EDGE, LABEL, AXIS, NUMBER = Decimal(217), Decimal("222.5"), Decimal("274.5"), Decimal(294)
 LONGEST_BAR = Decimal(8)
-
-
-class Wrong(Exception):
-    pass
-
-
-def must(is_so, *told):
-    if not is_so:
-        raise Wrong(" ".join(map(str, told)))
 
 
 def numbers_of(element, *names):
@@ -232,17 +222,8 @@ def must_be_drawn(name, schedule, program):
 
 
 def check_drawings():
-    """How many drawings are correct, and how many are not."""
-    wrong = 0
-    for name, (schedule, program) in DRAWINGS.items():
-        try:
-            must(PROGRAM.exists(), "no executable")
-            must_be_drawn(name, schedule, program)
-        except (Wrong, OSError, StopIteration, KeyError, ValueError, subprocess.SubprocessError, trees.ParseError) as why:
-            wrong += 1
-            print(f"drawing of {name}: not as it has to be: {why}")
-    print(f"drawings: {len(DRAWINGS) - wrong} of {len(DRAWINGS)}", flush=True)
-    return len(DRAWINGS) - wrong, wrong
+    wrong = sum(not holds(f"drawing of {name}", must_be_drawn, name, *of) for name, of in DRAWINGS.items())
+    return counted("drawings", wrong, len(DRAWINGS))
 
 
 if __name__ == "__main__":

@@ -5,10 +5,10 @@ Each crate with edits needs a line, whose checksum is that of the crate's presen
 """
 
 import hashlib
-import pathlib
 import re
 
-ROOT = pathlib.Path(__file__).resolve().parent.parent
+from common import ROOT, counted
+
 RECORD = ROOT / "tools" / "edits.txt"
 PARTS = ("src", "specs", "proofs", "must-fail*")
 HEAD = """\
@@ -77,11 +77,7 @@ def stale():
 
 
 def check_edits():
-    """How many crates have had their edits tried with the present content, and how many have not."""
     changed, untried = stale()
     for name in changed + untried:
         print(f"edits of {name}: not tried with its present content: tools/edits {name}")
-    count = len(recorded().keys() | crates_with_edits())
-    alive = count - len(changed) - len(untried)
-    print(f"edits that are alive: {alive} of {count} crates", flush=True)
-    return alive, count - alive
+    return counted("edits that are alive", len(changed + untried), len(recorded().keys() | crates_with_edits()), " crates")

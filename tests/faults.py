@@ -14,18 +14,14 @@ A short program is run with a record, a features file, a file of contacts and a 
 """
 
 import os
-import pathlib
 import re
 import signal
 import subprocess
 import sys
-import tempfile
 
-from growths import PROGRAM, Wrong, must
-from killed import Record, dme
-from listening import free_port, wait_for_listener
+from common import PROGRAM, SECONDS, begun, each, ended, holds, listening, must, must_have_runs, room, run_words, text_of
+from killed import Record
 
-SECONDS = 30
 STEP = 11
 LABELS = ("A", "B", "C")
 SETUP = "TOOL P1\nFRAME PART 100 50 10\nSHIFT 0.002 0 0\n"
@@ -38,6 +34,7 @@ ERRORS = {
     "sendto": ("EPIPE", "ECONNRESET"), "recvfrom": ("ECONNRESET",), "setsockopt": ("EINVAL",), "shutdown": ("ENOTCONN",),
 }
 KILL = "signal=KILL"
+FILES_OF_RUN = ("--record", "part.record", "--part", "0042/7", "--features", "part.features", "--contacts", "part.contacts", "--log", "part.log")
 FILES = ("part.record", "part.features", "part.contacts", "part.log", "server.contacts", "told", "1.up", "1.down")
 
 
@@ -48,61 +45,42 @@ def program():
     return "\n".join([*lines, "ENDFIL"]) + "\n"
 
 
-class Room:
-    """A folder in which a run, a service and perhaps a relay meet; one of them, by its name, under `strace` with these options."""
+def part():
+    return room({"machine.setup": SETUP, "part.dmis": program()})
+
+
+class Three:
+    """A run, a service and perhaps a relay that meet in a folder; one of them, by its name, under `strace` with these options."""
 
     def __init__(self, folder, disturbed, options, through=False):
         self.folder, self.disturbed, self.options, self.through = folder, disturbed, options, through
-        (folder / "machine.setup").write_text(SETUP)
-        (folder / "part.dmis").write_text(program())
 
-    def begin(self, name, *words):
-        words = [str(PROGRAM), *words]
-        if name == self.disturbed:
-            words = ["strace", "-o", "calls", *self.options, *words]
-        # In a group of its own, since `strace` leaves what it follows alone when it is ended.
-        return subprocess.Popen(words, cwd=self.folder, stdout=subprocess.PIPE, stderr=subprocess.PIPE, text=True, start_new_session=True)
-
-    def listening(self, name, option, *words):
-        port = free_port()
-        process = self.begin(name, *words, option, str(port))
-        wait_for_listener(port, lambda: process.poll() is not None, SECONDS)
-        return process, port
+    def how(self, name):
+        """What comes before the words of one of them, which is in a group of its own, since `strace` leaves what it follows alone when it is ended."""
+        return ("strace", "-o", "calls", *self.options) if name == self.disturbed else ()
 
     def whole(self):
         """What each of them ends with: its status, standard output and standard error."""
-        server, port = self.listening("server", "--port", "serve", "--setup", "machine.setup", "--contacts", "server.contacts")
+        words = ("serve", "--setup", "machine.setup", "--contacts", "server.contacts", "--port", "PORT")
+        server, port = listening(self.folder, *words, before=self.how("server"), start_new_session=True)
         ends = {"server": server}
         if self.through:
-            ends["relay"], port = self.listening("relay", "--listen", "watch", "--host", "127.0.0.1", "--port", str(port), "--told", "told",
-                                                 "--record-bytes", ".", "--connections", "1")
-        ends["run"] = self.begin("run", *run_words(port, 2 if self.disturbed else SECONDS))
-        results = {"run": ended(ends.pop("run"))}
+            words = ("watch", "--host", "127.0.0.1", "--port", str(port), "--told", "told", "--record-bytes", ".", "--connections", "1", "--listen", "PORT")
+            ends["relay"], port = listening(self.folder, *words, before=self.how("relay"), start_new_session=True)
+        words = run_words(port, *FILES_OF_RUN, "--progress", "--timeout", "2" if self.disturbed else str(SECONDS))
+        results = {"run": ended(begun(self.folder, *self.how("run"), str(PROGRAM), *words, start_new_session=True))}
         for name, process in ends.items():
             try:
-                results[name] = (process.returncode, *process.communicate(timeout=0.3 if results["run"][0] else SECONDS))
+                results[name] = ended(process, seconds=0.3 if results["run"][0] else SECONDS)
             except subprocess.TimeoutExpired:
                 os.killpg(process.pid, signal.SIGKILL)
                 process.communicate()
                 results[name] = (0, "", "")
-            else:
-                results[name] = (process.returncode, *results[name][1:])
         return results
 
 
-def run_words(port, seconds):
-    files = ("--record", "part.record", "--part", "0042/7", "--features", "part.features", "--contacts", "part.contacts", "--log", "part.log")
-    return ("run", "--setup", "machine.setup", "--host", "127.0.0.1", "--port", str(port), *files, "--progress", "--timeout", str(seconds), "part.dmis")
-
-
-def ended(process):
-    out, error = process.communicate(timeout=SECONDS)
-    return process.returncode, out, error
-
-
 def read(folder, name):
-    file = folder / name
-    return file.read_text() if file.exists() else ""
+    return text_of(folder / name)
 
 
 def shown(error):
@@ -148,22 +126,21 @@ def must_be_said(result, who):
 def must_come_to_its_end(folder, was):
     """The same run, made again over a service of its own, is Done, with each feature once, from the contacts of both."""
     (folder / "server.contacts").unlink(missing_ok=True)
-    results = Room(folder, "", ()).whole()
+    results = Three(folder, "", ()).whole()
     status, out, error = results["run"]
     must(status == 0 and (out.startswith("STATE Done\n")), "made again, it ends with", status, out, error, "after", was)
     record = Record(read(folder, "part.record"))
     must(tuple(it[0] for it in record.features) == LABELS, "features", [it[0] for it in record.features])
     must(tuple(listed(read(folder, "part.features"))) == LABELS, "features file", read(folder, "part.features"))
     (folder / "all.contacts").write_text(record.contacts_text())
-    words = ["audit", "--setup", "machine.setup", "--features", "part.features", "--contacts", "all.contacts", "part.dmis"]
-    must(ended(dme(folder, *words))[1].startswith("RUNS "), "audit after", was)
+    must_have_runs(folder, len(LABELS), "--features", "part.features", "--contacts", "all.contacts")
 
 
 def disturb(folder, who, call, path, number, fault):
     """One call of one of them is disturbed."""
     named = ("-P", path) if path else ()
-    room = Room(folder, who, (*named, "-e", f"trace={call}", "-e", f"inject={call}:{fault}:when={number}"), who == "relay")
-    results = room.whole()
+    options = (*named, "-e", f"trace={call}", "-e", f"inject={call}:{fault}:when={number}")
+    results = Three(folder, who, options, who == "relay").whole()
     told = must_be_kept(folder, results["run"][2])
     must_be_front(told, acts(read(folder, "server.contacts")), "the server's contacts")
     if who == "relay" and results["relay"][0] == 0 and not results["relay"][2]:
@@ -177,9 +154,8 @@ def disturb(folder, who, call, path, number, fault):
 
 def calls_of(who):
     """The calls of one of them for its files and its connection, in a run that nothing disturbs: each with its file, or none, and its number."""
-    with tempfile.TemporaryDirectory() as folder:
-        folder = pathlib.Path(folder)
-        results = Room(folder, who, ("-y", "-e", "trace=" + ",".join(ERRORS)), who == "relay").whole()
+    with part() as folder:
+        results = Three(folder, who, ("-y", "-e", "trace=" + ",".join(ERRORS)), who == "relay").whole()
         must(all(it[0] == 0 for it in results.values()), "undisturbed", results)
         lines = (folder / "calls").read_text().split("\n")
     counts, found = {}, []
@@ -195,30 +171,20 @@ def calls_of(who):
 
 
 def check_all(step):
-    """How many disturbances leave all as it is to be, of how many."""
+    """How many disturbances there are, and how many of them leave something as it is not to be."""
     count = wrong = 0
     for who in ("run", "server", "relay"):
         faults = [(*it, fault) for it in calls_of(who) for fault in (*(f"error={e}" for e in ERRORS[it[0]]), KILL)]
         for call, path, number, fault in faults[::step]:
             count += 1
-            with tempfile.TemporaryDirectory() as folder:
-                try:
-                    disturb(pathlib.Path(folder), who, call, path, number, fault)
-                except (Wrong, OSError, subprocess.SubprocessError, IndexError, ValueError) as why:
-                    wrong += 1
-                    print(f"faults: {who}: {call} of {path or 'a socket'}, number {number}, {fault}: {str(why)[:600]}")
+            with part() as folder:
+                name = f"faults: {who}: {call} of {path or 'a socket'}, number {number}, {fault}"
+                wrong += not holds(name, disturb, folder, who, call, path, number, fault)
     return count, wrong
 
 
 def check_faults(step=STEP):
-    """How many checks hold, and how many do not."""
-    try:
-        count, wrong = check_all(step)
-    except (Wrong, OSError, subprocess.SubprocessError) as why:
-        print(f"faults: {why}")
-        count, wrong = 0, 1
-    print(f"calls of the system that fail, or are the last: {count - wrong} of {count}", flush=True)
-    return (0, 1) if wrong else (1, 0)
+    return each("calls of the system that fail, or are the last", check_all, step)
 
 
 if __name__ == "__main__":

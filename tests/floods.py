@@ -7,17 +7,15 @@
 `run` calls this; by itself: tests/floods.py [MEGABYTES], which sends that many in each flood (200 by default).
 """
 
+import functools
 import pathlib
-import resource
 import socket
-import subprocess
 import sys
-import tempfile
 import threading
 import time
 
-from growths import PROGRAM, Wrong, must
-from watched import SECONDS, ended, watch
+from common import SECONDS, TOLD, Wrong, called, counted, ended, must, processor_time, room, tried
+from watched import watch
 
 MEGABYTES = 200
 MOST_KEPT = 32 << 20
@@ -55,11 +53,9 @@ class Sink:
     def __init__(self, count):
         self.listener = socket.create_server(("127.0.0.1", 0))
         self.port = self.listener.getsockname()[1]
-        self.count = count
+        self.count, self.bytes = count, 0
         self.may_close = threading.Event()
-        self.bytes = 0
-        self.thread = threading.Thread(target=self.take, daemon=True)
-        self.thread.start()
+        threading.Thread(target=self.take, daemon=True).start()
 
     def take(self):
         with self.listener.accept()[0] as end:
@@ -105,10 +101,10 @@ def flood(folder, name, count):
     must(answer == b"00001 &\r\n00001 %\r\n", name, "the next connection is not relayed", answer)
     status, out, error = ended(relay)
     must((status, out) == (0, ""), name, status, out, error[:200])
-    must((folder / "told").read_text() == "DME-TOLD 1\n" + reported + "2 HOMED\n", name, (folder / "told").read_text()[:200])
+    must((folder / "told").read_text() == TOLD + reported + "2 HOMED\n", name, (folder / "told").read_text()[:200])
     must(kept < MOST_KEPT, name, kept >> 10, "KiB")
     must(kept < first + MOST_GROWN, name, "has grown from", first >> 10, "to", kept >> 10, "KiB")
-    return kept >> 10
+    return f"{kept >> 10} KiB"
 
 
 # ---- long recordings
@@ -127,46 +123,39 @@ def recordings(folder, touches, is_ordered):
         (folder / "long.order").write_text("DME-ORDER 1\n" + "".join(f"> {len(sent)}\n< {len(heard)}\n" for sent, heard in zip(up, down)))
 
 
-def seconds(folder, order):
-    before = resource.getrusage(resource.RUSAGE_CHILDREN).ru_utime
-    done = subprocess.run([str(PROGRAM), order, "--up", "long.up", "--down", "long.down"], cwd=folder, capture_output=True, timeout=SECONDS)
-    must(done.returncode == 0, order, done.stdout[:200], done.stderr[:200])
-    return resource.getrusage(resource.RUSAGE_CHILDREN).ru_utime - before
+def read(folder, order):
+    status, text, error = called(folder, order, "--up", "long.up", "--down", "long.down")
+    must(status == 0, order, text[:200], error[:200])
 
 
 def linear(folder, order, touches, is_ordered):
     """Four times the lines take at most six times as long, and a tenth of a second more."""
     recordings(folder, touches, is_ordered)
-    first = seconds(folder, order)
+    first = processor_time(read, folder, order)
     recordings(folder, 4 * touches, is_ordered)
-    second = seconds(folder, order)
+    second = processor_time(read, folder, order)
     must(second < 6 * first + 0.1, order, first, second)
     return f"{16 * touches} lines in {second:.2f} s"
 
 
 def rows(megabytes):
-    for name in FLOODS:
-        yield name, lambda folder, name=name: f"{flood(folder, name, megabytes << 20)} KiB"
+    """Each row by its name."""
+    found = {name: functools.partial(flood, name=name, count=megabytes << 20) for name in FLOODS}
     for order, is_ordered in (("ledger", False), ("judge", False), ("judge", True)):
         name = f"long_{order}_in_order" if is_ordered else f"long_{order}"
-        yield name, lambda folder, order=order, is_ordered=is_ordered: linear(folder, order, 12_500, is_ordered)
+        found[name] = functools.partial(linear, order=order, touches=12_500, is_ordered=is_ordered)
+    return found
 
 
 def check_floods(megabytes=MEGABYTES, is_told=False):
-    """How many rows are correct, and how many are not."""
-    wrong = count = 0
-    for name, row in rows(megabytes):
-        count += 1
-        with tempfile.TemporaryDirectory() as room:
-            try:
-                told = row(pathlib.Path(room))
-            except (Wrong, OSError, subprocess.SubprocessError) as why:
-                wrong += 1
-                told = f"not as it has to be: {why}"
-        if is_told or "not as" in told:
+    wrong, found = 0, rows(megabytes)
+    for name, row in found.items():
+        with room() as folder:
+            told = tried(f"floods, {name}", row, folder)
+        wrong += told is None
+        if is_told and told is not None:
             print(f"floods, {name}: {told}")
-    print(f"floods and long recordings: {count - wrong} of {count}", flush=True)
-    return count - wrong, wrong
+    return counted("floods and long recordings", wrong, len(found))
 
 
 if __name__ == "__main__":

@@ -7,8 +7,9 @@ tools/times.txt has lines of a crate, its seconds of processor time and the comm
 
 import sys
 
+from common import ROOT, kept
 from edits import edits_of
-from generated import ROOT, is_present
+from generated import is_present
 
 PAGE = ROOT / "docs" / "GATE.md"
 TIMES = ROOT / "tools" / "times.txt"
@@ -36,9 +37,8 @@ def table():
 
 def check_gate():
     """Whether the page is up to date."""
-    is_right = is_present(PAGE, "gate.py", table())
-    print(f"times and counts of the gate: {'as listed' if is_right else 'not as listed: tests/gate.py --write'}", flush=True)
-    return (1, 0) if is_right else (0, 1)
+    faults = [] if is_present(PAGE, "gate.py", table()) else ["tests/gate.py --write"]
+    return kept("gate", "times and counts of the gate", faults, "as listed")
 
 
 if __name__ == "__main__":

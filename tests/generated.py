@@ -1,9 +1,7 @@
 """The parts of pages that scripts write, between two marks: compares each with what its script would write now."""
 
-import pathlib
 import sys
 
-ROOT = pathlib.Path(__file__).resolve().parent.parent
 END = "<!-- End of what it writes. -->\n"
 
 

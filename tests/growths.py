@@ -10,23 +10,17 @@ it; then it may be as if nothing was refused, in one case for each run.
 """
 
 import os
-import pathlib
 import shutil
 import subprocess
 import sys
 import tempfile
 
+from common import CALLS, EXAMPLES, PROGRAM, SECONDS, TESTS, counted, ended, must, parts_of_calls, room, text_of, tried
 from listening import free_port, wait_for_listener
 
-TESTS = pathlib.Path(__file__).resolve().parent
-ROOT = TESTS.parent
-EXAMPLES = ROOT / "examples"
-PROGRAM = ROOT / "crates" / "dme_program" / "out" / "dme_program"
-CALLS = ROOT / "crates" / "test_calls" / "out" / "test_calls"
 WANT = (4, "dme: out of memory\n")
 # The last line of a run, after that.
 STOPPED = "dme: stopped: {} of 1 feature complete. Remove the cause, then make the same call.\n"
-SECONDS = 20
 
 # A call of pumps or of a whole connection, on what follows `replies ONE` or `commands ONE`, and what it answers if there is memory.
 CALL_ROWS = {
@@ -70,21 +64,11 @@ REVIEW_ROWS = {
 }
 
 
-class Wrong(Exception):
-    pass
-
-
-def must(is_so, *told):
-    if not is_so:
-        raise Wrong(" ".join(map(repr, told)))
-
-
 class Refusing:
     """Runs programs with one growth refused."""
 
-    def __init__(self, room):
-        self.room = pathlib.Path(room)
-        self.library = self.room / "refuse.so"
+    def __init__(self, folder):
+        self.library = folder / "refuse.so"
         subprocess.run(["cc", "-O1", "-shared", "-fPIC", "-o", self.library, TESTS / "refuse.c"], check=True)
 
     def started(self, words, number, folder=EXAMPLES, counts=None, text=None):
@@ -96,18 +80,22 @@ class Refusing:
         return subprocess.Popen(words, cwd=folder, env=told, pass_fds=kept, stdin=subprocess.PIPE if text else subprocess.DEVNULL,
                                 stdout=subprocess.PIPE, stderr=subprocess.PIPE, text=True)
 
-    def all_of(self, run):
-        """The results of a run with all memory, and with each of its growths refused in turn. `run` takes the number and a file of counts."""
+    def all_of(self, run, most=None):
+        """The results of a run with all memory, and with each of its growths refused in turn, or each of the first ones. `run` takes the number and
+        a file of counts."""
         with tempfile.TemporaryFile("w+") as counts:
             whole = run(0, counts)
             counts.seek(0)
             growths = int(counts.read().split()[0])
-        return whole, [run(number, None) for number in range(1, growths + 1)]
+        return whole, [run(number, None) for number in range(1, growths + 1)[:most]]
 
+    def all_of_words(self, words):
+        """Likewise of a command in examples/."""
+        return self.all_of(lambda number, counts: ended(self.started([PROGRAM, *words.split()], number, counts=counts)))
 
-def ended(process, text=None):
-    output, errors = process.communicate(text, timeout=SECONDS)
-    return process.returncode, output, errors
+    def all_of_calls(self, text, most=None):
+        """Likewise of `test_calls` on a text."""
+        return self.all_of(lambda number, counts: ended(self.started([CALLS], number, counts=counts, text=text), text), most)
 
 
 def is_front(rows, whole):
@@ -141,7 +129,7 @@ def must_want_memory(whole, runs, and_so, spared=1):
 
 
 def file_row(refusing, words, status=0):
-    whole, runs = refusing.all_of(lambda number, counts: ended(refusing.started([PROGRAM, *words.split()], number, counts=counts)))
+    whole, runs = refusing.all_of_words(words)
     notes = [it for it in whole[2].splitlines() if not it.startswith("dme: SHA-256 of ")]
     must(whole[0] == status and whole[1] and not notes, "with all memory", whole)
     return must_want_memory(whole, runs, lambda run: must(run[1] == "", "something is printed", run))
@@ -149,7 +137,7 @@ def file_row(refusing, words, status=0):
 
 def traced_row(refusing, words):
     """A command that shows its lines on standard error: all of them or none, followed by the report that it was out of memory."""
-    whole, runs = refusing.all_of(lambda number, counts: ended(refusing.started([PROGRAM, *words.split()], number, counts=counts)))
+    whole, runs = refusing.all_of_words(words)
     must(whole[0] == 0 and whole[2].count(" > ") > 5, "with all memory", whole)
     others = [it for it in runs if it != whole]
     must(len(others) >= len(runs) - 1, "done without", len(runs) - len(others), "of", len(runs))
@@ -160,7 +148,7 @@ def traced_row(refusing, words):
 
 def explained_row(refusing, words):
     """A command that refuses a file and shows where: out of memory, or the refusal with its place, or without it."""
-    whole, runs = refusing.all_of(lambda number, counts: ended(refusing.started([PROGRAM, *words.split()], number, counts=counts)))
+    whole, runs = refusing.all_of_words(words)
     refusal = whole[2].splitlines(keepends=True)
     must(whole[:2] == (1, "") and len(refusal) == 3, "with all memory", whole)
     for run in runs:
@@ -170,7 +158,7 @@ def explained_row(refusing, words):
 
 
 def loop_row(refusing, words):
-    whole, runs = refusing.all_of(lambda number, counts: ended(refusing.started([PROGRAM, *words.split()], number, counts=counts)))
+    whole, runs = refusing.all_of_words(words)
     must(whole[0] == 0 and "FEATURE " in whole[1], "with all memory", whole)
     # What a setup lacks is a warning, and one that cannot be written changes nothing: two growths more.
     count = must_want_memory(whole, runs, lambda run: must_be_front_of_report(run[1], whole[1]), 3)
@@ -188,9 +176,7 @@ class Pair:
     FILES = {"serve": "contacts", "run": "features"}
 
     def __init__(self, refusing, looked_at, option="--features"):
-        self.refusing = refusing
-        self.looked_at = looked_at
-        self.option = option
+        self.refusing, self.looked_at, self.option = refusing, looked_at, option
 
     def started(self, end, port, number, counts, folder):
         words = self.ENDS[end].replace("PORT", str(port)).replace("--features", self.option).split()
@@ -198,9 +184,8 @@ class Pair:
         return self.refusing.started([PROGRAM, *words], number if is_own else 0, folder, counts if is_own else None)
 
     def run(self, number, counts):
-        """The end under test, and the text of its file, or none."""
-        with tempfile.TemporaryDirectory() as room:
-            folder = pathlib.Path(room)
+        """The end under test, and the text of its file."""
+        with room() as folder:
             for name in ("machine.setup", "circle.dmis"):
                 shutil.copy(EXAMPLES / name, folder)
             port = free_port()
@@ -215,13 +200,17 @@ class Pair:
             given["serve"] = ended(server)
             file = folder / self.FILES[self.looked_at]
             must(not file.with_suffix(".new").exists(), "a file is left next to it")
-            return given[self.looked_at], file.read_text() if file.exists() else None
+            return given[self.looked_at], text_of(file)
 
 
 def must_be_front_of_file(text, whole, ends):
     """Nothing, or the whole lines up to one of these ends."""
-    rows, all_rows = (text or "").splitlines(), whole.splitlines()
+    rows, all_rows = text.splitlines(), whole.splitlines()
     must(is_front(rows, all_rows) and (len(rows) <= 1 or rows[-1].startswith(ends)), "is not a prefix of its file", text)
+
+
+def must_want_reports(whole, runs):
+    return must_want_memory(whole, [it for it, _ in runs if it != UNLOCKED], lambda run: must_be_front_of_report(run[1], whole[1]))
 
 
 def run_row(refusing):
@@ -230,25 +219,16 @@ def run_row(refusing):
     for end, text in runs:
         must_be_front_of_file(text, file, "END")
         must(end != whole or text == file, "done, and its file is not whole", text)
-    return must_want_memory(whole, [it for it, _ in runs if it != UNLOCKED], lambda run: must_be_front_of_report(run[1], whole[1]))
+    return must_want_reports(whole, runs)
 
 
-def recorded_row(refusing):
-    """A run that has no memory for its record ends so, and its record is a prefix of the whole one."""
-    (whole, file), runs = refusing.all_of(Pair(refusing, "run", "--part 0042/7 --record").run)
-    must(whole[0] == 0 and file.endswith("1 COMPLETED C\n"), "with all memory", whole, file)
+def kept_row(refusing, option, is_whole):
+    """A run that has no memory for its record, or for the contacts that the server reports, ends so; the file is a prefix of the whole one."""
+    (whole, file), runs = refusing.all_of(Pair(refusing, "run", option).run)
+    must(whole[0] == 0 and is_whole(file), "with all memory", whole, file)
     for _, text in runs:
-        must(file.startswith(text or ""), "is not a prefix of its record", text)
-    return must_want_memory(whole, [it for it, _ in runs if it != UNLOCKED], lambda run: must_be_front_of_report(run[1], whole[1]))
-
-
-def reported_row(refusing):
-    """Likewise the file of the contacts that the server reports."""
-    (whole, file), runs = refusing.all_of(Pair(refusing, "run", "--contacts").run)
-    must(whole[0] == 0 and file.count(" CONTACT ") == 3, "with all memory", whole, file)
-    for _, text in runs:
-        must(file.startswith(text or ""), "is not a prefix of its contacts", text)
-    return must_want_memory(whole, [it for it, _ in runs if it != UNLOCKED], lambda run: must_be_front_of_report(run[1], whole[1]))
+        must(file.startswith(text), "is not a prefix of its file", text)
+    return must_want_reports(whole, runs)
 
 
 def serve_row(refusing):
@@ -264,14 +244,8 @@ def serve_row(refusing):
 def call_row(refusing, group, row, answer):
     """`test_calls` makes the call alone; its own growths end it with status 1 or 4. Its ports keep what went out in memory, so a refused growth of
     theirs is a port that fails."""
-    parts = "".join(part for part in parts_of((ROOT / "crates" / "test_calls" / "stdin").read_text())
-                    if part.split("]")[0] in ("[program ONE", "[setup", "[replies ONE", "[commands ONE"))
-    text = f"{parts}[{group}]\n{row}\n"
-
-    def run(number, counts):
-        return ended(refusing.started([CALLS], number, counts=counts, text=text), text)
-
-    whole, runs = refusing.all_of(run)
+    text = f"{parts_of_calls('[program ONE]', '[setup]', '[replies ONE]', '[commands ONE]')}[{group}]\n{row}\n"
+    whole, runs = refusing.all_of_calls(text)
     last = whole[1].splitlines()[-1]
     must(whole[0] == 0 and last.startswith(f"{row} => {answer}"), "with all memory", last)
     lines = last.partition(" on: ")[2] or last.partition(" off: ")[2]
@@ -288,9 +262,7 @@ def call_row(refusing, group, row, answer):
 
 def retried_row(refusing, head, row):
     """The program recovers from each refused growth, or the row says that it was out of memory, or the program itself ends for it."""
-    parts = "".join(part for part in parts_of((ROOT / "crates" / "test_calls" / "stdin").read_text()) if part.startswith(("[program ", "[setup]")))
-    text = f"{parts}[{head}]\n{row}\n"
-    whole, runs = refusing.all_of(lambda number, counts: ended(refusing.started([CALLS], number, counts=counts, text=text), text))
+    whole, runs = refusing.all_of_calls(f"{parts_of_calls('[program ', '[setup]')}[{head}]\n{row}\n")
     shown = whole[1].splitlines()[-1].removeprefix(f"{row} => ")
     must(whole[0] == 0 and shown and "changed" not in shown and "Memory" not in shown, "with all memory", shown)
     wanting = (0, whole[1].replace(f"{row} => {shown}\n", f"{row} => out of memory\n"), "")
@@ -302,52 +274,32 @@ def retried_row(refusing, head, row):
     return of_the_row
 
 
-def parts_of(text):
-    parts = []
-    for line in text.splitlines(keepends=True):
-        if line.startswith("["):
-            parts.append("")
-        parts[-1] += line
-    return parts
-
-
-def growth_rows(refusing):
-    """Each row by its name."""
-    rows = {name: lambda words=words: file_row(refusing, words) for name, words in FILE_ROWS.items()}
-    rows |= {name: lambda words=words: file_row(refusing, words, 1) for name, words in REVIEW_ROWS.items()}
-    rows["traced"] = lambda: traced_row(
-        refusing, "simulate --trace --setup machine.setup --schedule break_inside_a_feature.schedule circle.dmis")
-    rows["explained"] = lambda: explained_row(refusing, "check --explain two_clampings.dmis")
-    rows["loop"] = lambda: loop_row(refusing, "loop --setup machine.setup circle.dmis")
-    rows["loop_of_two_features"] = lambda: loop_row(refusing, "loop --setup machine.setup --window 16 two_frames.dmis")
-    rows["run"] = lambda: run_row(refusing)
-    rows["recorded"] = lambda: recorded_row(refusing)
-    rows["reported"] = lambda: reported_row(refusing)
-    rows["serve"] = lambda: serve_row(refusing)
-    for name, row in CALL_ROWS.items():
-        rows[name] = lambda row=row: call_row(refusing, *row)
-    for name, row in RETRIED_ROWS.items():
-        rows[name] = lambda row=row: retried_row(refusing, *row)
-    return rows
+# What is tried by each name, and on what.
+ROWS = {name: (file_row, words) for name, words in FILE_ROWS.items()} | {name: (file_row, words, 1) for name, words in REVIEW_ROWS.items()} | {
+    "traced": (traced_row, "simulate --trace --setup machine.setup --schedule break_inside_a_feature.schedule circle.dmis"),
+    "explained": (explained_row, "check --explain two_clampings.dmis"),
+    "loop": (loop_row, "loop --setup machine.setup circle.dmis"),
+    "loop_of_two_features": (loop_row, "loop --setup machine.setup --window 16 two_frames.dmis"),
+    "run": (run_row,),
+    "recorded": (kept_row, "--part 0042/7 --record", lambda file: file.endswith("1 COMPLETED C\n")),
+    "reported": (kept_row, "--contacts", lambda file: file.count(" CONTACT ") == 3),
+    "serve": (serve_row,),
+}
+ROWS |= {name: (call_row, *row) for name, row in CALL_ROWS.items()} | {name: (retried_row, *row) for name, row in RETRIED_ROWS.items()}
 
 
 def check_growths(names=()):
-    """How many rows are correct, and how many are not."""
     wrong = 0
-    with tempfile.TemporaryDirectory() as room:
-        rows = growth_rows(Refusing(room))
-        for name in names or rows:
-            try:
-                told = f"{rows[name]()} growths refused"
-            except (Wrong, OSError, subprocess.SubprocessError, IndexError, ValueError) as why:
-                wrong += 1
-                told = f"not as it has to be: {why}"
-            if names or "not as" in told:
-                print(f"growths of {name}: {told}")
-    count = len(names or rows)
-    print(f"rows of refused growths: {count - wrong} of {count}", flush=True)
-    return count - wrong, wrong
+    with room() as folder:
+        refusing = Refusing(folder)
+        for name in names or ROWS:
+            row, *words = ROWS[name]
+            count = tried(f"growths of {name}", row, refusing, *words)
+            wrong += count is None
+            if names and count is not None:
+                print(f"growths of {name}: {count} growths refused")
+    return counted("rows of refused growths", wrong, len(names or ROWS))
 
 
 if __name__ == "__main__":
-    sys.exit(1 if check_growths(sys.argv[1:] or list(growth_rows(None)))[1] else 0)
+    sys.exit(1 if check_growths(sys.argv[1:] or list(ROWS))[1] else 0)

@@ -13,9 +13,8 @@ import subprocess
 import sys
 from decimal import Decimal
 
-from growths import CALLS, ROOT, Wrong, must, parts_of
+from common import CALLS, counted, must, parts_of_calls, tried
 
-ROWS_OF_PROGRAMS = ROOT / "crates" / "test_calls" / "stdin"
 FRAGMENT_LISTS = 10_000
 SECONDS = 600
 
@@ -315,8 +314,7 @@ SERVERS = [
 
 def answers_of(head, rows):
     """The answers to the rows of a part."""
-    parts = "".join(part for part in parts_of(ROWS_OF_PROGRAMS.read_text()) if part.startswith(("[program ", "[setup]")))
-    text = f"{parts}[{head}]\n" + "".join(row + "\n" for row in rows)
+    text = f"{parts_of_calls('[program ', '[setup]')}[{head}]\n" + "".join(row + "\n" for row in rows)
     done = subprocess.run([str(CALLS)], input=text, capture_output=True, text=True, timeout=SECONDS)
     must(done.returncode == 0, head, "ended with status", done.returncode)
     answers = done.stdout.partition(f"[{head}]\n")[2].splitlines()
@@ -445,23 +443,14 @@ def fragment_rows_of_both(count):
 
 
 def check_hostile(lists=FRAGMENT_LISTS, names=False):
-    """How many groups of lists are correct, and how many are not."""
     groups = {"fixed lists": plain_rows, "lists to a client": lambda: fragment_rows_of_a_client(lists),
               "lists to a server": lambda: fragment_rows_of_a_server(lists), "lists to both": lambda: fragment_rows_of_both(lists)}
-    wrong = 0
-    for name, group in groups.items():
-        try:
-            told = f"{group()} as they have to be"
-        except (Wrong, OSError, subprocess.SubprocessError) as why:
-            wrong += 1
-            told = f"not as they have to be: {why}"
-        if names or "not as" in told:
-            print(f"hostile {name}: {told}")
-    print(f"groups of hostile lists: {len(groups) - wrong} of {len(groups)}", flush=True)
-    return len(groups) - wrong, wrong
+    found = {name: tried(f"hostile {name}", group) for name, group in groups.items()}
+    for name, count in found.items():
+        if names and count is not None:
+            print(f"hostile {name}: {count} as they have to be")
+    return counted("groups of hostile lists", list(found.values()).count(None), len(groups))
 
 
 if __name__ == "__main__":
-    PASSED, FAILED = check_hostile(int(sys.argv[1]) if len(sys.argv) > 1 else FRAGMENT_LISTS, True)
-    print(f"{PASSED} passed, {FAILED} failed")
-    sys.exit(1 if FAILED else 0)
+    sys.exit(1 if check_hostile(int(sys.argv[1]) if len(sys.argv) > 1 else FRAGMENT_LISTS, True)[1] else 0)

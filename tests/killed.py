@@ -19,20 +19,17 @@ And the server is killed: its contacts file has each act that it reported, and t
 `run` calls this with a few moments; by itself: tests/killed.py [MOMENTS], which spreads that many over each window.
 """
 
+import collections
 import hashlib
-import pathlib
 import re
 import socket
 import subprocess
 import sys
-import tempfile
 import time
 
-from growths import PROGRAM, Wrong, must
+from common import CONTACTS, PROGRAM, counted, dme, ended, killed, must, must_have_runs, room, run_words, serving, text_of, tried
 from hostile import Fixed
-from listening import free_port, wait_for_listener
 
-SECONDS = 60
 WINDOWS = (1, 4, 16)
 FEATURES, TOUCHES = 40, 3
 MOMENTS = 10
@@ -52,8 +49,9 @@ def program():
     return "\n".join([*lines, "ENDFIL"]) + "\n"
 
 
-def dme(folder, *words):
-    return subprocess.Popen([str(PROGRAM), *words], cwd=folder, stdout=subprocess.PIPE, stderr=subprocess.PIPE, text=True)
+def part():
+    """A new folder with this program and its machine."""
+    return room({"machine.setup": SETUP, "part.dmis": program()})
 
 
 RECORD = ("--record", "part.record", "--part", "0042/7", "--operator", "A. B.")
@@ -63,8 +61,8 @@ TIME = re.compile(r"\d{4}-\d\d-\d\dT\d\d:\d\d:\d\d\.\d{3}Z")
 LEDGER = ("--features", "part.features")
 
 
-def run_words(port, window, kept):
-    return ["run", "--setup", "machine.setup", "--host", "127.0.0.1", "--port", str(port), "--window", str(window), *kept, "part.dmis"]
+def begun_run(folder, port, window, kept):
+    return dme(folder, *run_words(port, "--window", str(window), *kept))
 
 
 class Record:
@@ -102,7 +100,7 @@ class Record:
             self.told.append((number, word, rest))
 
     def contacts_text(self):
-        return "DME-CONTACTS 1\n" + "".join(" ".join(it).rstrip() + "\n" for it in self.told)
+        return CONTACTS + "".join(" ".join(it).rstrip() + "\n" for it in self.told)
 
     def features_text(self):
         text = "DME-FEATURES 2\n"
@@ -115,18 +113,25 @@ class Record:
 
 
 def read(folder):
-    file = folder / "part.record"
-    return Record(file.read_text() if file.exists() else "")
+    return Record(text_of(folder / "part.record"))
+
+
+def by_connection(pairs):
+    """What there is of each connection, in order, by its number."""
+    found = collections.defaultdict(list)
+    for number, it in pairs:
+        found[int(number)].append(it)
+    return found
 
 
 def killed_run(folder, port, window, moment, kept):
-    """A run that is killed after that many seconds, unless it ends earlier."""
-    process = dme(folder, *run_words(port, window, kept))
+    """A run that is killed after that many seconds, unless it ends earlier: how it ended; None if it was killed."""
+    process = begun_run(folder, port, window, kept)
     try:
-        process.communicate(timeout=moment)
+        return ended(process, seconds=moment)
     except subprocess.TimeoutExpired:
-        process.kill()
-        process.communicate()
+        killed(process)
+        return None
 
 
 def ended_server(server, port):
@@ -142,13 +147,8 @@ def ended_server(server, port):
 
 def must_be_prefix(folder):
     """On each connection of the record, what was reported is a prefix of what the server did on one of its connections."""
-    server = {}
-    for line in (folder / "server.contacts").read_text().splitlines()[1:]:
-        number, rest = line.split(" ", 1)
-        server.setdefault(int(number), []).append(rest)
-    mine = {}
-    for number, word, rest in read(folder).told:
-        mine.setdefault(int(number), []).append(f"{word} {rest}".rstrip())
+    server = by_connection(it.split(" ", 1) for it in (folder / "server.contacts").read_text().splitlines()[1:])
+    mine = by_connection((number, f"{word} {rest}".rstrip()) for number, word, rest in read(folder).told)
     for number, told in mine.items():
         must(any(did[:len(told)] == told for did in server.values()), "connection", number, "is no prefix")
 
@@ -157,8 +157,7 @@ def held_in(folder, kept):
     """How many features the file of a run holds whole."""
     if kept == RECORD:
         return len(read(folder).features)
-    file = folder / "part.features"
-    lines = file.read_text().split("\n")[:-1] if file.exists() else []
+    lines = text_of(folder / "part.features").split("\n")[:-1]
     must(lines[:1] in ([], ["DME-FEATURES 2"]), "first line", lines[:1])
     return lines.count("END")
 
@@ -170,7 +169,7 @@ def must_be_recorded(folder):
     must(not record.refused, "an honest machine is said to have refused", record.refused)
     (folder / "record.contacts").write_text(record.contacts_text())
     (folder / "part.features").write_text(record.features_text())
-    must_be_audited(folder, "record.contacts")
+    must_have_runs(folder, FEATURES, "--features", "part.features", "--contacts", "record.contacts")
     must_be_prefix(folder)
 
 
@@ -199,53 +198,35 @@ def must_be_noted(folder, port):
     must(word == "LEFT" and text.endswith(" done"), "end", word, text)
 
 
-def must_be_audited(folder, contacts, count=FEATURES):
-    """The audit of that many features over a file of contacts answers RUNS."""
-    words = ["audit", "--setup", "machine.setup", "--features", "part.features", "--contacts", contacts, "part.dmis"]
-    verdict = dme(folder, *words).communicate(timeout=SECONDS)[0]
-    must(verdict.startswith("RUNS") and len(verdict.split()) == count + 1, "audit over", contacts, verdict)
-
-
 def kill_twice(folder, window, moments, kept):
-    (folder / "machine.setup").write_text(SETUP)
-    (folder / "part.dmis").write_text(program())
-    port = free_port()
-    server = dme(folder, "serve", "--setup", "machine.setup", "--port", str(port), "--connections", str(len(moments) + 1),
-                 "--contacts", "server.contacts")
-    wait_for_listener(port, lambda: server.poll() is not None, SECONDS)
+    server, port = serving(folder, "--connections", str(len(moments) + 1), "--contacts", "server.contacts")
     held = 0
     for moment in moments:
         killed_run(folder, port, window, moment, kept)
         now = held_in(folder, kept)
         must(now >= held, "features are lost", held, now)
         held = now
-    last = dme(folder, *run_words(port, window, kept))
-    output, errors = last.communicate(timeout=SECONDS)
-    must(last.returncode == 0 and output.startswith("STATE Done\n"), "the last run", last.returncode, output[:100], errors)
+    status, output, errors = ended(begun_run(folder, port, window, kept))
+    must(status == 0 and output.startswith("STATE Done\n"), "the last run", status, output[:100], errors)
     ended_server(server, port)
     if kept == RECORD:
         must_be_recorded(folder)
         must_be_noted(folder, port)
-    must_be_audited(folder, "server.contacts")
+    must_have_runs(folder, FEATURES, "--features", "part.features", "--contacts", "server.contacts")
     return held
 
 
 def kill_server(folder, window, moment):
     """A server that is killed after that many seconds, while a client measures: how many acts the client has recorded."""
-    (folder / "machine.setup").write_text(SETUP)
-    (folder / "part.dmis").write_text(program())
-    port = free_port()
-    server = dme(folder, "serve", "--setup", "machine.setup", "--port", str(port), "--contacts", "server.contacts")
-    wait_for_listener(port, lambda: server.poll() is not None, SECONDS)
-    client = dme(folder, *run_words(port, window, RECORD))
+    server, port = serving(folder, "--contacts", "server.contacts")
+    client = begun_run(folder, port, window, RECORD)
     time.sleep(moment)
-    server.kill()
-    server.communicate()
-    client.communicate(timeout=SECONDS)
+    killed(server)
+    ended(client)
     record = read(folder)
     must_be_prefix(folder)
     (folder / "part.features").write_text(record.features_text())
-    must_be_audited(folder, "server.contacts", len(record.features))
+    must_have_runs(folder, len(record.features), "--features", "part.features", "--contacts", "server.contacts")
     return len(record.told)
 
 
@@ -253,41 +234,33 @@ def kill_servers(window, span, moments):
     """Servers that are killed at moments of a run: how many acts their clients have recorded."""
     told = 0
     for at in range(moments):
-        with tempfile.TemporaryDirectory() as folder:
-            told += kill_server(pathlib.Path(folder), window, span * (at + 1) / (moments + 1))
+        with part() as folder:
+            told += kill_server(folder, window, span * (at + 1) / (moments + 1))
     must(told > 0, "no client recorded an act")
     return told
 
 
-def whole_time(window, kept):
-    """How long a run takes that nothing disturbs."""
+def kill_all(chance, window, kept, moments):
+    """How many features were held after kills at moments of the time that an undisturbed run takes, and how many acts clients have recorded whose
+    server was killed."""
+    must(PROGRAM.exists(), "no executable")
     begin = time.monotonic()
-    with tempfile.TemporaryDirectory() as folder:
-        kill_twice(pathlib.Path(folder), window, [], kept)
-    return time.monotonic() - begin
+    with part() as folder:
+        kill_twice(folder, window, [], kept)
+    span, held = time.monotonic() - begin, 0
+    for at in range(moments):
+        with part() as folder:
+            held += kill_twice(folder, window, [span * (at + 1) / (moments + 1), span * chance.below(1000) / 1000], kept)
+    return held, kill_servers(window, span, moments) if kept == RECORD else 0
 
 
 def check_killed(moments=MOMENTS):
-    """How many windows were run whole at each moment, with either file, and how many were not."""
-    chance, wrong, held, told = Fixed(7), 0, 0, 0
-    cases = [(window, kept) for kept in (RECORD, LEDGER) for window in WINDOWS]
-    for window, kept in cases:
-        try:
-            must(PROGRAM.exists(), "no executable")
-            span = whole_time(window, kept)
-            for at in range(moments):
-                with tempfile.TemporaryDirectory() as folder:
-                    first = span * (at + 1) / (moments + 1)
-                    held += kill_twice(pathlib.Path(folder), window, [first, span * chance.below(1000) / 1000], kept)
-            if kept == RECORD:
-                told += kill_servers(window, span, moments)
-        except (Wrong, OSError, subprocess.SubprocessError, IndexError, ValueError) as why:
-            print(f"killed, window {window}, {kept[0]}: {str(why)[:500]}")
-            wrong += 1
-    passed = len(cases) - wrong
-    print(f"killed runs: {passed} of {len(cases)} windows and files, {moments} moments each, {held} features held after kills, "
-          f"{told} acts reported by killed servers", flush=True)
-    return passed, wrong
+    """Each window, with either file."""
+    chance, cases = Fixed(7), [(window, kept) for kept in (RECORD, LEDGER) for window in WINDOWS]
+    found = [tried(f"killed, window {window}, {kept[0]}", kill_all, chance, window, kept, moments) for window, kept in cases]
+    held, told = map(sum, zip((0, 0), *(it for it in found if it)))
+    more = f" windows and files, {moments} moments each, {held} features held after kills, {told} acts reported by killed servers"
+    return counted("killed runs", found.count(None), len(cases), more)
 
 
 if __name__ == "__main__":

@@ -9,7 +9,8 @@ import pathlib
 import re
 import sys
 
-from generated import ROOT, is_present
+from common import ROOT, kept
+from generated import is_present
 
 PAGE = ROOT / "docs" / "ARCHITECTURE.md"
 
@@ -108,10 +109,7 @@ def check_layers():
         faults.append("a planted file is not found")
     if not all(faults_of(it) for it in (upward, on_a_program, without_a_layer)) or table(upward) == table(crates):
         faults.append("a planted mistake is not found")
-    for fault in faults:
-        print(f"layers: {fault}")
-    print(f"layers of crates: {'kept' if not faults else 'not kept'}", flush=True)
-    return (0, 1) if faults else (1, 0)
+    return kept("layers", "layers of crates", faults, "kept")
 
 
 if __name__ == "__main__":

@@ -6,16 +6,11 @@ The expected results are computed here. Rows test other limits: 64 waiting comma
 `run` calls this; by itself: tests/limits.py [NAME ..]
 """
 
-import pathlib
-import resource
-import subprocess
 import sys
-import tempfile
 
-from growths import EXAMPLES, PROGRAM, Wrong, must
+from common import counted, holds, length, must, processor_time, ran
 from hostile import answers_of
 
-SECONDS = 60
 FIRST = ["StartSession()", "ClearAllErrors()", "IsHomed()", "Home()", "OnPtMeasReport(X(), Y(), Z())", "SetCoordSystem(MachineCsy)"]
 SHIFTS = [(2, 0, 0), (0, 0, 4), (-1, 1, 0)]  # of examples/machine.setup, in micrometres
 SETUP = "TOOL P1\nSHIFT 0.002 0 0\nSHIFT 0 0 0.004\nSHIFT -0.001 0.001 0\n"
@@ -34,15 +29,6 @@ def touches(count, named):
     """A program of one feature with that many touches, in five statements more."""
     rows = "".join(f"PTMEAS/CART,{at},0,0,0,0,1\n" for at in range(count))
     return f"DMISMN/'E',05.2\nSNSLCT/S(P1)\nMEAS/POINT,F(A),{named}\n{rows}ENDMES\nENDFIL\n"
-
-
-def ran(words, **files):
-    """Status, output and errors of a `dme` in a folder with these files."""
-    with tempfile.TemporaryDirectory() as room:
-        for name, text in files.items():
-            (pathlib.Path(room) / name).write_text(text)
-        done = subprocess.run([str(PROGRAM), *words.split()], cwd=room, capture_output=True, text=True, timeout=SECONDS)
-    return done.returncode, done.stdout, done.stderr
 
 
 def must_be(found, *wanted):
@@ -80,10 +66,6 @@ def most_touches_of_a_feature():
     must_be(ran("check p", p=touches(9_995, 9_995)), 0, text, "")
     must_be(ran("check p", p=touches(9_996, 9_996)), 1, "", "dme: P16 TooLarge at line 10001\n")
     must_be(ran("check p", p=touches(10_000, 10_000)), 1, "", "dme: P16 TooLarge at line 10001\n")
-
-
-def length(micrometres):
-    return f"{'-' if micrometres < 0 else ''}{abs(micrometres) // 1000}.{abs(micrometres) % 1000:03}"
 
 
 def most_touches_measured():
@@ -128,10 +110,7 @@ def longest_line():
 def seconds_of(count):
     """The processor time that 6,553,600 bytes take in the cuts of a server, as lines of this length without an end."""
     rows = [f"{IN_SESSION} | {(b'A' * count).hex()}"] * (6_553_600 // count)
-    before = resource.getrusage(resource.RUSAGE_CHILDREN)
-    answers_of("server_cuts", rows)
-    after = resource.getrusage(resource.RUSAGE_CHILDREN)
-    return after.ru_utime - before.ru_utime
+    return processor_time(answers_of, "server_cuts", rows)
 
 
 def linear_work():
@@ -151,21 +130,18 @@ def half_refused(count):
     return "DMISMN\n" + rows + "GOHOME\n" * rest + "ENDFIL\n", 2 * blocks + rest
 
 
-def review_seconds(count):
-    """The processor time that reviews of 10,000 statements take, as programs of that many statements."""
+def reviewed(count):
+    """Reviews 10,000 statements, as programs of that many statements."""
     text, refused = half_refused(count)
-    before = resource.getrusage(resource.RUSAGE_CHILDREN)
     for _ in range(10_000 // count):
         status, found, _ = ran("review p", p=text)
         must(status == 1 and found.count(": refused: ") == refused, count, "statements with another number of refusals")
-    after = resource.getrusage(resource.RUSAGE_CHILDREN)
-    return after.ru_utime - before.ru_utime
 
 
 def linear_review():
     """5,000 refusals in 10,000 statements cost no more than in eight programs; likewise judged."""
     must(half_refused(10_000)[1] == 5_000, "not half of them")
-    short, long = map(min, zip(*((review_seconds(1_250), review_seconds(10_000)) for _ in range(5))))
+    short, long = map(min, zip(*((processor_time(reviewed, 1_250), processor_time(reviewed, 10_000)) for _ in range(5))))
     must(long < 3 * short, "a review of 10,000 statements took", long, "and eight of 1,250", short)
 
 
@@ -174,20 +150,10 @@ ROWS = (ten_thousand_statements, one_statement_more, most_points_of_a_block, mos
 
 
 def check_limits(names=()):
-    """How many rows are correct, and how many are not."""
     rows = [it for it in ROWS if not names or it.__name__ in names]
-    wrong = 0
-    for row in rows:
-        try:
-            row()
-        except (Wrong, OSError, subprocess.SubprocessError) as why:
-            wrong += 1
-            print(f"limit {row.__name__}: not as it has to be: {why}")
-    print(f"rows of limits: {len(rows) - wrong} of {len(rows)}", flush=True)
-    return len(rows) - wrong, wrong
+    wrong = sum(not holds(f"limit {row.__name__}", row) for row in rows)
+    return counted("rows of limits", wrong, len(rows))
 
 
 if __name__ == "__main__":
-    PASSED, FAILED = check_limits(sys.argv[1:])
-    print(f"{PASSED} passed, {FAILED} failed")
-    sys.exit(1 if FAILED else 0)
+    sys.exit(1 if check_limits(sys.argv[1:])[1] else 0)

@@ -12,11 +12,9 @@ import collections
 import fractions
 import math
 import random
-import subprocess
 import sys
-import tempfile
 
-from growths import PROGRAM, Wrong, must
+from common import ROOT, called, must, whole
 
 WHOLE, REAL, TEXTS = ("I", "J", "K"), ("X", "Y"), ("S", "T")
 MOST_LETTERS = 5
@@ -665,8 +663,7 @@ def flat_move(program):
 
 
 def lowered(text, answers):
-    it = subprocess.run([str(PROGRAM), "lower", "--even-touches", *answers], input=text, capture_output=True, text=True, check=False)
-    return it.returncode, it.stdout, it.stderr
+    return called(ROOT, "lower", "--even-touches", *answers, text=text)
 
 
 def without_lines(statements):
@@ -688,16 +685,14 @@ def check_one(seed):
     return False
 
 
+def check_all(count):
+    refused = sum(check_one(seed) for seed in range(count))
+    must(0 < refused < count, "how many are refused", refused)
+    return f"{count} programs, {refused} of them refused"
+
+
 def check_lowered(count=300):
-    """(passed, failed)."""
-    try:
-        refused = sum(check_one(seed) for seed in range(count))
-        must(0 < refused < count, "how many are refused", refused)
-    except Wrong as wrong:
-        print(f"FAILED lowered: {wrong}")
-        return 0, 1
-    print(f"ok lowered: {count} programs, {refused} of them refused")
-    return 1, 0
+    return whole("ok lowered", check_all, count)
 
 
 if __name__ == "__main__":

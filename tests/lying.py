@@ -14,19 +14,15 @@ In the end the record has the program's features, each with the points of its la
 `run` calls this with a few sessions; by itself: tests/lying.py [SESSIONS], which begins that many for each window.
 """
 
-import pathlib
 import re
 import socket
-import subprocess
 import sys
-import tempfile
 import threading
 
-from growths import PROGRAM, Wrong, must
+from common import PROGRAM, SECONDS, Wrong, counted, lost_on_close, must, must_have_runs, tried
 from hostile import Fixed
-from killed import FEATURES, RECORD, SETUP, WINDOWS, dme, program, read, run_words
+from killed import FEATURES, RECORD, WINDOWS, by_connection, killed_run, part, read
 
-SECONDS = 60
 SESSIONS = 1
 RUNS = 400
 LIES = ("cut", "cut", "reset", "error", "no point", "two points", "twice", "stranger", "garbage")
@@ -124,49 +120,36 @@ class Liar(threading.Thread):
         if lie == "cut":
             text = text[: self.chance.below(len(text))]
         if lie == "reset":
-            stream.setsockopt(socket.SOL_SOCKET, socket.SO_LINGER, b"\1\0\0\0\0\0\0\0")
+            lost_on_close(stream)
         else:
             stream.sendall(text)
         return False
 
 
-def must_be_answered(record, answered):
-    """On each connection of the record, the contacts are the first of those that were answered on one of the server's connections."""
-    mine = {}
-    for number, word, rest in record.told:
-        if word == "CONTACT":
-            fields = rest.split(" ")
-            mine.setdefault(number, []).append((tuple(fields[:3]), tuple(fields[-3:])))
-    for number, told in mine.items():
-        must(any(given[: len(told)] == told for given in answered), "contacts of connection", number, "were not answered")
+def must_be_answered(told, answered, what):
+    """What the record has of each connection is the first of what was answered on one of the server's connections."""
+    for number, mine in by_connection(told).items():
+        must(any(given[: len(mine)] == mine for given in answered), what, "of connection", number, "were not answered", mine[:3])
 
 
-def must_be_refused(record, refused):
-    """Likewise of its errors."""
-    mine = {}
-    for number, text in record.refused:
-        mine.setdefault(number, []).append(text)
-    for number, told in mine.items():
-        must(any(given[: len(told)] == told for given in refused), "errors of connection", number, "were not answered", told[:3])
+def contacts_of(record):
+    """The target and the point of each contact, with its connection."""
+    fields = [(number, rest.split(" ")) for number, word, rest in record.told if word == "CONTACT"]
+    return [(number, (tuple(it[:3]), tuple(it[-3:]))) for number, it in fields]
 
 
 def run_once(folder, port, window, moment):
     """A run, which is killed after that many seconds if it takes longer. Whether it is Done."""
-    process = dme(folder, *run_words(port, window, RECORD))
-    try:
-        output, errors = process.communicate(timeout=moment)
-    except subprocess.TimeoutExpired:
-        process.kill()
-        process.communicate()
+    run = killed_run(folder, port, window, moment, RECORD)
+    if run is None:
         return False
-    must(process.returncode in (0, 1, 3), "status", process.returncode, errors)
-    return process.returncode == 0 and output.startswith("STATE Done\n")
+    status, output, errors = run
+    must(status in (0, 1, 3), "status", status, errors)
+    return status == 0 and output.startswith("STATE Done\n")
 
 
 def session(chance, folder, window):
     """Runs until one is Done: how many there were, and how many lies."""
-    (folder / "machine.setup").write_text(SETUP)
-    (folder / "part.dmis").write_text(program())
     liar = Liar(chance)
     liar.start()
     held = 0
@@ -177,11 +160,10 @@ def session(chance, folder, window):
             record = read(folder)
             must(len(record.features) >= held, "features are lost", held, len(record.features))
             held = len(record.features)
-            must_be_answered(record, list(liar.answered))
-            must_be_refused(record, list(liar.refused))
-            refused = len(record.refused)
+            must_be_answered(contacts_of(record), list(liar.answered), "contacts")
+            must_be_answered(record.refused, list(liar.refused), "errors")
             if is_done:
-                return count, liar.lies, refused
+                return count, liar.lies, len(record.refused)
     finally:
         liar.close()
     raise Wrong(f"not Done after {RUNS} runs")
@@ -191,30 +173,31 @@ def must_be_sound(folder):
     """The record holds the program's features, and its audit answers RUNS."""
     record = read(folder)
     must([it[0] for it in record.features] == [f"F{it}" for it in range(FEATURES)], "features", len(record.features))
-    words = ["audit", "--setup", "machine.setup", "--record", "part.record", "part.dmis"]
-    verdict = dme(folder, *words).communicate(timeout=SECONDS)[0]
-    must(verdict.startswith("RUNS") and len(verdict.split()) == FEATURES + 1, "audit", verdict)
+    must_have_runs(folder, FEATURES, "--record", "part.record")
+
+
+def sessions_of(chance, window, count):
+    """How many runs, lies and errors there were in that many sessions."""
+    must(PROGRAM.exists(), "no executable")
+    found = []
+    for _ in range(count):
+        with part() as folder:
+            found.append(session(chance, folder, window))
+            must_be_sound(folder)
+    return map(sum, zip(*found))
 
 
 def check_lying(sessions=SESSIONS):
-    """How many windows ended well in each session, and how many did not."""
-    chance, wrong, runs, lies, refused = Fixed(11), 0, 0, 0, 0
-    for window in WINDOWS:
-        try:
-            must(PROGRAM.exists(), "no executable")
-            for _ in range(sessions):
-                with tempfile.TemporaryDirectory() as folder:
-                    ran, lied, kept = session(chance, pathlib.Path(folder), window)
-                    runs, lies, refused = runs + ran, lies + lied, refused + kept
-                    must_be_sound(pathlib.Path(folder))
-        except (Wrong, OSError, subprocess.SubprocessError, IndexError, ValueError) as why:
-            print(f"lying server, window {window}: {str(why)[:500]}")
-            wrong += 1
-    print(f"lying server: {len(WINDOWS) - wrong} of {len(WINDOWS)} windows, {sessions} sessions each, {runs} runs, {lies} lies, {refused} errors kept", flush=True)
+    """Each window, in each session."""
+    chance = Fixed(11)
+    found = [tried(f"lying server, window {it}", sessions_of, chance, it, sessions) for it in WINDOWS]
+    wrong = found.count(None)
+    runs, lies, refused = map(sum, zip((0, 0, 0), *(it for it in found if it)))
     if PROGRAM.exists() and not refused:
         print("lying server: no error was kept")
         wrong = max(wrong, 1)
-    return len(WINDOWS) - wrong, wrong
+    more = f" windows, {sessions} sessions each, {runs} runs, {lies} lies, {refused} errors kept"
+    return counted("lying server", wrong, len(WINDOWS), more)
 
 
 if __name__ == "__main__":

@@ -15,10 +15,10 @@ import os
 import pathlib
 import re
 import sys
-import tempfile
 import tokenize
 
-ROOT = pathlib.Path(__file__).resolve().parent.parent
+from common import ROOT, counted, room
+
 DOCUMENTS = ("README.md", "docs/*.md", "crates/*/README.md")
 # Where PHRASES must not occur: anywhere in a document, in the comments of a source, and in the texts of .rt files and of scripts, except in the
 # tables of phrases themselves.
@@ -316,18 +316,18 @@ def faults_of_releasing():
     release = importlib.util.module_from_spec(importlib.util.spec_from_loader("release", loader))
     loader.exec_module(release)
     commit, kit, faults = "0123456789abcdef0123456789abcdef01234567", "kit 1", []
-    with tempfile.TemporaryDirectory() as room:
+    with room() as folder:
         for name in release.WHERE:
-            copy = pathlib.Path(room) / name
+            copy = folder / name
             copy.parent.mkdir(parents=True)
             copy.write_text((ROOT / name).read_text())
-        release.write_commit(pathlib.Path(room), commit, kit)
+        release.write_commit(folder, commit, kit)
         for name in release.WHERE:
             expected = (ROOT / name).read_text().replace("not a release", commit, 1).replace("not a release", kit, 1)
-            if (pathlib.Path(room) / name).read_text() != expected:
+            if (folder / name).read_text() != expected:
                 faults.append(f"{name} is not as a release has it")
         try:
-            release.write_commit(pathlib.Path(room), commit, kit)
+            release.write_commit(folder, commit, kit)
             faults.append("a commit is written over another")
         except SystemExit:
             pass
@@ -339,7 +339,6 @@ def texts_of(globs):
 
 
 def check_pages():
-    """How many documents pass each check, and how many do not."""
     tried = [(f"planted in {name}: {wrong[:40]!r}", [] if is_refused(check, name, (wrong, right)) else ["it is not refused"]) for check, name, (wrong, right) in PLANTED]
     for globs, checks in ((DOCUMENTS, (faults_of_length, faults_of_links, faults_of_citing, faults_of_order)), (SPOKEN, (faults_of_language,))):
         tried += [(name, check(name, text)) for name, text in texts_of(globs) for check in checks]
@@ -349,9 +348,7 @@ def check_pages():
     for name, faults in tried:
         for fault in faults:
             print(f"{name}: {fault}")
-    failed = sum(1 for _, faults in tried if faults)
-    print(f"checks of documents: {len(tried) - failed} of {len(tried)}; {count} words together", flush=True)
-    return len(tried) - failed, failed
+    return counted("checks of documents", sum(1 for _, faults in tried if faults), len(tried), f"; {count} words together")
 
 
 if __name__ == "__main__":

@@ -9,17 +9,11 @@ import hashlib
 import hmac
 import html.parser
 import json
-import pathlib
-import subprocess
 import sys
-import tempfile
 
 from browser import prints_on_a4, shown
+from common import EXAMPLES, called, length, listed, room
 
-ROOT = pathlib.Path(__file__).resolve().parent.parent
-EXAMPLES = ROOT / "examples"
-PROGRAM = ROOT / "crates" / "dme_program" / "out" / "dme_program"
-SECONDS = 20
 COLUMNS = [f"{name}_{axis}" for name in ("nominal", "measured", "deviation") for axis in "xyz"]
 # What could load something from elsewhere, or run.
 FOREIGN = {"script", "link", "img", "iframe", "object", "embed", "base", "form", "a", "image", "use", "foreignobject"}
@@ -84,11 +78,6 @@ class Page(html.parser.HTMLParser):
         self.text += data
 
 
-def length_text(micrometres):
-    sign = "-" if micrometres < 0 else ""
-    return f"{sign}{abs(micrometres) // 1000}.{abs(micrometres) % 1000:03}"
-
-
 def micrometres(text):
     whole, decimals = text.lstrip("-").split(".")
     return (-1 if text.startswith("-") else 1) * (int(whole) * 1000 + int(decimals))
@@ -101,13 +90,13 @@ def record_of(part, features, measured):
         program.append(f"MEAS/CIRCLE,F({label}),{len(touches)}")
         head.append(f"FEATURE {label} {len(touches)}")
         for target, normal, point in touches:
-            nominal = [length_text(it) for it in target]
+            nominal = [length(it) for it in target]
             direction = [f"{it:.6f}" for it in normal]
             program.append("PTMEAS/CART," + ",".join(nominal + direction))
             touch = " ".join(nominal + ["D"] + direction + ["P1", "M"])
             head.append(f"TOUCH {touch}")
             if number < measured:
-                tail.append(f"1 CONTACT {touch} " + " ".join(map(length_text, point)))
+                tail.append(f"1 CONTACT {touch} " + " ".join(map(length, point)))
         program.append("ENDMES")
         tail += [f"1 COMPLETED {label}"] if number < measured else []
     return "\n".join(program + ["ENDFIL", ""]), "\n".join(head + ["END"] + tail + [""])
@@ -169,10 +158,10 @@ def plain_cases():
         yield name, (*record_of(HOSTILE, hostile, measured), limits, HOSTILE, labels, measured)
 
 
-def printed(folder, words, statuses=(0, 3)):
-    run = subprocess.run([PROGRAM, *words], cwd=folder, capture_output=True, text=True, timeout=SECONDS, check=False)
-    assert run.returncode in statuses, (words, run.returncode, run.stderr)
-    return run.stdout, run.stderr, run.returncode
+def printed(folder, *words):
+    status, text, errors = called(folder, *words)
+    assert status in (0, 3), (words, status, errors)
+    return text, errors, status
 
 
 def expected_row(row, most, has_limits):
@@ -201,7 +190,7 @@ def feature_line(label, limits, worst):
     if label not in ranges and "*" not in ranges:
         return "No limit is for it."
     lower, upper = ranges.get(label) or ranges["*"]
-    numbers = [length_text(round(float(it) * 1000)) for it in (lower, upper)]
+    numbers = [length(round(float(it) * 1000)) for it in (lower, upper)]
     return f"Limits {numbers[0]} to {numbers[1]}. {worst.get(label, '')}"
 
 
@@ -240,19 +229,15 @@ def is_as_expected(page, part, head, sections, record, labels):
 
 def is_page(program, record, limits, part, labels, measured, is_keyed, seals):
     """Whether the page of a record is what its export, its audit and its texts say."""
-    with tempfile.TemporaryDirectory() as name:
-        folder = pathlib.Path(name)
-        given = {"a&b<c>.dmis": program, "part.record": record, "part.limits": limits}
-        for file, text in given.items():
-            if text is not None:
-                (folder / file).write_text(text)
+    given = {"a&b<c>.dmis": program, "part.record": record, "part.limits": limits}
+    with room({file: text for file, text in given.items() if text is not None}) as folder:
         (folder / "seal.key").write_bytes(KEY)
         of = ["--record", "part.record", "a&b<c>.dmis"]
         named = [] if limits is None else ["--limits", "part.limits"]
         keyed = ["--seal-key", "seal.key"] if is_keyed else []
-        text, notes, status = printed(folder, ["report", *named, *keyed, *of])
-        exported, lines, export_status = printed(folder, ["export", "--as", "json", *named, *of])
-        audited, _, audit_status = printed(folder, ["audit", *of])
+        text, notes, status = printed(folder, "report", *named, *keyed, *of)
+        exported, lines, export_status = printed(folder, "export", "--as", "json", *named, *of)
+        audited, _, audit_status = printed(folder, "audit", *of)
         pages, is_printed = [Page(text), Page(shown(folder, text))], prints_on_a4(folder, text)
     rows = json.loads(exported, parse_float=str)
     is_complete = measured == len(labels)
@@ -285,13 +270,8 @@ def is_page(program, record, limits, part, labels, measured, is_keyed, seals):
 
 
 def check_pages_of_parts():
-    """How many pages are correct, and how many are not."""
-    found = {name: PROGRAM.exists() and is_page(*it) for name, it in cases()}
-    wrong = [name for name, is_right in found.items() if not is_right]
-    for name in wrong:
-        print(f"page of {name}: not as expected")
-    print(f"pages of parts: {len(found) - len(wrong)} of {len(found)}", flush=True)
-    return len(found) - len(wrong), len(wrong)
+    made = dict(cases())
+    return listed("pages of parts", "page of", made, lambda name: is_page(*made[name]))
 
 
 if __name__ == "__main__":

@@ -9,18 +9,13 @@ more sent.
 `run` calls this; by itself: tests/pauses.py
 """
 
-import pathlib
 import subprocess
 import sys
-import tempfile
 import time
 
-from growths import PROGRAM, Wrong, must
+from common import counted, dme, ended, holds, killed, must, room, run_words, serving, text_of
 from killed import SETUP
-from listening import free_port
-from watched import ended, listening
 
-SECONDS = 60
 STILL = 0.5
 ASKED = "dme: an empty line continues the run, anything else ends it\n"
 TEXT = """\
@@ -56,22 +51,18 @@ COMMANDS = 16
 
 def sent(folder):
     """The lines that the server has received, and how many of the server's lines end a command."""
-    lines = (folder / "server.log").read_text().splitlines() if (folder / "server.log").exists() else []
+    lines = text_of(folder / "server.log").splitlines()
     received = [line.split("> ", 1)[1] for line in lines if "> " in line]
     return received, sum(line.endswith(" %") for line in lines)
 
 
 def served(folder):
     (folder / "server.log").unlink(missing_ok=True)
-    port = free_port()
-    return listening(folder, port, "serve", "--setup", "machine.setup", "--port", str(port), "--log", "server.log"), port
+    return serving(folder, "--log", "server.log")
 
 
 def run(folder, port, *more):
-    words = ("run", "--setup", "machine.setup", "--host", "127.0.0.1", "--port", str(port), *more, "part.dmis")
-    return subprocess.Popen(
-        [str(PROGRAM), *words], cwd=folder, stdin=subprocess.PIPE, stdout=subprocess.PIPE, stderr=subprocess.PIPE, text=True
-    )
+    return dme(folder, *run_words(port, *more), stdin=subprocess.PIPE)
 
 
 def settled(folder, expected):
@@ -142,8 +133,7 @@ def left(folder):
         asked(process)
         answer(process)
     asked(process)
-    server.kill()
-    ended(server)
+    killed(server)
     answer(process)
     status, _, error = ended(process)
     must(status == 1 and error.startswith("dme: connection failed\nthe server has left the connection\n"), "the end", status, error)
@@ -151,21 +141,11 @@ def left(folder):
 
 
 def check_pauses():
-    """(passed, failed): each window, and each end of a pause."""
-    failed = 0
-    with tempfile.TemporaryDirectory() as name:
-        folder = pathlib.Path(name)
-        (folder / "machine.setup").write_text(SETUP)
-        (folder / "part.dmis").write_text(TEXT)
-        trials = (("window 1", paused, "1"), ("window 16", paused, "16"), ("stop file", stopped), ("server", left))
-        for what, trial, *words in trials:
-            try:
-                trial(folder, *words)
-                print(f"ok pauses: {what}")
-            except (Wrong, subprocess.TimeoutExpired, OSError) as wrong:
-                failed += 1
-                print(f"FAILED pauses: {what}: {wrong}")
-    return len(trials) - failed, failed
+    """Each window, and each end of a pause."""
+    trials = (("window 1", paused, "1"), ("window 16", paused, "16"), ("stop file", stopped), ("server", left))
+    with room({"machine.setup": SETUP, "part.dmis": TEXT}) as folder:
+        failed = sum(not holds(f"pauses, {what}", trial, folder, *words) for what, trial, *words in trials)
+    return counted("pauses", failed, len(trials))
 
 
 if __name__ == "__main__":

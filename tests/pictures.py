@@ -5,17 +5,11 @@ and its record is drawn by `dme export --as svg`. A person looks at them; no tes
 """
 
 import math
-import pathlib
 import random
-import subprocess
-import tempfile
 
 from browser import run_browser
-from listening import free_port
+from common import EXAMPLES, ROOT, called, killed, must, room, run_words, serving
 
-ROOT = pathlib.Path(__file__).resolve().parent.parent
-EXAMPLES = ROOT / "examples"
-PROGRAM = ROOT / "crates" / "dme_program" / "out" / "dme_program"
 PICTURES = ROOT / "docs" / "pictures"
 
 
@@ -54,24 +48,20 @@ def setup():
 
 def drawn(folder, program):
     """The drawing of a program that was measured."""
-    def dme(*words):
-        return subprocess.run([PROGRAM, *words, "--setup", "machine.setup", "part.dmis"], cwd=folder, capture_output=True, text=True, timeout=60, check=True)
-
-    for name, text in (("part.dmis", program), ("machine.setup", setup())):
-        (folder / name).write_text(text)
-    port = str(free_port())
-    with subprocess.Popen([PROGRAM, "serve", "--setup", "machine.setup", "--port", port], cwd=folder, stdout=subprocess.DEVNULL, stderr=subprocess.DEVNULL) as server:
-        dme("run", "--host", "127.0.0.1", "--port", port, "--wait", "10", "--record", "part.record", "--part", "0042/7")
-        server.terminate()
-    return dme("export", "--as", "svg", "--record", "part.record").stdout
+    (folder / "part.dmis").write_text(program)
+    (folder / "machine.setup").write_text(setup())
+    server, port = serving(folder)
+    status, _, error = called(folder, *run_words(port, "--record", "part.record", "--part", "0042/7"))
+    killed(server)
+    must(status == 0, "run", error)
+    return called(folder, "export", "--as", "svg", "--record", "part.record", "--setup", "machine.setup", "part.dmis")[1]
 
 
 def make():
     PICTURES.mkdir(exist_ok=True)
     programs = {name: (EXAMPLES / f"{name}.dmis").read_text() for name in ("circle", "two_frames", "bracket")}
     for name, program in (programs | {"plate": plate(), "sheet": sheet()}).items():
-        with tempfile.TemporaryDirectory() as made:
-            folder = pathlib.Path(made)
+        with room() as folder:
             (folder / "part.svg").write_text(drawn(folder, program))
             run_browser(folder, "--window-size=1123,794", "--hide-scrollbars", f"--screenshot={PICTURES / name}.png", f"file://{folder / 'part.svg'}")
 

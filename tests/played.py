@@ -15,15 +15,14 @@ to the device nothing is left, or some bytes, or all; of a relay all, since it f
 `run` calls this; by itself: tests/played.py [STEP], which makes each STEP-th play.
 """
 
-import pathlib
 import subprocess
 import sys
 
+from common import ROOT, each, holds, must
 from faults import LABELS, acts, listed, shown
-from growths import Wrong, must
-from killed import Record
+from killed import Record, by_connection
 
-CRATE = pathlib.Path(__file__).resolve().parent.parent / "crates" / "test_sessions"
+CRATE = ROOT / "crates" / "test_sessions"
 PLAYER = CRATE / "out" / "test_sessions"
 ENDS = {"direct": ("run", "serve"), "through": ("run", "serve", "watch")}
 ALL = 1_000_000
@@ -98,9 +97,7 @@ def must_be_kept(call, witnesses):
         must(set(shown(said)) <= set(done), "shown, and not in the record", shown(said), done)
     if "cannot write part.features" not in said:
         must(set(shown(said)) <= set(listed(call.files.get("part.features", ""))), "shown, and not in the features file", shown(said))
-    told = {}
-    for number, word, rest in record.told:
-        told.setdefault(int(number), []).append(f"{word} {rest}".rstrip())
+    told = by_connection((number, f"{word} {rest}".rstrip()) for number, word, rest in record.told)
     must(list(told) == list(range(1, len(told) + 1)), "connections", list(told))
     for name, texts in witnesses.items():
         for number, mine in told.items():
@@ -164,30 +161,19 @@ def rows_of(way, before):
 
 
 def check_all(step):
-    """How many plays leave what they are to leave, of how many."""
+    """How many plays there are, and how many of them leave something else than they are to leave."""
     count = wrong = 0
     for way in ENDS:
         for before in ((), ("run 70 kill 3",)):
             whole, rows = rows_of(way, before)
             for row, calls in zip(rows[::step], played(rows[::step])):
                 count += 1
-                try:
-                    judge(calls, whole, way == "through")
-                except (Wrong, IndexError, ValueError, KeyError) as why:
-                    wrong += 1
-                    print(f"played: {row}: {str(why)[:600]}")
+                wrong += not holds(f"played: {row}", judge, calls, whole, way == "through")
     return count, wrong
 
 
 def check_played(step=1):
-    """How many checks hold, and how many do not."""
-    try:
-        count, wrong = check_all(step)
-    except (Wrong, OSError, subprocess.SubprocessError) as why:
-        print(f"played: {why}")
-        count, wrong = 0, 1
-    print(f"effects in memory that fail, or are the last: {count - wrong} of {count}", flush=True)
-    return (0, 1) if wrong else (1, 0)
+    return each("effects in memory that fail, or are the last", check_all, step)
 
 
 if __name__ == "__main__":

@@ -6,14 +6,13 @@ not.
 """
 
 import contextlib
-import pathlib
 import re
 import subprocess
-import tempfile
 
-from rows import EXAMPLES, Row, program_rows
+from common import EXAMPLES, ROOT, room
+from rows import Row, program_rows
 
-PROGRAM = pathlib.Path(__file__).resolve().parent.parent / "crates" / "dme_program"
+CRATE = ROOT / "crates" / "dme_program"
 SLOW = ("lower_refuses_an_endless_loop",)
 SETUP = EXAMPLES / "bolt_circle.setup"
 ENDED = re.compile(r"case=(\S+) run=ended status=(\d+) .*output=expected")
@@ -40,15 +39,14 @@ def begun(rows, folder):
         (folder / f"{row.name}.args").write_text("".join(f"{it}\n" for it in row.words))
         (folder / f"{row.name}.stdout").write_bytes(row.texts.get("stdout", b""))
     words = ["rt", "try", "--steps", "1", "--data", f"{SETUP.name}={SETUP}", "--cases", str(folder)]
-    return subprocess.Popen(words, cwd=PROGRAM, stdout=subprocess.DEVNULL, stderr=subprocess.PIPE, text=True, errors="replace")
+    return subprocess.Popen(words, cwd=CRATE, stdout=subprocess.DEVNULL, stderr=subprocess.PIPE, text=True, errors="replace")
 
 
 def check_quick():
-    """How many rows are as expected, and how many are not."""
     rows = [loop_row()] + [it for it in program_rows().values() if is_quick(it)]
     expected = {(it.name, it.lines.get("status", "0")) for it in rows}
     with contextlib.ExitStack() as rooms:
-        folders = [pathlib.Path(rooms.enter_context(tempfile.TemporaryDirectory())) for _ in range(3)]
+        folders = [rooms.enter_context(room()) for _ in range(3)]
         tries = [begun(rows[at::3], it) for at, it in enumerate(folders)]
         said = [it.communicate()[1] for it in tries]
     found = {it for text in said for it in ENDED.findall(text)}

@@ -20,37 +20,35 @@ import pathlib
 import re
 import shutil
 import socket
-import subprocess
 import sys
-import tempfile
 import time
 
-from growths import PROGRAM, ROOT, Wrong, must
-from listening import free_port, wait_for_listener
+from common import EXAMPLES, PROGRAM, begun, called, counted, dme, ended, holds, killed, must, room, run_words, serving
+from listening import free_port
 
-EXAMPLES = ROOT / "examples"
 RECORD = (EXAMPLES / "break_inside_a_feature.record").read_bytes()
 # That of a part, which a run continues.
 PART = "0042/7"
 OF_PART = RECORD.replace(b"DME-RECORD 1\n", f"DME-RECORD 1\nPART {PART}\n".encode(), 1)
-CIRCLE = (EXAMPLES / "circle.dmis").read_bytes()
-SETUP = (EXAMPLES / "machine.setup").read_bytes()
+FEATURES = (EXAMPLES / "break_inside_a_feature.features").read_bytes()
+GIVEN = {name: (EXAMPLES / name).read_text() for name in ("circle.dmis", "machine.setup")}
 SECONDS = 20
 OTHERS = ("", "2", "X", "M", "1.000", "-1.000000", "4000000001", "END")
 MISSING = "dme: 0 of 1 feature: C is missing\n"
 STOPPED = "dme: stopped: 0 of 1 feature complete. Remove the cause, then make the same call.\n"
 
 
-def dme(folder, *words):
-    return subprocess.run([str(PROGRAM), *words], cwd=folder, capture_output=True, text=True, timeout=SECONDS)
-
-
 def printed(folder, text, form):
-    """What `export` prints of a record, and its status."""
+    """How `export` of a record ends."""
     (folder / "part.record").write_bytes(text)
-    run = dme(folder, "export", "--as", form, "--setup", "machine.setup", "--record", "part.record", "circle.dmis")
+    run = called(folder, "export", "--as", form, "--setup", "machine.setup", "--record", "part.record", "circle.dmis")
     must((folder / "part.record").read_bytes() == text, "record was changed", text)
     return run
+
+
+def must_be_refused(run, name, why):
+    """A run that ends before it makes a connection."""
+    must(run == (1, "", f"dme: cannot write {name}{why}\n"), name, why, run)
 
 
 def points_of(text):
@@ -83,10 +81,10 @@ def features_text(features):
 def check_torn(folder):
     for cut in range(len(RECORD) + 1):
         text = RECORD[:cut]
-        run = printed(folder, text, "features")
+        status, features, error = printed(folder, text, "features")
         held = points_of(text.decode())
-        must((run.returncode, run.stderr) == ((0, "") if held else (3, MISSING)), f"cut at byte {cut}", run.stderr)
-        must(features_text(run.stdout) == held, f"cut at byte {cut}", run.stdout)
+        must((status, error) == ((0, "") if held else (3, MISSING)), f"cut at byte {cut}", error)
+        must(features_text(features) == held, f"cut at byte {cut}", features)
 
 
 def edited():
@@ -106,29 +104,31 @@ def must_be_good_above(folder, text, said):
     found = re.match(r"dme: J1 Damaged at line (\d+)", said)
     if found:
         above = "".join(text.splitlines(keepends=True)[: int(found[1]) - 1])
-        left = printed(folder, above.encode(), "features")
-        must("J1" not in left.stderr, "damaged above the line that is refused", said, left.stderr)
+        left = printed(folder, above.encode(), "features")[2]
+        must("J1" not in left, "damaged above the line that is refused", said, left)
 
 
 def check_edited(folder):
     whole = 0
     for number, text in edited():
-        run = printed(folder, text.encode(), "features")
-        if run.returncode != 0:
-            said = run.stderr.split("\n")[0]
+        status, features, error = printed(folder, text.encode(), "features")
+        if status != 0:
+            said = error.split("\n")[0]
             known = said.startswith("dme: J1 Damaged at line ") or said.startswith("dme: J3 OtherProgram (feature ")
-            must(known and run.stdout == "", f"line {number} edited", said)
+            must(known and features == "", f"line {number} edited", said)
             must_be_good_above(folder, text, said)
             continue
         whole += 1
-        must(features_text(run.stdout) == points_of(text), f"line {number} edited", run.stdout)
-        audit = dme(folder, "audit", "--setup", "machine.setup", "--record", "part.record", "circle.dmis")
-        must(audit.stdout.startswith("RUNS") and audit.returncode == 0, f"line {number} edited", audit.stdout)
+        must(features_text(features) == points_of(text), f"line {number} edited", features)
+        status, verdict, _ = called(folder, "audit", "--setup", "machine.setup", "--record", "part.record", "circle.dmis")
+        must(verdict.startswith("RUNS") and status == 0, f"line {number} edited", verdict)
     must(whole > 0, "no edited record is a whole one")
 
 
-def run_words(port, record="part.record"):
-    return ["run", "--setup", "machine.setup", "--host", "127.0.0.1", "--port", str(port), "--record", record, "--part", PART, "circle.dmis"]
+def words_of(port, option="--record", name="part.record", *more):
+    """A run with a file of this option."""
+    part = ["--part", PART] if option == "--record" else []
+    return run_words(port, option, name, *part, *more, program="circle.dmis")
 
 
 def check_no_files(folder):
@@ -136,8 +136,7 @@ def check_no_files(folder):
     os.mkfifo(folder / "pipe")
     (folder / "nothing").mkdir()
     for name, why in (("pipe", ""), ("nothing", ": is a folder"), ("/dev/null", ""), ("missing/part.record", "")):
-        run = dme(folder, *run_words(port, name))
-        must((run.returncode, run.stdout, run.stderr) == (1, "", f"dme: cannot write {name}{why}\n"), name, run.stderr)
+        must_be_refused(called(folder, *words_of(port, "--record", name)), name, why)
 
 
 def check_read_only(folder):
@@ -147,70 +146,44 @@ def check_read_only(folder):
     folder.chmod(0o755)
     program = shutil.copy(PROGRAM, folder / "dme")
     other = {"user": 65534} if os.geteuid() == 0 else {}
-    words = [program, *run_words(free_port())]
-    run = subprocess.run(words, cwd=folder, capture_output=True, text=True, timeout=SECONDS, **other)
-    must((run.returncode, run.stdout, run.stderr) == (1, "", "dme: cannot write part.record: no permission\n"), "read-only record", run.stderr)
+    must_be_refused(ended(begun(folder, program, *words_of(free_port()), **other)), "part.record", ": no permission")
     must((folder / "part.record").read_bytes() == OF_PART, "read-only record was changed")
-
-
-def file_words(port, option, name):
-    part = ["--part", PART] if option == "--record" else []
-    return ["run", "--setup", "machine.setup", "--host", "127.0.0.1", "--port", str(port), option, name, *part, "circle.dmis"]
 
 
 def check_held(folder):
     """A run whose server says nothing, or that waits for one, holds its files: another one is refused before it makes a connection."""
-    features = (EXAMPLES / "break_inside_a_feature.features").read_bytes()
-    for option, name, text in (("--record", "part.record", OF_PART[:400]), ("--features", "part.features", features), ("--contacts", "new", None)):
+    for option, name, text in (("--record", "part.record", OF_PART[:400]), ("--features", "part.features", FEATURES), ("--contacts", "new", None)):
         if text is not None:
             (folder / name).write_bytes(text)
         with socket.create_server(("127.0.0.1", 0)) as silent:
-            words = file_words(silent.getsockname()[1], option, name)
-            first = subprocess.Popen([str(PROGRAM), *words], cwd=folder, stdout=subprocess.PIPE, stderr=subprocess.PIPE)
+            first = dme(folder, *words_of(silent.getsockname()[1], option, name))
             try:
                 silent.settimeout(SECONDS)
                 connection, _ = silent.accept()
                 connection.recv(1)
                 held = (folder / name).read_bytes()
-                run = dme(folder, *file_words(free_port(), option, name))
-                must((run.returncode, run.stderr) == (1, f"dme: cannot write {name}: locked by another run\n"), f"held {name}", run.stderr)
+                must_be_refused(called(folder, *words_of(free_port(), option, name)), name, ": locked by another run")
                 must((folder / name).read_bytes() == held, f"held {name} was changed")
                 connection.close()
             finally:
-                first.kill()
-                first.communicate()
+                killed(first)
 
 
 def check_waiting(folder):
     """A run that waits for its server holds its features file, which stays as it was; one that was made is removed."""
-    text = (EXAMPLES / "break_inside_a_feature.features").read_bytes()
-    for before in (text, None):
+    for before in (FEATURES, None):
         (folder / "part.features").unlink(missing_ok=True)
         if before is not None:
             (folder / "part.features").write_bytes(before)
-        words = [*file_words(free_port(), "--features", "part.features"), "--wait", "1"]
-        first = subprocess.Popen([str(PROGRAM), *words], cwd=folder, stdout=subprocess.PIPE, stderr=subprocess.PIPE, text=True)
+        first = dme(folder, *words_of(free_port(), "--features", "part.features", "--wait", "1"))
         end = time.monotonic() + SECONDS
         while not (folder / "part.features").exists() and time.monotonic() < end:
             time.sleep(0.01)
         time.sleep(0.3)
-        run = dme(folder, *file_words(free_port(), "--features", "part.features"))
-        must((run.returncode, run.stderr) == (1, "dme: cannot write part.features: locked by another run\n"), "features of a run that waits", run.stderr)
-        first.communicate(timeout=SECONDS)
+        must_be_refused(called(folder, *words_of(free_port(), "--features", "part.features")), "part.features", ": locked by another run")
+        ended(first)
         left = (folder / "part.features").read_bytes() if (folder / "part.features").exists() else None
         must(left == before, "features of a run that waited in vain", left)
-
-
-def served(folder, port):
-    server = subprocess.Popen([str(PROGRAM), "serve", "--setup", "machine.setup", "--port", str(port)], cwd=folder, stdout=subprocess.PIPE)
-    wait_for_listener(port, lambda: server.poll() is not None, SECONDS)
-    return server
-
-
-def refused(folder, name, option, shown):
-    """A run that is refused before it makes a connection."""
-    run = dme(folder, *file_words(free_port(), option, name))
-    must((run.returncode, run.stdout, run.stderr) == (1, "", f"dme: cannot write {shown}\n"), option, shown, run.stderr)
 
 
 def check_link(folder):
@@ -219,7 +192,7 @@ def check_link(folder):
     for option in ("--record", "--features"):
         for target in ("other", "nowhere"):
             (folder / "link").symlink_to(target)
-            refused(folder, "link", option, "link: is a link")
+            must_be_refused(called(folder, *words_of(free_port(), option, "link")), "link", ": is a link")
             must((folder / "link").is_symlink() and not (folder / "nowhere").exists(), option, target)
             (folder / "link").unlink()
     must((folder / "other").read_bytes() == OF_PART[:400], "the file of a link was changed")
@@ -231,9 +204,9 @@ def check_names(folder):
     (folder / "link").symlink_to("part.record")
     os.link(folder / "part.record", folder / "other")
     for name in ("link", "other", "../" + folder.name + "/part.record"):
-        run = dme(folder, *run_words(free_port())[:-1], "--log", name, "circle.dmis")
+        run = called(folder, *words_of(free_port(), "--record", "part.record", "--log", name))
         shown = f"error: '--record' and '--log' name one file, '{name}'\n\nFor more information, try '--help'.\n"
-        must((run.returncode, run.stdout, run.stderr) == (2, "", shown), name, run.stderr)
+        must(run == (2, "", shown), name, run)
         must((folder / "part.record").read_bytes() == OF_PART, name, "the record was changed")
 
 
@@ -244,21 +217,17 @@ def check_next(folder):
         (folder / "part").write_text("")
         (folder / "part").chmod(0o660)
         (folder / "part.new").symlink_to("other")
-        port = free_port()
-        server = served(folder, port)
-        run = dme(folder, *file_words(port, option, "part"))
-        must((run.returncode, run.stdout, run.stderr) == (1, "", f"dme: cannot write part: its .new is no plain file\n{STOPPED}"), option, "a link", run.stderr)
+        server, port = serving(folder)
+        must_be_refused(called(folder, *words_of(port, option, "part")), "part", f": its .new is no plain file\n{STOPPED.rstrip()}")
         must((folder / "other").read_text() == "other" and (folder / "part").read_text() == "", option, "a link is written")
-        server.kill()
-        server.communicate()
+        killed(server)
         (folder / "part.new").unlink()
         (folder / "part.new").write_text("what an earlier run has left there, and is longer than what comes in its place" * 9)
         (folder / "part.new").chmod(0o600)
-        port = free_port()
-        server = served(folder, port)
-        run = dme(folder, *file_words(port, option, "part"))
-        server.communicate(timeout=SECONDS)
-        must(run.returncode == 0 and not (folder / "part.new").exists(), option, run.stderr)
+        server, port = serving(folder)
+        run = called(folder, *words_of(port, option, "part"))
+        ended(server)
+        must(run[0] == 0 and not (folder / "part.new").exists(), option, run)
         must((folder / "part").read_text().startswith("DME-"), option, "is not written")
         must((folder / "part").stat().st_mode & 0o777 == 0o660, option, "has another mode")
 
@@ -266,8 +235,7 @@ def check_next(folder):
 def check_removed(folder):
     """A server that waits before its last answer, while the record is removed."""
     with socket.create_server(("127.0.0.1", 0)) as listener:
-        words = run_words(listener.getsockname()[1])
-        run = subprocess.Popen([str(PROGRAM), *words], cwd=folder, stdout=subprocess.PIPE, stderr=subprocess.PIPE, text=True)
+        run = dme(folder, *words_of(listener.getsockname()[1]))
         listener.settimeout(SECONDS)
         connection, _ = listener.accept()
         with connection, connection.makefile("rb") as lines:
@@ -277,25 +245,23 @@ def check_removed(folder):
                     (folder / "part.record").unlink()
                 data = {"IsHomed": f"{tag} # IsHomed(1)\r\n", "PtMeas": f"{tag} # X(1.000), Y(0.000), Z(0.000)\r\n"}
                 connection.sendall(f"{tag} &\r\n{data.get(command.split('(')[0], '')}{tag} %\r\n".encode())
-        out, errors = run.communicate(timeout=SECONDS)
-    must(run.returncode == 0, "removed record", errors)
+        status, _, error = ended(run)
+    must(status == 0, "removed record", error)
     must(len(points_of((folder / "part.record").read_text())) == 1, "removed record")
 
 
-def calls_of(folder, words):
+def calls_of(folder, *more):
     """Which calls a run makes that write, force or send, in order, with the file and what is written."""
+    server, port = serving(folder)
     named = ["strace", "-f", "-y", "-s", "100000", "-o", "calls", "-e", "trace=write,fdatasync,fsync,sendto"]
-    run = subprocess.run([*named, str(PROGRAM), *words], cwd=folder, capture_output=True, text=True, timeout=SECONDS)
-    must(run.returncode == 0, "run under strace", run.stderr)
+    status, _, error = ended(begun(folder, *named, str(PROGRAM), *words_of(port, "--record", "part.record", *more)))
+    must(status == 0, "run under strace", error)
+    ended(server)
     return re.findall(r"(?m)^\d+ +(\w+)\(\d+<([^>]*)>(.*)$", (folder / "calls").read_text())
 
 
 def check_forced(folder):
-    port = free_port()
-    server = served(folder, port)
-    words = run_words(port)
-    calls = calls_of(folder, [*words[:-1], "--features", "part.features", "--progress", words[-1]])
-    server.communicate(timeout=SECONDS)
+    calls = calls_of(folder, "--features", "part.features", "--progress")
     shown = [n for n, (call, _, text) in enumerate(calls) if call == "write" and text.startswith(', "feature 1 of 1: C')]
     must(len(shown) == 1, "the feature is not reported once", str(calls))
     for name, told in (("part.record", "COMPLETED C"), ("part.features", "FEATURE C")):
@@ -310,11 +276,7 @@ def check_forced(folder):
 
 def check_settled(folder):
     """Each file that a run makes is forced to the device, and directly after it its name; at the end features and contacts are made again."""
-    port = free_port()
-    server = served(folder, port)
-    words = run_words(port)
-    calls = calls_of(folder, [*words[:-1], "--features", "part.features", "--contacts", "part.contacts", words[-1]])
-    server.communicate(timeout=SECONDS)
+    calls = calls_of(folder, "--features", "part.features", "--contacts", "part.contacts")
     forced = [(n, pathlib.Path(file).name) for n, (call, file, _) in enumerate(calls) if call == "fsync" and not pathlib.Path(file).is_dir()]
     made = ["part.features.new", "part.contacts.new"]
     must([name for _, name in forced] == ["part.record", *made, *made], "other files are forced to the device", str(forced))
@@ -326,26 +288,12 @@ CHECKS = (check_torn, check_edited, check_no_files, check_read_only, check_held,
           check_settled)
 
 
-def passes(check):
-    """Whether a check holds, in a folder of its own."""
-    with tempfile.TemporaryDirectory() as room:
-        folder = pathlib.Path(room)
-        (folder / "machine.setup").write_bytes(SETUP)
-        (folder / "circle.dmis").write_bytes(CIRCLE)
-        try:
-            check(folder)
-        except (Wrong, OSError, subprocess.TimeoutExpired, ValueError) as wrong:
-            print(f"{check.__name__}: {wrong}")
-            return False
-    return True
-
-
 def check_records():
-    """How many of the checks hold, and how many do not."""
-    begin = time.monotonic()
-    count = sum(PROGRAM.exists() and passes(it) for it in CHECKS)
-    print(f"records that are damaged or held: {count} of {len(CHECKS)}; {time.monotonic() - begin:.0f} s", flush=True)
-    return count, len(CHECKS) - count
+    begin, wrong = time.monotonic(), 0
+    for check in CHECKS:
+        with room(GIVEN) as folder:
+            wrong += not holds(check.__name__, check, folder)
+    return counted("records that are damaged or held", wrong, len(CHECKS), f"; {time.monotonic() - begin:.0f} s")
 
 
 if __name__ == "__main__":

@@ -14,11 +14,10 @@ By itself: tests/refusals.py [CALL ..], the calls whose names begin with one of 
 """
 
 import re
-import subprocess
 import sys
-import tempfile
 
-from growths import CALLS as PROGRAM, Refusing, Wrong, ended, must, parts_of
+from common import ROWS_OF_CALLS, counted, must, parts_of, room, tried
+from growths import Refusing
 
 WORDS = "refused, as before; "
 SHORT = "out of memory"
@@ -121,7 +120,7 @@ CALLS = {
 def numbered(name):
     """The parts of a file of the program by their heads; a head that is not the first of its kind is followed by its number."""
     parts, counts = {}, {}
-    for part in parts_of((PROGRAM.parent.parent / name).read_text()):
+    for part in parts_of(ROWS_OF_CALLS.with_name(name).read_text()):
         head = part.partition("]")[0].removeprefix("[")
         counts[head] = counts.get(head, 0) + 1
         parts[head if counts[head] == 1 else f"{head}#{counts[head]}"] = part
@@ -204,7 +203,7 @@ def refused_row(head, output, whole):
 def refusals_of(refusing, head, row):
     """The rows of a case for whose calls a growth was refused, one for each refusal."""
     given, expected = case_of(head, row)
-    whole, runs = refusing.all_of(lambda number, counts: ended(refusing.started([PROGRAM], number, counts=counts, text=given), given))
+    whole, runs = refusing.all_of_calls(given)
     must(whole == (0, expected, ""), "with all memory", whole)
     refused = []
     for run in between_ends(runs):
@@ -214,26 +213,19 @@ def refusals_of(refusing, head, row):
 
 
 def check_refusals(names=()):
-    """How many calls are correct, and how many are not."""
     calls = {call: where for call, where in CALLS.items() if not names or call.startswith(tuple(names))}
     # One case for each independent row, and one for each other part.
     cases = {call: (head, row if is_alone(head) else "") for call, (head, row) in calls.items()}
-    found, wrong, refusals = {}, 0, 0
-    with tempfile.TemporaryDirectory() as room:
-        refusing = Refusing(room)
-        for case in dict.fromkeys(cases.values()):
-            try:
-                found[case] = refusals_of(refusing, *case)
-                refusals += len(found[case])
-            except (Wrong, OSError, subprocess.SubprocessError, IndexError, KeyError, ValueError) as why:
-                print(f"refusals of {' '.join(case)}: not as it has to be: {why}")
+    with room() as folder:
+        refusing = Refusing(folder)
+        found = {it: tried(f"refusals of {' '.join(it)}", refusals_of, refusing, *it) or [] for it in dict.fromkeys(cases.values())}
+    wrong = 0
     for call, (_, row) in calls.items():
-        count = found.get(cases[call], []).count(row)
+        count = found[cases[call]].count(row)
         wrong += count == 0
         if names or count == 0:
             print(f"refusals of {call}: {count} growths refused")
-    print(f"refused calls: {len(calls) - wrong} of {len(calls)}, {refusals} growths refused", flush=True)
-    return len(calls) - wrong, wrong
+    return counted("refused calls", wrong, len(calls), f", {sum(map(len, found.values()))} growths refused")
 
 
 if __name__ == "__main__":

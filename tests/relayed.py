@@ -15,20 +15,15 @@ either direction that a fixed sequence picks. The run is called again until it i
 
 import concurrent.futures
 import itertools
-import pathlib
 import socket
-import struct
-import subprocess
 import sys
-import tempfile
 import threading
 
-from growths import Wrong, must
+from common import CONTACTS, FAULTS, SECONDS, TOLD, Wrong, called, ended, lost_on_close, must, must_have_runs, room, run_words, text_of, whole
 from hostile import Fixed
-from killed import SETUP, dme
-from watched import HEADS, ended, must_not_be_blamed, serve, watch
+from killed import SETUP, by_connection
+from watched import must_not_be_blamed, serve, watch
 
-SECONDS = 60
 CUTS = 5_000
 FEW = 30
 MOST = 6  # connections of a session
@@ -53,13 +48,13 @@ def program_of(fixed):
 
 
 class Cutter(threading.Thread):
-    """Sends on what comes on one connection, both ways, and cuts it after `most` bytes of one side."""
+    """Sends on what comes on one connection, both ways, and cuts it after `most` bytes of one side, and after a call."""
 
-    def __init__(self, port, side, most, how):
+    def __init__(self, port, side, most, how, before_cut=lambda: None):
         super().__init__(daemon=True)
         self.listener = socket.create_server(("127.0.0.1", 0))
         self.port = self.listener.getsockname()[1]
-        self.relay_port, self.side, self.most, self.how = port, side, most, how
+        self.relay_port, self.side, self.most, self.how, self.before_cut = port, side, most, how, before_cut
         self.sent = {"up": b"", "down": b""}
         self.is_cut = False
         self.ends = []
@@ -96,11 +91,12 @@ class Cutter(threading.Thread):
 
     def cut(self):
         """Both directions stop. `run` closes the streams, which resets them if they are not to linger."""
+        self.before_cut()
         self.is_cut = True
         for stream in self.ends:
             try:
                 if self.how == "reset":
-                    stream.setsockopt(socket.SOL_SOCKET, socket.SO_LINGER, struct.pack("ii", 1, 0))
+                    lost_on_close(stream)
                 stream.shutdown(socket.SHUT_RDWR if self.how == "end" else socket.SHUT_RD)
             except OSError:
                 pass
@@ -108,32 +104,22 @@ class Cutter(threading.Thread):
 
 def lines_of(folder, name, head):
     """The lines of a file after its first, by the number of their connection."""
-    file = folder / name
-    text = file.read_text()
+    text = (folder / name).read_text()
     must(text.startswith(head) and text.endswith("\n"), name, text[:80])
-    found = {}
-    for line in text[len(head):].splitlines():
-        found.setdefault(int(line.split(" ")[0]), []).append(line)
-    return found
+    return by_connection((it.split(" ")[0], it) for it in text[len(head):].splitlines())
 
 
-def audited(folder):
+def must_be_held(folder):
     """The audit of what the client holds, over what the relay has written."""
-    features = folder / "part.features"
-    held = features.read_text().count("FEATURE ") if features.exists() else 0
-    if not held:
-        return
-    words = ("audit", "--setup", "machine.setup", "--features", "part.features", "--contacts", "told", "part.dmis")
-    status, verdict, error = ended(dme(folder, *words))
-    fields = verdict.split()
-    are_digests = all(it.startswith("dme: SHA-256 of ") for it in error.splitlines())
-    must(status == 0 and are_digests and fields[0] == "RUNS" and len(fields) == held + 1, "audit", status, verdict, error)
+    held = text_of(folder / "part.features").count("FEATURE ")
+    if held:
+        error = must_have_runs(folder, held, "--features", "part.features", "--contacts", "told")
+        must(all(it.startswith("dme: SHA-256 of ") for it in error.splitlines()), "audit", error)
 
 
-def run_once(folder, relay_port, window, cutter):
-    words = ("run", "--setup", "machine.setup", "--host", "127.0.0.1", "--port", str(cutter.port), "--window", str(window))
+def run_once(folder, window, cutter):
     cutter.start()
-    status, report, error = ended(dme(folder, *words, "--features", "part.features", "part.dmis"))
+    status, report, error = called(folder, *run_words(cutter.port, "--window", str(window), "--features", "part.features"))
     cutter.join(SECONDS)
     must(status == 0 or cutter.is_cut, "run", status, report, error)
     return report.startswith("STATE Done")
@@ -141,18 +127,18 @@ def run_once(folder, relay_port, window, cutter):
 
 def ledger_lines(folder, number):
     words = ("ledger", "--up", f"{number}.up", "--down", f"{number}.down", "--connection", str(number))
-    status, text, _ = ended(dme(folder, *words))
-    must(status == 0 and text.startswith(HEADS[1]), "ledger", status, text[:80])
-    return text[len(HEADS[1]):].splitlines()
+    status, text, _ = called(folder, *words)
+    must(status == 0 and text.startswith(TOLD), "ledger", status, text[:80])
+    return text[len(TOLD):].splitlines()
 
 
 def compare(folder, cutters):
     """The files that both ends and the relay leave."""
-    told, made = lines_of(folder, "told", HEADS[1]), lines_of(folder, "contacts", HEADS[0])
+    told, made = lines_of(folder, "told", TOLD), lines_of(folder, "contacts", CONTACTS)
     for number, cutter in enumerate(cutters, 1):
         up, down = ((folder / f"{number}.{it}").read_bytes() for it in ("up", "down"))
         must(cutter.sent["up"].startswith(up) and down.startswith(cutter.sent["down"]), "other bytes", number)
-        reported, done = told.get(number, []), made.get(number, [])
+        reported, done = told[number], made[number]
         must(done[: len(reported)] == reported, "no prefix", number, reported, done)
         must(ledger_lines(folder, number) == reported, "the ledger of the bytes is another", number)
         must_not_be_blamed(folder, number)
@@ -163,22 +149,20 @@ def compare(folder, cutters):
 def session(folder, seed):
     """A program that is run until it is Done: how many of its connections were cut."""
     fixed = Fixed(seed)
-    (folder / "machine.setup").write_text(SETUP)
     (folder / "part.dmis").write_text(program_of(fixed))
-    plan = ended(dme(folder, "check", "--setup", "machine.setup", "part.dmis"))[1]
+    plan = called(folder, "check", "--setup", "machine.setup", "part.dmis")[1]
     bytes_up = len(plan) + plan.count("\n")
     window = fixed.one_of((1, 4, 16))
-    many = ("--connections", str(MOST))
-    server, server_port = serve(folder, *many)
+    server, server_port = serve(folder, "--connections", str(MOST))
     relay, port = watch(folder, server_port, "--record-bytes", ".", "--endless")
     cutters, is_done = [], False
     while not is_done:
         is_last = len(cutters) + 1 == MOST
         most = sys.maxsize if is_last else fixed.below(bytes_up)
         cutters.append(Cutter(port, fixed.one_of(("up", "down")), most, fixed.one_of(HOW)))
-        is_done = run_once(folder, port, window, cutters[-1])
+        is_done = run_once(folder, window, cutters[-1])
         must(is_done or not is_last, "it is not Done")
-        audited(folder)
+        must_be_held(folder)
     for _ in range(len(cutters), MOST):
         socket.create_connection(("127.0.0.1", port), SECONDS).close()
     must(ended(server)[0] in (0, 1), "an end")
@@ -189,35 +173,25 @@ def session(folder, seed):
 
 
 def one_session(seed):
-    with tempfile.TemporaryDirectory() as room:
+    with room({"machine.setup": SETUP}) as folder:
         try:
-            return session(pathlib.Path(room), seed)
-        except (Wrong, OSError, subprocess.SubprocessError) as wrong:
+            return session(folder, seed)
+        except FAULTS as wrong:
             raise Wrong(f"session {seed}: {wrong}") from wrong
 
 
-def batches(size):
-    """The numbers of sessions, in batches."""
-    for first in itertools.count(1, size):
-        yield range(first, first + size)
+def sessions_of(cuts):
+    """Sessions until that many connections were cut."""
+    done = 0
+    with concurrent.futures.ThreadPoolExecutor(4) as pool:
+        for first in itertools.count(1, 16):
+            done += sum(pool.map(one_session, range(first, first + 16)))
+            if done >= cuts:
+                return f"{done}, in {first + 15} sessions"
 
 
 def check_relayed(cuts=FEW):
-    """How many checks hold, and how many do not."""
-    done, sessions = 0, 0
-    with concurrent.futures.ThreadPoolExecutor(4) as pool:
-        try:
-            for seeds in batches(16):
-                done += sum(pool.map(one_session, seeds))
-                sessions += len(seeds)
-                if done >= cuts:
-                    break
-        except Wrong as wrong:
-            print(f"relayed: {wrong}")
-            print("connections that are cut: not as expected", flush=True)
-            return 0, 1
-    print(f"connections that are cut: {done}, in {sessions} sessions", flush=True)
-    return 1, 0
+    return whole("connections that are cut", sessions_of, cuts)
 
 
 if __name__ == "__main__":

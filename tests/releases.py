@@ -22,22 +22,20 @@ It needs the executables that `tests/run` has built.
 
 import concurrent.futures
 import functools
-import pathlib
 import re
 import subprocess
 import sys
-import tempfile
 import time
 
+from common import PROGRAM, ROOT, ROWS_OF_CALLS, TESTS, ended, must, parts_of, room, tried
 from faults import check_faults
-from growths import CALLS, PROGRAM, ROOT, WANT, Refusing, Wrong, ended, must, parts_of
+from growths import WANT, Refusing
 from killed import WINDOWS, check_killed
 from lying import check_lying
 from relayed import CUTS, check_relayed
 from reviews import check_reviews
 from rows import program_rows
 
-TESTS = ROOT / "tests"
 ALONE = ("check", "review", "simulate", "audit", "loop")  # the commands that need no other end
 ANY = 1_000_000
 EVENTS = 9_100_000
@@ -66,26 +64,6 @@ def events(portion):
     return (1, 0) if done.returncode == 0 else (0, 1)
 
 
-def faults(portion):
-    return check_faults(int(portion or 1))
-
-
-def lies(portion):
-    return check_lying(int(portion or LIES) // len(WINDOWS))
-
-
-def kills(portion):
-    return check_killed(int(portion or KILLS) // len(WINDOWS))
-
-
-def relayed(portion):
-    return check_relayed(int(portion or CUTS))
-
-
-def reviews(portion):
-    return check_reviews(int(portion or REVIEWS), seed=3)
-
-
 # ---- each growth of each row
 
 def is_alone(row):
@@ -97,32 +75,19 @@ def is_alone(row):
 def program_run(refusing, row, number, counts):
     """What a row of tests/program/ gives if this growth is refused."""
     text = row.texts["stdin"].decode(errors="surrogateescape") if "stdin" in row.texts else None
-    with tempfile.TemporaryDirectory() as folder:
+    with room() as folder:
         row.write_into(folder)
         return ended(refusing.started([PROGRAM, *row.words], number, folder, counts, text), text)
 
 
 def part_runs():
     """Each part of the rows of calls, with the texts that it uses."""
-    parts = parts_of((ROOT / "crates" / "test_calls" / "stdin").read_text())
+    parts = parts_of(ROWS_OF_CALLS.read_text())
     texts = "".join(it for it in parts if it.startswith(("[program ", "[setup]", "[replies ", "[commands ", "[ways ", "[ending ")))
     for at, it in enumerate(parts):
         head = it.split("]")[0].removeprefix("[")
         if not head.startswith(("program ", "setup", "replies ", "commands ", "ways ", "ending ")):
             yield f"{head}, part {at}", texts + it
-
-
-def calls_run(refusing, text, number, counts):
-    return ended(refusing.started([CALLS], number, counts=counts, text=text), text)
-
-
-def growths_of(run, most):
-    """With all memory, and with each of the first growths refused."""
-    with tempfile.TemporaryFile("w+") as counts:
-        whole = run(0, counts)
-        counts.seek(0)
-        growths = int(counts.read().split()[0])
-    return whole, [run(number, None) for number in range(1, min(growths, most) + 1)]
 
 
 def wants(whole, run):
@@ -173,30 +138,36 @@ def must_want_rows(whole, runs):
     return len(runs)
 
 
-def growth_part(name, judge, run, most):
+def growth_part(name, judge, runs_of):
     begin = time.monotonic()
-    try:
-        whole, runs = growths_of(run, most)
-        told, is_right = f"{judge(whole, runs)} growths refused", True
-    except (Wrong, OSError, subprocess.SubprocessError, IndexError, ValueError) as why:
-        told, is_right = f"not as it has to be: {str(why)[:500]}", False
-    print(f"growths of {name}: {told} ({time.monotonic() - begin:.1f} s)", flush=True)
-    return is_right
+    count = tried(f"growths of {name}", lambda: judge(*runs_of()))
+    if count is not None:
+        print(f"growths of {name}: {count} growths refused ({time.monotonic() - begin:.1f} s)", flush=True)
+    return count is not None
 
 
 def growths(portion):
     most = int(portion or ANY)
-    with tempfile.TemporaryDirectory() as room:
-        refusing = Refusing(room)
-        jobs = [(row.name, must_want, functools.partial(program_run, refusing, row))
+    with room() as folder:
+        refusing = Refusing(folder)
+        jobs = [(row.name, must_want, functools.partial(refusing.all_of, functools.partial(program_run, refusing, row), most))
                 for row in program_rows().values() if is_alone(row)]
-        jobs += [(name, must_want_rows, functools.partial(calls_run, refusing, text)) for name, text in part_runs()]
+        jobs += [(name, must_want_rows, functools.partial(refusing.all_of_calls, text, most)) for name, text in part_runs()]
         with concurrent.futures.ThreadPoolExecutor(2) as pool:
-            right = sum(pool.map(lambda job: growth_part(*job, most), jobs))
+            right = sum(pool.map(lambda job: growth_part(*job), jobs))
     return right, len(jobs) - right
 
 
-PARTS = {"edits": edits, "events": events, "faults": faults, "growths": growths, "kills": kills, "lies": lies, "relayed": relayed, "reviews": reviews}
+PARTS = {
+    "edits": edits,
+    "events": events,
+    "faults": lambda portion: check_faults(int(portion or 1)),
+    "growths": growths,
+    "kills": lambda portion: check_killed(int(portion or KILLS) // len(WINDOWS)),
+    "lies": lambda portion: check_lying(int(portion or LIES) // len(WINDOWS)),
+    "relayed": lambda portion: check_relayed(int(portion or CUTS)),
+    "reviews": lambda portion: check_reviews(int(portion or REVIEWS), seed=3),
+}
 
 
 def main(names):

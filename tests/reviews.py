@@ -7,16 +7,11 @@ And each finding alone, and each two of them one after the other: the lines and 
 `run` calls this with some hundred programs, `releases.py` with 3,000; by itself: tests/reviews.py [COUNT [SEED]]
 """
 
-import pathlib
 import random
 import re
-import subprocess
 import sys
-import tempfile
 
-ROOT = pathlib.Path(__file__).resolve().parent.parent
-PROGRAM = ROOT / "crates" / "dme_program" / "out" / "dme_program"
-SECONDS = 20
+from common import EXAMPLES, called, counted, room
 
 TOUCHES = ["PTMEAS/CART,1,2,3", "PTMEAS/CART,1,2,3,0,0,1", "PTMEAS/CART,1,2", "PTMEAS/CART,1,2,X", "PTMEAS/POL,1,2,3", "PTMEAS/CART,1,2,3,0,0,0"]
 TOUCHES += ["PTMEAS/CART,1,2,3,0,0,1"] * 6
@@ -148,18 +143,17 @@ class Text:
             self.take_out(at)
 
 
-def first_refusal(text, program):
+def first_refusal(text):
     """What `dme check` refuses first, and its line; none if it accepts."""
-    run = subprocess.run([program, "check"], input=text, capture_output=True, text=True, timeout=SECONDS)
-    found = re.fullmatch(r"dme: (.*) at line (\d+)\n", run.stderr)
+    found = re.fullmatch(r"dme: (.*) at line (\d+)\n", called(EXAMPLES, "check", text=text)[2])
     return (found[1], int(found[2])) if found else None
 
 
-def expected(lines, program):
+def expected(lines):
     """The refusals with their lines, one after the other."""
     text, found = Text(lines), []
     while True:
-        refused = first_refusal(text.as_text(), program)
+        refused = first_refusal(text.as_text())
         if refused is None:
             return found
         refusal, line = refused
@@ -179,11 +173,11 @@ def expected(lines, program):
             text.pass_over(at, refusal)
 
 
-def listed(lines, program):
+def listed(lines):
     """What `dme review` lists, and its status."""
-    run = subprocess.run([program, "review"], input="".join(f"{it}\n" for it in lines), capture_output=True, text=True, timeout=SECONDS)
-    found = re.findall(r"^-:(\d+): refused: (P\d+ \w+(?: \(N\d \w+\))?): .+$", run.stdout, re.MULTILINE)
-    return [(refusal, int(line)) for line, refusal in found], run.returncode
+    status, review, _ = called(EXAMPLES, "review", text="".join(f"{it}\n" for it in lines))
+    found = re.findall(r"^-:(\d+): refused: (P\d+ \w+(?: \(N\d \w+\))?): .+$", review, re.MULTILINE)
+    return [(refusal, int(line)) for line, refusal in found], status
 
 
 def block(label, kind, *touches, count=None, feature=True, moves=True):
@@ -195,135 +189,101 @@ def block(label, kind, *touches, count=None, feature=True, moves=True):
 
 TOUCH = "PTMEAS/CART,1,2,3,0,0,1"
 NOT_CARRIED_OUT = "refused: P5 Unsupported: {} is not carried out."
-SENTENCES = {  # what is found: its lines, with a label of its own, and for each sentence how many lines are above it; {} is the line there
-    "P5": lambda it: (["DECPL/ALL,3"], [(0, NOT_CARRIED_OUT.format("DECPL") + " dme lower leaves it out.")]),
-    "P6": lambda it: (["SNSLCT/T"], [(0, "refused: P6 BadArguments: T is not S(name) or SA(name).")]),
-    "P7": lambda it: (
-        ["GOTO/1,x,3"],
-        [
-            (
-                0,
-                "refused: P7 BadNumeral (N1 NotNumeral): x is not a numeral: a numeral has digits with at most one point, and optionally a sign"
-                " and an exponent of one to three digits.",
-            )
-        ],
-    ),
-    "P8": lambda it: ([TOUCH], [(0, "refused: P8 OutsideBlock: PTMEAS is outside a measurement block: no MEAS above it is open.")]),
+ALONE = {  # what is found in a line: the line, and the sentence on it
+    "P5": ("DECPL/ALL,3", NOT_CARRIED_OUT.format("DECPL") + " dme lower leaves it out."),
+    "P6": ("SNSLCT/T", "refused: P6 BadArguments: T is not S(name) or SA(name)."),
+    "P7": ("GOTO/1,x,3", "refused: P7 BadNumeral (N1 NotNumeral): x is not a numeral: a numeral has digits with at most one point, and optionally a"
+                         " sign and an exponent of one to three digits."),
+    "P8": (TOUCH, "refused: P8 OutsideBlock: PTMEAS is outside a measurement block: no MEAS above it is open."),
+    "P12": ("UNITS/INCH", "refused: P12 NotMillimetres: The unit INCH is not read: lengths are in MM. dme lower writes it out."),
+    "P13": ("MODE/MAN", "refused: P13 NoProgMode: The mode MAN is not carried out, and PROG is not among the words of MODE: without this line, or with"
+                        " PROG, the machine drives by itself to the touches below, which MAN leaves to the operator, since the place of the part is"
+                        " not known."),
+    "radius": ("PRCOMP/OFF", "passed over: PRCOMP/OFF would say whether points are corrected by the radius of the probe: they are taken as the server"
+                             " reports them."),
+    "standstill": ("FINPOS/OFF", "passed over: FINPOS/OFF would say whether a move ends only when the machine stands still: the server decides."),
+    "approach": ("SNSET/APPRCH,3", "passed over: SNSET/APPRCH,3 would set how the probe approaches, searches and retracts: the machine's own settings are"
+                                   " used."),
+    "plane": ("WKPLAN/XYPLAN", "passed over: WKPLAN/XYPLAN would name the plane of later statements: positions have three coordinates here."),
+    "speed": ("FEDRAT/1", "passed over: FEDRAT/1 would set a speed: the machine's own is used."),
+    "acceleration": ("ACLRAT/1", "passed over: ACLRAT/1 would set an acceleration: the machine's own is used."),
+    "operator": ("TEXT/OPER,'TURN'", "passed over: TEXT/OPER,'TURN' is a text for the operator: a run waits for him only with --pause."),
+}
+AMONG = {  # in several lines: these, with a label of their own, and for each sentence how many lines are above it; {} is the line there
     "P9": lambda it: (
         [f"F(I{it})=FEAT/POINT,CART,0,0,0,0,0,1", *block(it, "POINT", TOUCH, f"MEAS/POINT,F(I{it}),1", count=1)],
-        [(5, "refused: P9 InsideBlock: MEAS is inside the measurement block that begins at line {2}: it has no ENDMES yet.")],
+        {5: "refused: P9 InsideBlock: MEAS is inside the measurement block that begins at line {2}: it has no ENDMES yet."},
     ),
     "P10": lambda it: (
         block(it, "POINT", count=2),
-        [
-            (
-                3,
-                "refused: P10 TooFewPoints: The program asks for automatic measuring: MEAS at line {1} names 2 touches and its block has none,"
-                " and only programmed touches are measured. Write a PTMEAS for each, or delete the MEAS at line {1} and this ENDMES together.",
-            )
-        ],
+        {3: "refused: P10 TooFewPoints: The program asks for automatic measuring: MEAS at line {1} names 2 touches and its block has none,"
+            " and only programmed touches are measured. Write a PTMEAS for each, or delete the MEAS at line {1} and this ENDMES together."},
     ),
     "P11": lambda it: (
         ["RECALL/D(NOPE)", "RECALL/D(HERE)"],
-        [(0, "refused: P11 UnknownFrame: No frame NOPE is stored: --setup is missing, or its file has no line FRAME NOPE.")],
-    ),
-    "P12": lambda it: (
-        ["UNITS/INCH"],
-        [(0, "refused: P12 NotMillimetres: The unit INCH is not read: lengths are in MM. dme lower writes it out.")],
-    ),
-    "P13": lambda it: (
-        ["MODE/MAN"],
-        [
-            (
-                0,
-                "refused: P13 NoProgMode: The mode MAN is not carried out, and PROG is not among the words of MODE: without this line, or with"
-                " PROG, the machine drives by itself to the touches below, which MAN leaves to the operator, since the place of the part is not"
-                " known.",
-            )
-        ],
+        {0: "refused: P11 UnknownFrame: No frame NOPE is stored: --setup is missing, or its file has no line FRAME NOPE."},
     ),
     "P14": lambda it: (
         block(it, "POINT", "PTMEAS/CART,1,2,3,0,0,0"),
-        [(3, "refused: P14 ZeroVector: The direction 0,0,0 is zero in all components, rounded to millionths.")],
+        {3: "refused: P14 ZeroVector: The direction 0,0,0 is zero in all components, rounded to millionths."},
     ),
-    "near word": lambda it: (["PTMES/1"], [(0, NOT_CARRIED_OUT.format("PTMES")), (0, "odd: PTMES: PTMEAS?")]),
     "direction": lambda it: (
         block(it, "POINT", "PTMEAS/CART,1,2,3,0,0,1.002"),
-        [(3, "odd: PTMEAS/CART,1,2,3,0,0,1.002 has a direction whose length is not 1.")],
+        {3: "odd: PTMEAS/CART,1,2,3,0,0,1.002 has a direction whose length is not 1."},
     ),
     "no move": lambda it: (
         block(f"I{it}", "POINT", TOUCH) + block(it, "POINT", TOUCH, moves=False),
-        [(7, "odd: The probe travels straight from line {3} (1.000 2.000 3.000) to line {7} (1.000 2.000 3.000), 0.000 mm, with no GOTO between.")],
+        {7: "odd: The probe travels straight from line {3} (1.000 2.000 3.000) to line {7} (1.000 2.000 3.000), 0.000 mm, with no GOTO between."},
     ),
     "more touches": lambda it: (
         block(it, "POINT", TOUCH, TOUCH, count=1),
-        [(5, "odd: ENDMES ends a block with more touches than its MEAS names.")],
+        {5: "odd: ENDMES ends a block with more touches than its MEAS names."},
     ),
     "no definition": lambda it: (
         block(it, "POINT", TOUCH, feature=False),
-        [(0, f"odd: MEAS/POINT,F({it}),1 measures a feature that no FEAT above defines.")],
+        {0: f"odd: MEAS/POINT,F({it}),1 measures a feature that no FEAT above defines."},
     ),
     "another kind": lambda it: (
         block(it, "PLANE", TOUCH),
-        [(1, f"odd: MEAS/POINT,F({it}),1 measures a feature as another kind than its FEAT above says.")],
+        {1: f"odd: MEAS/POINT,F({it}),1 measures a feature as another kind than its FEAT above says."},
     ),
     "measured twice": lambda it: (
         block(it, "POINT", TOUCH) + block(it, "POINT", TOUCH, feature=False),
-        [(5, f"odd: MEAS/POINT,F({it}),1 measures a feature whose label another MEAS above has.")],
+        {5: f"odd: MEAS/POINT,F({it}),1 measures a feature whose label another MEAS above has."},
     ),
     "defined twice": lambda it: (
         [f"F({it})=FEAT/POINT,CART,0,0,0,0,0,1"] * 2,
-        [(1, "odd: FEAT/POINT,CART,0,0,0,0,0,1 defines a feature whose label another FEAT above has.")],
+        {1: "odd: FEAT/POINT,CART,0,0,0,0,0,1 defines a feature whose label another FEAT above has."},
     ),
-    "tool": lambda it: (["SNSLCT/S(P9)", "SNSLCT/S(P1)"], [(0, "setup: SNSLCT/S(P9) selects a tool that the setup lacks.")]),
+    "tool": lambda it: (["SNSLCT/S(P9)", "SNSLCT/S(P1)"], {0: "setup: SNSLCT/S(P9) selects a tool that the setup lacks."}),
     "volume": lambda it: (
         ["RECALL/D(FAR)", "GOTO/2,0,0", "RECALL/D(HERE)"],
-        [(1, "setup: GOTO/2,0,0 is out of the machine's volume: an axis is more than 1,000 metres from its zero point.")],
-    ),
-    "radius": lambda it: (
-        ["PRCOMP/OFF"],
-        [
-            (
-                0,
-                "passed over: PRCOMP/OFF would say whether points are corrected by the radius of the probe: they are taken as the server"
-                " reports them.",
-            )
-        ],
-    ),
-    "standstill": lambda it: (
-        ["FINPOS/OFF"],
-        [(0, "passed over: FINPOS/OFF would say whether a move ends only when the machine stands still: the server decides.")],
-    ),
-    "approach": lambda it: (
-        ["SNSET/APPRCH,3"],
-        [
-            (
-                0,
-                "passed over: SNSET/APPRCH,3 would set how the probe approaches, searches and retracts: the machine's own settings are used.",
-            )
-        ],
-    ),
-    "plane": lambda it: (
-        ["WKPLAN/XYPLAN"],
-        [(0, "passed over: WKPLAN/XYPLAN would name the plane of later statements: positions have three coordinates here.")],
-    ),
-    "speed": lambda it: (["FEDRAT/1"], [(0, "passed over: FEDRAT/1 would set a speed: the machine's own is used.")]),
-    "acceleration": lambda it: (["ACLRAT/1"], [(0, "passed over: ACLRAT/1 would set an acceleration: the machine's own is used.")]),
-    "operator": lambda it: (
-        ["TEXT/OPER,'TURN'"],
-        [(0, "passed over: TEXT/OPER,'TURN' is a text for the operator: a run waits for him only with --pause.")],
+        {1: "setup: GOTO/2,0,0 is out of the machine's volume: an axis is more than 1,000 metres from its zero point."},
     ),
 }
+NEAR_WORD = ["PTMES/1"], [NOT_CARRIED_OUT.format("PTMES"), "odd: PTMES: PTMEAS?"]
+NAMES = [*ALONE, *AMONG, "near word"]
 MEASURED = ("P7", "P8", "P9", "P10", "P13", "P14")  # refusals of words that measure or move, or of MODE
 SETUP = "TOOL P1\nFRAME HERE 0 0 0\nFRAME SPARE 0 0 0\nFRAME FAR 999999 0 0\n"
 OPENED = ["DMISMN", "SNSLCT/S(P1)", "RECALL/D(FAR)", "RECALL/D(HERE)"]
+
+
+def found_by(name, label):
+    """The lines of a finding, and each of its sentences with how many lines are above it."""
+    if name in ALONE:
+        line, sentence = ALONE[name]
+        return [line], [(0, sentence)]
+    if name == "near word":
+        return NEAR_WORD[0], [(0, it) for it in NEAR_WORD[1]]
+    lines, sentences = AMONG[name](label)
+    return lines, list(sentences.items())
 
 
 def review_of(names):
     """The lines of a program with these findings, one after the other, and the lines of its review but for the summary."""
     lines, due, manual = list(OPENED), [], False
     for place, name in enumerate(names):
-        chunk, sentences = SENTENCES[name](f"L{place}")
+        chunk, sentences = found_by(name, f"L{place}")
         numbers = [len(lines) + 1 + it for it in range(len(chunk))]
         manual = manual or name == "P13"
         end = " dme lower --skip-manual leaves it out." if manual and name in MEASURED else ""
@@ -332,46 +292,41 @@ def review_of(names):
     return [*lines, "ENDFIL"], [*due, "s:3: setup: FRAME SPARE is stored, and no RECALL of the program selects it."]
 
 
-def is_reviewed(names, folder, program):
+def is_reviewed(names, folder):
     """Whether a program with these findings is reviewed so, with the status, and refused by `dme check` for the first refusal."""
     lines, due = review_of(names)
     (folder / "p").write_text("".join(f"{it}\n" for it in lines))
-    calls = ([program, command, "--setup", "s", "p"] for command in ("review", "check"))
-    review, check = (subprocess.run(it, cwd=folder, capture_output=True, text=True, timeout=SECONDS) for it in calls)
-    found = [it for it in review.stdout.splitlines() if not it.startswith("p: summary: ")]
+    status, review, _ = called(folder, "review", "--setup", "s", "p")
+    refused = called(folder, "check", "--setup", "s", "p")[2]
+    found = [it for it in review.splitlines() if not it.startswith("p: summary: ")]
     refusals = [re.match(r"p:(\d+): refused: (P\d+ \w+(?: \(N\d \w+\))?): ", it) for it in due if ": refused: " in it]
     first = f"dme: {refusals[0][2]} at line {refusals[0][1]}\n" if refusals else ""
-    if found == due and review.returncode == (1 if refusals else 0) and check.stderr == first:
+    if found == due and status == (1 if refusals else 0) and refused == first:
         return True
-    print(f"review of {' and '.join(names)}: {found} with status {review.returncode} and {check.stderr!r}, not {due} and {first!r}")
+    print(f"review of {' and '.join(names)}: {found} with status {status} and {refused!r}, not {due} and {first!r}")
     return False
 
 
 def check_findings():
-    """How many findings, alone and each two of them, are reviewed as the table says, and how many are not."""
-    names = [(it,) for it in SENTENCES] + [(it, other) for it in SENTENCES for other in SENTENCES]
-    with tempfile.TemporaryDirectory() as room:
-        folder = pathlib.Path(room)
-        (folder / "s").write_text(SETUP)
-        passed = sum(is_reviewed(it, folder, PROGRAM) for it in names)
-    print(f"findings alone and in pairs: {passed} of {len(names)}", flush=True)
-    return passed, len(names) - passed
+    """Each finding alone, and each two of them."""
+    names = [(it,) for it in NAMES] + [(it, other) for it in NAMES for other in NAMES]
+    with room({"s": SETUP}) as folder:
+        wrong = sum(not is_reviewed(it, folder) for it in names)
+    return counted("findings alone and in pairs", wrong, len(names))
 
 
 def check_reviews(count=300, seed=37):
-    """How many programs are reviewed as the second implementation says, and how many are not."""
     source = random.Random(seed)
     wrong = 0
     for number in range(count):
         lines = generated(source)
-        due = expected(lines, PROGRAM)
-        found, status = listed(lines, PROGRAM)
+        due = expected(lines)
+        found, status = listed(lines)
         if found != due or status != (1 if due else 0):
             wrong += 1
             if wrong <= 3:
                 print(f"review of program {number}: {found} with status {status}, not {due}, of:", *lines, sep="\n  ")
-    print(f"reviews: {count - wrong} of {count}", flush=True)
-    return count - wrong, wrong
+    return counted("reviews", wrong, count)
 
 
 if __name__ == "__main__":

@@ -8,9 +8,9 @@ import pathlib
 import re
 import sys
 
-TESTS = pathlib.Path(__file__).resolve().parent
+from common import EXAMPLES, TESTS, counted
+
 ROWS = TESTS / "program"
-EXAMPLES = TESTS.parent / "examples"
 SHARED = ROWS / "shared.rows"
 INDENT = "    "
 FURTHER = ("serve", "again")
@@ -28,14 +28,9 @@ class Row:
     name; and the further `dme`s in its folder, by key."""
 
     def __init__(self, name, words=()):
-        self.name = name
-        self.words = list(words)
-        self.lines = {}
-        self.texts = {}
-        self.given = {}
-        self.left = {}
-        self.links = {}
-        self.further = {}
+        self.name, self.words = name, list(words)
+        self.lines, self.texts, self.given = {}, {}, {}
+        self.left, self.links, self.further = {}, {}, {}
 
     def write_into(self, folder):
         """Writes the files that are given, and makes the links."""
@@ -224,15 +219,13 @@ def is_refused(before, lines):
 
 
 def check_reader():
-    """How many texts are read as they must be, and how many are not."""
     text = "file A:\n    a"
     is_well = {"WHOLE": is_whole(Reader("", WHOLE).rows["one"]), "args: a": not is_refused(text, "args: a")}
     is_well |= {it: is_refused(text, it) for it in REFUSED} | {f"{it}, before a row": is_refused(it, "args: a") for it in REFUSED_BEFORE}
     wrong = [it for it in is_well if not is_well[it]]
     for it in wrong:
         print(f"rows: {it!r} is not read as it must be")
-    print(f"texts of rows: {len(is_well) - len(wrong)} of {len(is_well)}", flush=True)
-    return len(is_well) - len(wrong), len(wrong)
+    return counted("texts of rows", len(wrong), len(is_well))
 
 
 if __name__ == "__main__":

@@ -11,58 +11,27 @@
 `run` calls this; by itself: tests/services.py
 """
 
-import pathlib
 import re
 import socket
-import subprocess
 import sys
-import tempfile
 import threading
 import time
 
-from growths import PROGRAM, Wrong, must
-from killed import SETUP, dme, program
-from listening import free_port, wait_for_listener
-from watched import ended, listening
+from common import CONTACTS, PROGRAM, SECONDS, begun, called, dme, ended, listening, must, run_words, serving, whole
+from killed import part
 
-SECONDS = 60
-HEAD = "DME-CONTACTS 1\n"
-SERVER = ("serve", "--setup", "machine.setup")
 UNTIMELY = "dme: connection failed\nnothing that was due came from the {} for 1 second\n"
 
 
-def served(folder, *more):
-    """A service that listens, and its port."""
-    port = free_port()
-    return listening(folder, port, *SERVER, "--port", str(port), *more), port
-
-
-def traced(folder, options, *words):
-    """A `dme` under `strace`."""
-    words = ["strace", "-f", "-o", str(folder / "calls"), *options, str(PROGRAM), *words]
-    return subprocess.Popen(words, cwd=folder, stdout=subprocess.PIPE, stderr=subprocess.PIPE, text=True)
-
-
-def traced_service(folder, options, *more):
-    port = free_port()
-    process = traced(folder, options, *SERVER, "--port", str(port), *more)
-    wait_for_listener(port, lambda: process.poll() is not None, SECONDS)
-    return process, port
-
-
-def run_words(port, *more):
-    return ("run", "--setup", "machine.setup", "--host", "127.0.0.1", "--port", str(port), *more, "part.dmis")
-
-
-def undisturbed(folder):
-    server, port = served(folder)
-    report = ended(dme(folder, *run_words(port)))
-    must(report[0] == 0 and ended(server)[0] == 0, "undisturbed", report)
-    return report
+def trace(*options):
+    """The words of `strace` before those of a `dme`."""
+    return "strace", "-f", "-o", "calls", *options
 
 
 def failing_calls(folder):
-    report = undisturbed(folder)
+    server, port = serving(folder)
+    report = called(folder, *run_words(port))
+    must(report[0] == 0 and ended(server)[0] == 0, "undisturbed", report)
     for fault, said in (
         ("accept4:error=ECONNABORTED:when=1", "dme: a connection cannot be taken\n"),
         ("accept4:error=EMFILE:when=1", "dme: a connection cannot be taken\n"),
@@ -70,22 +39,22 @@ def failing_calls(folder):
         ("recvfrom:error=EINTR:when=3+4", ""),
         ("sendto:error=EINTR:when=3+4", ""),
     ):
-        server, port = traced_service(folder, ("-e", f"inject={fault}"))
-        must(ended(dme(folder, *run_words(port))) == report, "another report", fault)
+        server, port = serving(folder, before=trace("-e", f"inject={fault}"))
+        must(called(folder, *run_words(port)) == report, "another report", fault)
         status, _, error = ended(server)
         must((status, error) == (0, said), "the service", fault, status, error)
         must("INJECTED" in (folder / "calls").read_text(), "nothing was disturbed", fault)
     for fault in ("recvfrom:error=EINTR:when=3+4", "sendto:error=EINTR:when=3+4"):
-        server, port = served(folder)
-        run = ended(traced(folder, ("-e", f"inject={fault}"), *run_words(port)))
+        server, port = serving(folder)
+        run = ended(begun(folder, *trace("-e", f"inject={fault}"), str(PROGRAM), *run_words(port)))
         must(run == report, "another report of the run", fault, run)
         must("INJECTED" in (folder / "calls").read_text(), "nothing was disturbed", fault)
         ended(server)
 
 
 def forced_acts(folder):
-    server, port = traced_service(folder, ("-y", "-e", "trace=write,fdatasync,sendto"), "--contacts", "contacts")
-    must(ended(dme(folder, *run_words(port)))[0] == 0 and ended(server)[0] == 0, "run")
+    server, port = serving(folder, "--contacts", "contacts", before=trace("-y", "-e", "trace=write,fdatasync,sendto"))
+    must(called(folder, *run_words(port))[0] == 0 and ended(server)[0] == 0, "run")
     calls = re.findall(r"(?m)^\d+ +(\w+)\(\d+<([^>]*)>", (folder / "calls").read_text())
     named = [(call, file.endswith("/contacts")) for call, file in calls]
     writes = [at for at, it in enumerate(named) if it == ("write", True)]
@@ -95,7 +64,7 @@ def forced_acts(folder):
 
 
 def removed_contacts(folder):
-    server, port = served(folder, "--contacts", "contacts")
+    server, port = serving(folder, "--contacts", "contacts")
     with socket.create_connection(("127.0.0.1", port), SECONDS) as stream:
         stream.settimeout(SECONDS)
         for tag, command in (("00001", "StartSession()"), ("00002", "Home()"), ("00003", "IsHomed()"), ("00004", "IsHomed()")):
@@ -106,17 +75,15 @@ def removed_contacts(folder):
             if tag == "00002":
                 (folder / "contacts").unlink()
     must(ended(server) == (1, "", "dme: cannot write contacts: removed or replaced\n"), "service")
-    must((folder / "contacts").read_text() == HEAD + "1 HOMED\n1 HOMEDIS 1\n1 HOMEDIS 1\n", "the whole file at the end")
+    must((folder / "contacts").read_text() == CONTACTS + "1 HOMED\n1 HOMEDIS 1\n1 HOMEDIS 1\n", "the whole file at the end")
 
 
 def forced_names(folder):
-    server, port = served(folder)
-    own = free_port()
+    server, port = serving(folder)
     (folder / "bytes").mkdir()
-    words = ("--listen", str(own), "--host", "127.0.0.1", "--port", str(port), "--told", "told", "--record-bytes", "bytes", "--connections", "1")
-    relay = traced(folder, ("-y", "-e", "trace=openat,fsync"), "watch", *words)
-    wait_for_listener(own, lambda: relay.poll() is not None, SECONDS)
-    must(ended(dme(folder, *run_words(own)))[0] == 0 and ended(relay)[0] == 0 and ended(server)[0] == 0, "run")
+    words = ("--listen", "PORT", "--host", "127.0.0.1", "--port", str(port), "--told", "told", "--record-bytes", "bytes", "--connections", "1")
+    relay, own = listening(folder, "watch", *words, before=trace("-y", "-e", "trace=openat,fsync"))
+    must(called(folder, *run_words(own))[0] == 0 and ended(relay)[0] == 0 and ended(server)[0] == 0, "run")
     calls = (folder / "calls").read_text().split("\n")
     for name in ("1.up", "1.down", "1.order"):
         at = next(at for at, it in enumerate(calls) if f'"bytes/{name}", ' in it and "O_EXCL" in it)
@@ -124,9 +91,9 @@ def forced_names(folder):
 
 
 def endless(folder):
-    server, port = served(folder, "--endless")
+    server, port = serving(folder, "--endless")
     for _ in range(3):
-        must(ended(dme(folder, *run_words(port)))[0] == 0, "run")
+        must(called(folder, *run_words(port))[0] == 0, "run")
     must(server.poll() is None, "it has ended")
     server.terminate()
     ended(server)
@@ -146,7 +113,7 @@ def trickle(stream, text, stop):
 def noise(folder):
     """How long ends wait that only noise comes to."""
     stop = threading.Event()
-    server, port = served(folder, "--timeout", "1")
+    server, port = serving(folder, "--timeout", "1")
     with socket.create_connection(("127.0.0.1", port), SECONDS) as stream:
         threading.Thread(target=trickle, args=(stream, b"x", stop), daemon=True).start()
         status, out, error = ended(server)
@@ -164,29 +131,17 @@ def noise(folder):
         must(status == 1 and UNTIMELY.format("server") in error, "noise", text, status, error)
 
 
-def check_all(room):
+def check_all():
     checks = (failing_calls, forced_acts, forced_names, removed_contacts, endless, noise)
     for check in checks:
-        folder = pathlib.Path(room) / check.__name__
-        folder.mkdir()
-        (folder / "machine.setup").write_text(SETUP)
-        (folder / "part.dmis").write_text(program())
-        check(folder)
-    return len(checks)
+        with part() as folder:
+            check(folder)
+    return f"{len(checks)} checks"
 
 
 def check_services():
-    """How many checks hold, and how many do not."""
-    try:
-        with tempfile.TemporaryDirectory() as room:
-            count = check_all(room)
-    except (Wrong, OSError, subprocess.SubprocessError) as wrong:
-        print(f"services: {wrong}")
-        print("services that are disturbed: not as expected", flush=True)
-        return 0, 1
-    print(f"services that are disturbed: {count} checks", flush=True)
-    return 1, 0
+    return whole("services that are disturbed", check_all)
 
 
 if __name__ == "__main__":
-    sys.exit(check_services()[1])
+    sys.exit(1 if check_services()[1] else 0)

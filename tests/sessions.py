@@ -142,7 +142,7 @@ class Job:
 
     def __init__(self, number, asked):
         self.number, self.asked, self.tag, self.sort = number, asked, asked.tag, asked.sort
-        self.has_begun = self.has_ended = self.has_acted = self.has_met = self.is_received = self.has_failed = False
+        self.has_begun = self.has_ended = self.has_met = self.is_received = self.has_failed = False
         self.fails, self.data, self.loss, self.marks = asked.bad, None, None, []
 
 

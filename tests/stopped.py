@@ -24,17 +24,14 @@ program and at ten places by `dme audit`, and prints how many of each event happ
 import collections
 import concurrent.futures
 import functools
-import pathlib
 import subprocess
 import sys
-import tempfile
 import time
 
-from growths import PROGRAM, ROOT, Wrong, must
+from common import CALLS, CONTACTS, counted, length, must, ran, tried
 from hostile import Fixed
 
-CALLS = ROOT / "crates" / "test_calls" / "out" / "test_calls"
-SECONDS = 600
+MOST_SECONDS = 600
 ALSO_PLAYED = 1  # `dme` also plays a world for one in this many prefixes
 EVENTS = 100_000
 DISTURBED, RESTARTED = 300, 400  # in a world of many events, one row in this many disturbs, and one in this many restarts the client
@@ -91,10 +88,6 @@ FILE_HEAD = "DME-FEATURES 2"
 
 
 # ---- what features must be
-
-def length(micrometres):
-    return f"{'-' if micrometres < 0 else ''}{abs(micrometres) // 1000}.{abs(micrometres) % 1000:03}"
-
 
 @functools.cache
 def points_of(block, phase):
@@ -205,7 +198,7 @@ def told_by_calls(parts):
     """What the last of these parts writes. Its worlds use the program, the ways and the ending of this name."""
     whole = {"program STOPPED": TEXT, "setup": SETUP, **parts}
     text = "".join(f"[{head}]\n{part}" for head, part in whole.items())
-    done = subprocess.run([str(CALLS)], input=text, capture_output=True, text=True, timeout=SECONDS)
+    done = subprocess.run([str(CALLS)], input=text, capture_output=True, text=True, timeout=MOST_SECONDS)
     must(done.returncode == 0 and done.stderr == "", "test_calls", done.returncode, done.stderr)
     before, _, told = done.stdout.partition(f"[{list(whole)[-1]}]\n")
     must(before == "".join(f"[{head}]\n{part}" for head, part in list(whole.items())[:-1]), "other parts", before)
@@ -276,33 +269,25 @@ def must_end(front, way, number, row, connection):
     must(homing == 1 if way == 0 else homing in (0, 1), "counted", row)
 
 
-def dme(words, **files):
-    """A `dme` in a folder with these files."""
-    with tempfile.TemporaryDirectory() as room:
-        for name, text in files.items():
-            (pathlib.Path(room) / name).write_text(text)
-        return subprocess.run([str(PROGRAM), *words.split()], cwd=room, capture_output=True, text=True, timeout=SECONDS)
-
-
 def must_be_audited(row, files):
     """The features of these files are those of the row, and `dme audit` reports the same verdict on them as the program."""
-    features, head, contacts = files.partition("DME-CONTACTS 1\n")
+    features, head, contacts = files.partition(CONTACTS)
     must(features_of(features.replace("\n", ";")) == row.features, "other files", features)
-    verdict = dme("audit --setup s --features f --contacts c p", s=SETUP, f=features, c=head + contacts, p=TEXT)
-    must((verdict.returncode, verdict.stdout) == (0, row.verdict + "\n"), "another verdict", verdict, row)
-    must(all(it.startswith("dme: SHA-256 of ") for it in verdict.stderr.splitlines()), "other lines", verdict.stderr)
+    status, verdict, error = ran("audit --setup s --features f --contacts c p", s=SETUP, f=features, c=head + contacts, p=TEXT)
+    must((status, verdict) == (0, row.verdict + "\n"), "another verdict", status, verdict, row)
+    must(all(it.startswith("dme: SHA-256 of ") for it in error.splitlines()), "other lines", error)
 
 
 def must_be_played(window, events, way, number, row, ending):
     """Likewise by `dme simulate`."""
     stop = WAYS[way][0].split(" ", 1)[1].replace("*", str(number))
     text = "".join(it + "\n" for it in events) + (stop + ending).replace(";", "\n")
-    report = dme(f"simulate --setup s --schedule q --window {window} p", s=SETUP, q=text, p=TEXT)
-    lines = report.stdout.splitlines()
+    status, report, _ = ran(f"simulate --setup s --schedule q --window {window} p", s=SETUP, q=text, p=TEXT)
+    lines = report.splitlines()
     shown = [f"STATE {row.state}", f"COUNTED {row.counted}"]
     for feature in row.features:
         shown += [f"FEATURE {feature.label}", *feature.points]
-    must(report.returncode == 0 and lines[:len(shown)] == shown, "another report", report.stdout, row)
+    must(status == 0 and lines[:len(shown)] == shown, "another report", report, row)
     must_be_runs(row, [it.split() for it in lines[len(shown):]])
 
 
@@ -319,7 +304,7 @@ def events_of(events, word):
 
 
 def stopped_worlds(window):
-    """The length of a schedule, and how many worlds of each kind were stopped after its prefixes. None of them is wrong."""
+    """How long a schedule is, and how many worlds of each kind were stopped after its prefixes, as a text. None of them is wrong."""
     events = events_of_rows(Events(*SEEDS[window]).rows(ROWS), window)
     must(len(events) >= LEAST, "few events", len(events))
     told = told_by_calls({"ways STOPPED": "".join(it + "\n" for it, _, _ in WAYS), "ending STOPPED": ending(events_of(events, "connect")),
@@ -342,7 +327,8 @@ def stopped_worlds(window):
     for at in range(0, len(fronts), ALSO_PLAYED):
         ends = fronts[at][1]
         must_be_played(window, events[:at], *ends[at * 7 % len(ends)], ending(events_of(events, "connect")))
-    return len(events), counts
+    worlds = ", ".join(f"{count} by {name}" for name, count in counts.items())
+    return f"{len(events)} events, {sum(counts.values())} worlds: {worlds}"
 
 
 # ---- examples
@@ -476,23 +462,6 @@ class Many:
 
 # ---- everything
 
-def tried(name, call):
-    """Whether it is correct; prints what it reported."""
-    begin = time.monotonic()
-    try:
-        told, is_right = call(), True
-    except (Wrong, OSError, subprocess.SubprocessError, IndexError, ValueError) as why:
-        told, is_right = f"not as it has to be: {str(why)[:2000]}", False
-    print(f"{name}: {told} ({time.monotonic() - begin:.1f} s)", flush=True)
-    return is_right
-
-
-def of_schedule(window):
-    events, counts = stopped_worlds(window)
-    worlds = ", ".join(f"{count} by {name}" for name, count in counts.items())
-    return f"{events} events, {sum(counts.values())} worlds: {worlds}"
-
-
 def many(count):
     world = Many(count, 4, 7)
     if count > EVENTS:
@@ -501,21 +470,25 @@ def many(count):
     return world.told()
 
 
+def is_right(name, call):
+    """Prints what it reported, and how long it took."""
+    begin = time.monotonic()
+    told = tried(name, call)
+    if told is not None:
+        print(f"{name}: {told} ({time.monotonic() - begin:.1f} s)", flush=True)
+    return told is not None
+
+
 def check_stopped():
-    """How many parts are correct, and how many are not."""
-    if not CALLS.exists():
-        print(f"no executable: {CALLS.relative_to(ROOT)}")
-        return 0, len(SEEDS) + len(WORKED) + 1
-    calls = [(f"worlds stopped with a window of {window}", functools.partial(of_schedule, window)) for window in SEEDS]
+    calls = [(f"worlds stopped with a window of {window}", functools.partial(stopped_worlds, window)) for window in SEEDS]
     calls += [(f"worlds stopped at {worked.name}", functools.partial(stopped_row, worked)) for worked in WORKED]
     calls.append(("a world of many events", functools.partial(many, EVENTS)))
     with concurrent.futures.ProcessPoolExecutor(2) as pool:
-        right = sum(pool.map(tried, *zip(*calls)))
-    print(f"stopped worlds: {right} of {len(calls)}", flush=True)
-    return right, len(calls) - right
+        right = sum(pool.map(is_right, *zip(*calls)))
+    return counted("stopped worlds", len(calls) - right, len(calls))
 
 
 if __name__ == "__main__":
     if sys.argv[1:]:
-        sys.exit(0 if tried("a world of many events", functools.partial(many, int(sys.argv[1]))) else 1)
+        sys.exit(0 if is_right("a world of many events", functools.partial(many, int(sys.argv[1]))) else 1)
     sys.exit(1 if check_stopped()[1] else 0)

@@ -6,15 +6,10 @@ The expected values are computed here from the numerals of both files, in exact 
 import csv
 import io
 import json
-import pathlib
-import subprocess
 import sys
 from decimal import ROUND_HALF_UP, Decimal
 
-ROOT = pathlib.Path(__file__).resolve().parent.parent
-EXAMPLES = ROOT / "examples"
-PROGRAM = ROOT / "crates" / "dme_program" / "out" / "dme_program"
-SECONDS = 20
+from common import EXAMPLES, called, listed, must
 
 # The schedule of a features file, and the program of its features. Each touch of these programs has its direction.
 TABLES = {
@@ -92,9 +87,9 @@ def json_rows(text):
 
 
 def printed(form, features, program):
-    words = ["export", "--as", form, "--setup", "machine.setup", "--features", features, program]
-    run = subprocess.run([PROGRAM, *words], cwd=EXAMPLES, capture_output=True, text=True, timeout=SECONDS, check=True)
-    return run.stdout
+    status, text, error = called(EXAMPLES, "export", "--as", form, "--setup", "machine.setup", "--features", features, program)
+    must(status == 0, "export", form, features, error)
+    return text
 
 
 def is_table(schedule, program):
@@ -118,8 +113,7 @@ def is_spreadsheet(schedule, program):
     of = [*measured, "--setup", str(EXAMPLES / "machine.setup"), str(EXAMPLES / program)]
 
     def exported(*words):
-        command = [PROGRAM, "export", *words, *of]
-        return subprocess.run(command, capture_output=True, text=True, timeout=SECONDS, check=False).stdout
+        return called(EXAMPLES, "export", *words, *of)[1]
 
     plain = list(csv.DictReader(io.StringIO(exported("--as", "csv"))))
     first = {"part": "", "program": str(EXAMPLES / program)}
@@ -137,12 +131,7 @@ def is_spreadsheet(schedule, program):
 
 
 def check_tables():
-    """How many tables are correct, and how many are not."""
-    wrong = [it for it, program in TABLES.items() if not (PROGRAM.exists() and is_table(it, program) and is_spreadsheet(it, program))]
-    for name in wrong:
-        print(f"table of {name}: not as expected")
-    print(f"tables: {len(TABLES) - len(wrong)} of {len(TABLES)}", flush=True)
-    return len(TABLES) - len(wrong), len(wrong)
+    return listed("tables", "table of", TABLES, lambda it: is_table(it, TABLES[it]) and is_spreadsheet(it, TABLES[it]))
 
 
 if __name__ == "__main__":

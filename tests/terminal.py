@@ -7,17 +7,13 @@ In a pipe there is a line for each feature. `run` calls this; by itself: tests/t
 """
 
 import os
-import pathlib
 import pty
 import re
 import subprocess
 import sys
 
-from listening import free_port
+from common import EXAMPLES, PROGRAM, killed, listed, run_words, serving
 
-ROOT = pathlib.Path(__file__).resolve().parent.parent
-EXAMPLES = ROOT / "examples"
-PROGRAM = ROOT / "crates" / "dme_program" / "out" / "dme_program"
 SECONDS = 20
 ANEW, CUT, END = "\x1b[1A\x1b[2K", "\x1b[?7l", "\x1b[?7h"
 CONTROL = re.compile(r"\x1b\[1A|\x1b\[2K|\x1b\[\?7[lh]|\n|[ -~]")
@@ -32,18 +28,16 @@ def blocks_of(program):
 
 def shown(program, is_terminal):
     """What a run shows on standard error."""
-    port = str(free_port())
-    words = ["--setup", "machine.setup", "--port", port]
     read, write = pty.openpty() if is_terminal else os.pipe()
-    with subprocess.Popen([PROGRAM, "serve", *words], cwd=EXAMPLES, stdout=subprocess.DEVNULL, stderr=subprocess.DEVNULL) as server:
-        run = [PROGRAM, "run", *words, "--host", "127.0.0.1", "--wait", "10", "--progress", program]
-        try:
-            subprocess.run(run, cwd=EXAMPLES, stdin=subprocess.DEVNULL, stdout=subprocess.DEVNULL, stderr=write, timeout=SECONDS, check=True)
-            text = os.read(read, 1_000_000).decode().replace("\r\n", "\n")
-        finally:
-            server.terminate()
-            os.close(read)
-            os.close(write)
+    server, port = serving(EXAMPLES)
+    try:
+        run = [PROGRAM, *run_words(port, "--progress", program=program)]
+        subprocess.run(run, cwd=EXAMPLES, stdin=subprocess.DEVNULL, stdout=subprocess.DEVNULL, stderr=write, timeout=SECONDS, check=True)
+        text = os.read(read, 1_000_000).decode().replace("\r\n", "\n")
+    finally:
+        killed(server)
+        os.close(read)
+        os.close(write)
     return "".join(it for it in text.splitlines(True) if not it.startswith("dme: line "))
 
 
@@ -98,12 +92,7 @@ def is_listed(program):
 
 
 def check_terminal():
-    """How many runs are shown as they have to be, and how many are not."""
-    wrong = [it for it in PROGRAMS if not (PROGRAM.exists() and is_paced(it) and is_listed(it))]
-    for name in wrong:
-        print(f"progress of {name}: not as expected")
-    print(f"runs on a terminal: {len(PROGRAMS) - len(wrong)} of {len(PROGRAMS)}", flush=True)
-    return len(PROGRAMS) - len(wrong), len(wrong)
+    return listed("runs on a terminal", "progress of", PROGRAMS, lambda it: is_paced(it) and is_listed(it))
 
 
 if __name__ == "__main__":

@@ -14,60 +14,28 @@
 `run` calls this; by itself: tests/watched.py [BREAKS], which leaves at every BREAKS-th line (1 by default).
 """
 
-import pathlib
-import resource
-import signal
 import socket
-import struct
-import subprocess
 import sys
-import tempfile
 import threading
 
-from growths import PROGRAM, Wrong, must
+from common import CONTACTS, SECONDS, TOLD, called, ended, listening, lost_on_close, must, run_words, serving, whole
 from hostile import Fixed
-from killed import SETUP, WINDOWS, dme, program
-from listening import free_port, wait_for_listener
+from killed import WINDOWS, part
+from listening import free_port
 
-SECONDS = 60
 BREAKS = 9
-HEADS = ("DME-CONTACTS 1\n", "DME-TOLD 1\n")
 ACTS = ("IsHomed", "Home", "GoTo", "PtMeas", "ChangeTool", "SetCoordSystem")
-
-
-def listening(folder, port, *words, limit=None):
-    """A `dme` that listens on a port; no file of it may be longer than the limit."""
-
-    def take():
-        if limit is not None:
-            signal.signal(signal.SIGXFSZ, signal.SIG_IGN)
-            resource.setrlimit(resource.RLIMIT_FSIZE, (limit, limit))
-
-    process = subprocess.Popen(
-        [str(PROGRAM), *words], cwd=folder, stdout=subprocess.PIPE, stderr=subprocess.PIPE, text=True, preexec_fn=take
-    )
-    wait_for_listener(port, lambda: process.poll() is not None, SECONDS)
-    return process
-
-
-def ended(process):
-    """Its status, standard output and standard error."""
-    out, error = process.communicate(timeout=SECONDS)
-    return process.returncode, out, error
 
 
 def watch(folder, server_port, *more, limit=None):
     """A relay of one connection to a port, if no more are asked for, and the port that it listens on."""
-    port = free_port()
-    words = ("watch", "--listen", str(port), "--host", "127.0.0.1", "--port", str(server_port), "--told", "told", "--connections", "1")
-    if set(more) & {"--connections", "--endless"}:
-        words = words[:-2]
-    return listening(folder, port, *words, *more, limit=limit), port
+    count = () if set(more) & {"--connections", "--endless"} else ("--connections", "1")
+    words = ("watch", "--listen", "PORT", "--host", "127.0.0.1", "--port", str(server_port), "--told", "told")
+    return listening(folder, *words, *count, *more, limit=limit)
 
 
 def serve(folder, *more):
-    port = free_port()
-    return listening(folder, port, "serve", "--setup", "machine.setup", "--port", str(port), "--contacts", "contacts", *more), port
+    return serving(folder, "--contacts", "contacts", *more)
 
 
 def acts_of(folder, name, head):
@@ -82,12 +50,12 @@ def kept_bytes(folder):
 
 
 def ledger(folder):
-    return ended(dme(folder, "ledger", "--up", "1.up", "--down", "1.down"))[1]
+    return called(folder, "ledger", "--up", "1.up", "--down", "1.down")[1]
 
 
 def must_not_be_blamed(folder, number=1):
     """No line of either end of a connection breaks a rule."""
-    status, out, error = ended(dme(folder, "judge", "--up", f"{number}.up", "--down", f"{number}.down"))
+    status, out, error = called(folder, "judge", "--up", f"{number}.up", "--down", f"{number}.down")
     must((status, out.partition("\n")[0], error) == (0, "dme: no line breaks the rules", ""), "one of our ends is blamed", out, error)
 
 
@@ -98,32 +66,23 @@ def cleared(folder):
     return folder
 
 
-def prepared(room, name):
-    folder = pathlib.Path(room) / name
-    folder.mkdir()
-    (folder / "machine.setup").write_text(SETUP)
-    (folder / "part.dmis").write_text(program())
-    return folder
-
-
 # ---- both ends ours
 
 
 def run_through(folder, window):
     server, server_port = serve(folder)
     relay, port = watch(folder, server_port, "--record-bytes", ".")
-    words = ("run", "--setup", "machine.setup", "--host", "127.0.0.1", "--window", str(window), "part.dmis", "--port")
-    status, report, error = ended(dme(folder, *words, str(port)))
+    status, report, error = called(folder, *run_words(port, "--window", str(window)))
     must(status == 0, "run", status, error)
     must(ended(relay) == (0, "", ""), "relay")
     must(ended(server)[0] == 0, "server")
-    told = acts_of(folder, "told", HEADS[1])
-    must(told == acts_of(folder, "contacts", HEADS[0]), "the told file is not the contacts")
+    told = acts_of(folder, "told", TOLD)
+    must(told == acts_of(folder, "contacts", CONTACTS), "the told file is not the contacts")
     must(told.count(" CONTACT ") == 120, "contacts", told.count(" CONTACT "))
-    must(ledger(folder) == HEADS[1] + told, "the ledger of the bytes is another")
+    must(ledger(folder) == TOLD + told, "the ledger of the bytes is another")
     must_not_be_blamed(folder)
     again, again_port = serve(folder)
-    must(ended(dme(folder, *words, str(again_port)))[1] == report, "the report is another")
+    must(called(folder, *run_words(again_port, "--window", str(window)))[1] == report, "the report is another")
     ended(again)
 
 
@@ -133,14 +92,13 @@ def run_through(folder, window):
 def bypass(folder):
     server, server_port = serve(folder, "--connections", "3")
     relay, port = watch(folder, server_port, "--connections", "2")
-    words = ("run", "--setup", "machine.setup", "--host", "127.0.0.1", "part.dmis", "--port")
-    for called in (port, server_port, port):
-        must(ended(dme(folder, *words, str(called)))[0] == 0, "run")
+    for it in (port, server_port, port):
+        must(called(folder, *run_words(it))[0] == 0, "run")
     must(ended(relay) == (0, "", ""), "relay")
     must(ended(server)[0] == 0, "server")
-    made = acts_of(folder, "contacts", HEADS[0]).splitlines(keepends=True)
+    made = acts_of(folder, "contacts", CONTACTS).splitlines(keepends=True)
     own = [it for it in made if it.startswith("1 ")] + ["2" + it[1:] for it in made if it.startswith("3 ")]
-    must(len(own) < len(made) and acts_of(folder, "told", HEADS[1]) == "".join(own), "the told file is not what was reported to both")
+    must(len(own) < len(made) and acts_of(folder, "told", TOLD) == "".join(own), "the told file is not what was reported to both")
 
 
 # ---- a client that leaves
@@ -148,13 +106,8 @@ def bypass(folder):
 
 def leave(stream, how):
     if how == "reset":
-        stream.setsockopt(socket.SOL_SOCKET, socket.SO_LINGER, struct.pack("ii", 1, 0))
+        lost_on_close(stream)
     stream.close()
-
-
-def client_lines(folder):
-    """What a client sends for a program."""
-    return ended(dme(folder, "check", "--setup", "machine.setup", "part.dmis"))[1].splitlines()
 
 
 def send_some(port, lines, hears_last):
@@ -180,22 +133,22 @@ def leave_after(folder, lines, how, hears_last):
     server, server_port = serve(cleared(folder))
     relay, port = watch(folder, server_port, "--record-bytes", ".")
     stream, acts = send_some(port, lines, hears_last)
-    told_then = acts_of(folder, "told", HEADS[1])
+    told_then = acts_of(folder, "told", TOLD)
     must(told_then.count("\n") >= acts, "reported before it was written", acts, told_then)
     leave(stream, how)
     status, out, error = ended(relay)
     must(out == "" and (status == 0 or how == "reset" or not hears_last), "relay", status, error)
     ended(server)
-    told, made = (acts_of(folder, *it) for it in (("told", HEADS[1]), ("contacts", HEADS[0])))
+    told, made = (acts_of(folder, *it) for it in (("told", TOLD), ("contacts", CONTACTS)))
     must(made.startswith(told) and told.startswith(told_then), "no prefix", told, made)
-    must(ledger(folder) == HEADS[1] + told, "the ledger of the bytes is another")
+    must(ledger(folder) == TOLD + told, "the ledger of the bytes is another")
     must_not_be_blamed(folder)
     if hears_last and how == "end":
         must(told == made, "less than the contacts", told, made)
 
 
 def leave_everywhere(folder, step):
-    lines = client_lines(folder)
+    lines = called(folder, "check", "--setup", "machine.setup", "part.dmis")[1].splitlines()
     count = 0
     for how in ("end", "reset"):
         for hears_last in (True, False):
@@ -304,7 +257,7 @@ def refused_beside(folder):
             (free_port(), "other", "dme: cannot write .\nit holds recordings already\n"),
         ):
             words = ("--listen", str(other), "--host", "127.0.0.1", "--port", "1", "--told", told, "--record-bytes", ".")
-            must(ended(dme(folder, "watch", *words)) == (1, "", refusal), "not refused", refusal)
+            must(called(folder, "watch", *words) == (1, "", refusal), "not refused", refusal)
             must(kept_bytes(folder) == [b"00001 StartSession()\r\n", b""], "emptied", refusal)
             must(not (folder / "other").exists(), "a told file was begun", refusal)
         near.close()
@@ -314,7 +267,7 @@ def refused_beside(folder):
 
 def begun_anew(folder):
     """A told file that is there already: it stays as told.old, over an older one."""
-    (folder / "told").write_text(HEADS[1] + "1 HOMED\n")
+    (folder / "told").write_text(TOLD + "1 HOMED\n")
     (folder / "told.old").write_text("older\n")
     with socket.create_server(("127.0.0.1", 0)) as listener:
         relay, port = watch(folder, listener.getsockname()[1])
@@ -324,15 +277,14 @@ def begun_anew(folder):
                 must(far.recv(4096) == b"00001 StartSession()\r\n", "no relay")
         must(ended(relay) == (0, "", "dme: what was in told stays as told.old\n"), "relay")
     kept = [(folder / name).read_text() for name in ("told", "told.old")]
-    must(kept == [HEADS[1], HEADS[1] + "1 HOMED\n"], "the earlier file is lost", kept)
+    must(kept == [TOLD, TOLD + "1 HOMED\n"], "the earlier file is lost", kept)
 
 
 def full_file(folder):
     """A told file that cannot grow."""
     server, server_port = serve(folder)
     relay, port = watch(folder, server_port, limit=300)
-    words = ("run", "--setup", "machine.setup", "--host", "127.0.0.1", "--port", str(port), "part.dmis")
-    must(ended(dme(folder, *words))[0] == 0, "run")
+    must(called(folder, *run_words(port))[0] == 0, "run")
     must(ended(relay) == (1, "", "dme: cannot write told\n"), "relay")
     ended(server)
     must(len((folder / "told").read_bytes()) <= 300, "length")
@@ -381,33 +333,23 @@ def strangers(folder):
     must((out, error) == ("", bare + "dme: cannot write told: removed or replaced\n"), "strangers", out, error)
 
 
-def check_all(room, step):
+def check_all(step):
     """How many connections were relayed."""
-    fixed, count = Fixed(38), 0
+    fixed, forwards, others = Fixed(38), 60 // step + 6, (bypass, no_file, full_file, nobody, strangers, refused_beside, begun_anew)
     for window in WINDOWS:
-        run_through(prepared(room, f"window_{window}"), window)
-    folder = prepared(room, "others")
-    count += len(WINDOWS) + leave_everywhere(folder, step)
-    for at in range(60 // step + 6):
-        forward(folder, fixed, at % 3 == 2)
-        count += 1
-    for check in (bypass, no_file, full_file, nobody, strangers, refused_beside, begun_anew):
-        check(cleared(folder))
-        count += 1
-    return count
+        with part() as folder:
+            run_through(folder, window)
+    with part() as folder:
+        left = leave_everywhere(folder, step)
+        for at in range(forwards):
+            forward(folder, fixed, at % 3 == 2)
+        for check in others:
+            check(cleared(folder))
+    return len(WINDOWS) + left + forwards + len(others)
 
 
 def check_watched(step=BREAKS):
-    """How many checks hold, and how many do not."""
-    try:
-        with tempfile.TemporaryDirectory() as room:
-            count = check_all(room, step)
-    except (Wrong, OSError, subprocess.SubprocessError) as wrong:
-        print(f"watched: {wrong}")
-        print("connections that are watched: not as expected", flush=True)
-        return 0, 1
-    print(f"connections that are watched: {count}", flush=True)
-    return 1, 0
+    return whole("connections that are watched", check_all, step)
 
 
 if __name__ == "__main__":

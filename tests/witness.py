@@ -27,32 +27,19 @@ import pathlib
 import re
 import subprocess
 import sys
-import tempfile
 from decimal import Decimal
 from fractions import Fraction
 
-from growths import PROGRAM
+from common import PROGRAM, TESTS, Wrong, must, room, whole
 from sessions import FAMILIES, foreign_session, ordinary_session
 
-EXAMPLES = pathlib.Path(__file__).resolve().parent / "witness"
+EXAMPLES = TESTS / "witness"
 FEW, SESSIONS = 30, 250
 LINE_MOST = 65_536
 WIRE_LIMIT, VOLUME_LIMIT, COMPONENT_LIMIT = 4_000_000_000, 1_000_000_000, 1_000_000_000
 MACHINE = "M"
 
 Contact = collections.namedtuple("Contact", "target direction point tool frame")
-
-
-class Wrong(Exception):
-    pass
-
-
-def must(holds, *words):
-    if not holds:
-        raise Wrong(" ".join(str(it) for it in words))
-
-
-# ---- recordings
 
 
 def ends_of_lines(recorded):
@@ -601,13 +588,13 @@ def check_session(session, must_be_known, ordered, name):
 def check_family(family, count):
     """How many contacts a family has, with and without the order, and of how many something is known. Without a name: ordinary sessions."""
     found = []
-    with tempfile.TemporaryDirectory() as folder:
+    with room() as folder:
         for seed in range(count):
             session, name = foreign_session(family, seed) if family else ordinary_session(seed), f"{family or 'ordinary session'} {seed}"
             check_recording(session.lines)
             if PROGRAM.exists():
                 for ordered in (False, True):
-                    check_ledger(session, pathlib.Path(folder), name, ordered)
+                    check_ledger(session, folder, name, ordered)
             for ordered in [True] if family in ONLY_WITH_ORDER else [True, False]:
                 found.append(check_session(session, not family, ordered, name))
     contacts, known = (sum(it) for it in zip(*found))
@@ -615,21 +602,17 @@ def check_family(family, count):
     return contacts, known
 
 
-def check_witness(count=FEW):
-    """How many checks hold, and how many do not."""
+def check_all(count):
     families = [None, *FAMILIES]
-    try:
-        check_readings()
-        check_examples()
-        with concurrent.futures.ProcessPoolExecutor() as pool:
-            found = list(pool.map(check_family, families, [count] * len(families)))
-    except Wrong as wrong:
-        print(f"witness: {wrong}")
-        print("what is known of contacts: not as expected", flush=True)
-        return 0, 1
-    contacts, known = (sum(it) for it in zip(*found))
-    print(f"what is known of contacts: {known} of {contacts}, in {count * len(families)} sessions", flush=True)
-    return 1, 0
+    check_readings()
+    check_examples()
+    with concurrent.futures.ProcessPoolExecutor() as pool:
+        contacts, known = map(sum, zip(*pool.map(check_family, families, [count] * len(families))))
+    return f"{known} of {contacts}, in {count * len(families)} sessions"
+
+
+def check_witness(count=FEW):
+    return whole("what is known of contacts", check_all, count)
 
 
 def print_contacts(up, down, order=None):
