@@ -3,7 +3,9 @@ use Rattle.std.proofs.Common.{◌≡◌, ◌≤◌, ◌+◌, ◌-◌, ◌∙◌,
 use Rattle.std.proofs.lemmas.Bool.{false≢true}
 use Rattle.std.specs.Prelude.{is_err}
 use Rattle.services.specs.Ends.{After, Ahead, ahead, ahead_at, IsWithin, Nears, NearsOn, none, one, relay_ahead, relay_ahead_at}
+use Rattle.services.specs.Files.{count_of}
 use Rattle.services.specs.Relays.{RelayState}
+use Rattle.services.specs.declared.recordings.Made.{Made}
 use Rattle.services.specs.Sessions.{State, is_closing}
 use Rattle.services.specs.declared.relay_stages.RelayStage.{RelayStage}
 use Rattle.services.specs.declared.relay_stages.RelayStage.TheVariants as relay
@@ -49,13 +51,16 @@ replaced_exit n s t e a many = is_exit t.stage t.next (over n (ahead s) (ahead t
     (omega (arith, ap (λ (st : Stage). (ahead_at st s.next).left) e, many)))
 
 -- of `watch`
+count_most : (made : Made) → count_of made ≤ 3
+count_most made = grind arith
+
 relay_few : (st next : RelayStage) (files : ℕ) → (relay_ahead_at st next files).left ≤ 2 + files
 relay_few st next files = grind arith
 
 is_relay_exit : (st next : RelayStage) (files : ℕ) → IsWithin 0 (relay_ahead_at st next files) → st ≡ relay.Exiting
 is_relay_exit st next files w = grind (arith, IsWithin.ends w, IsWithin.fewer w)
 
-pub relay_exits : (n : ℕ) (s t : RelayState) → (relay_ahead s).ends ≡ true → After n (relay_ahead s) (relay_ahead t) → 2 + s.files ≤ n
+pub relay_exits : (n : ℕ) (s t : RelayState) → (relay_ahead s).ends ≡ true → After n (relay_ahead s) (relay_ahead t) → 5 ≤ n
     → t.stage ≡ relay.Exiting
-relay_exits n s t end a many = is_relay_exit t.stage t.next t.files
-    (over n (relay_ahead s) (relay_ahead t) end a (omega (arith, relay_few s.stage s.next s.files, many)))
+relay_exits n s t end a many = is_relay_exit t.stage t.next (count_of t.files)
+    (over n (relay_ahead s) (relay_ahead t) end a (omega (arith, relay_few s.stage s.next (count_of s.files), count_most s.files, many)))

@@ -1,5 +1,6 @@
 -- How many effects the sessions of `serve` and `watch` ask for at most at their end (this profile).
 use Rattle.std.specs.Prelude.{◌≡◌, ◌≤◌, ◌+◌, ◌-◌, ℕ, zero, suc, Bool, true, false, Result, Ok, Err}
+use Rattle.services.specs.Files.{count_of}
 use Rattle.services.specs.Relays.{RelayState}
 use Rattle.services.specs.Sessions.{State, is_closing}
 use Rattle.services.specs.declared.relay_stages.RelayStage.{RelayStage}
@@ -66,4 +67,4 @@ relay_ahead_at relay.Exiting next files = at_end 0
 relay_ahead_at s next files = unending
 
 abbrev pub relay_ahead : RelayState → Ahead
-relay_ahead s = relay_ahead_at s.stage s.next s.files
+relay_ahead s = relay_ahead_at s.stage s.next (count_of s.files)

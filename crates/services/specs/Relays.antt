@@ -7,6 +7,7 @@ use Rattle.effects.specs.declared.vocabulary.Peer.TheVariants.{Client, Server}
 use Rattle.effects.specs.Effects.{Ask, Make, Discard, Begin, Append, Keep, Names, Create, Save, Settle, Remove, Extend, Stamp, Now, Sleep, Listen, Accept, Connect, Join, Wait, Receive, Pass, Close, Leave, Say, Exit}
 use Rattle.effects.specs.Effects.{Reply, Done, Bytes, End, Found, Nothing, Took, Failed, Short}
 use Rattle.services.specs.Kinds.{IsAdd, IsSay, IsSetAside}
+use Rattle.services.specs.declared.recordings.Made.{Made}
 use Rattle.services.specs.declared.relay_stages.RelayStage.{RelayStage}
 use Rattle.services.specs.declared.relay_stages.RelayStage.TheVariants as stage
 use Rattle.witness.specs.Relaying.{Relaying, Course, Relays as IsCourse}
@@ -29,7 +30,7 @@ pub record RelayState : Type 0 where
   pub next : RelayStage  -- what comes after what is said, or once files are removed
   pub talk : RelayTalk
   pub end : RelayEnd
-  pub files : ℕ  -- how many files of its recording were made, and not removed; or were forced, once it ends
+  pub files : Made  -- which files of its recording were made, and not removed; or were forced, once it ends
 
 -- the stages before the one whose effect is due
 abbrev pub is_aside : RelayStage → Bool

@@ -1,16 +1,56 @@
 // The files that the bytes of a connection are kept in.
 
+ghost use Rattle.std.specs.Prelude.{◌≡◌, ◌-◌, nat_lt};
+ghost use Rattle.services.specs.Files as spec;
+
 use effects::Slot;
 use std::alloc::{AllocError, Global};
 
-/// The files of a recording: their names, and how many of them were made.
+/// Which files of a recording were made, in this order, and not removed; or were forced, once its connection ends.
+#[derive(Clone, Copy, Debug, PartialEq, Eq)]
+pub enum Made {
+    Nothing,
+    Up,
+    UpAndDown,
+    All,
+}
+
+impl Made {
+    /// One more.
+    pub fn more(self) -> Made {
+        match self {
+            Made::Nothing => Made::Up,
+            Made::Up => Made::UpAndDown,
+            Made::UpAndDown | Made::All => Made::All,
+        }
+    }
+
+    /// One less, if there is one.
+    pub fn fewer(self) -> Made
+        ensures { spec.count_of result ≡ spec.count_of self - 1 }
+    {
+        match self {
+            Made::Nothing | Made::Up => Made::Nothing,
+            Made::UpAndDown => Made::Up,
+            Made::All => Made::UpAndDown,
+        }
+    }
+
+    /// Whether there is one.
+    pub fn is_any(self) -> bool
+        ensures { result ≡ nat_lt 0 (spec.count_of self) }
+    {
+        self != Made::Nothing
+    }
+}
+
+/// The files of a recording: their names, and which of them were made.
 #[derive(Drop)]
 pub struct Recording {
     up: String,
     down: String,
     order: String,
-    /// How many of them were made, in this order.
-    pub made: u8,
+    pub made: Made,
 }
 
 impl Recording {
@@ -20,7 +60,7 @@ impl Recording {
             up: format!(in alloc; "{folder}/{number}.up")?,
             down: format!(in alloc; "{folder}/{number}.down")?,
             order: format!(in alloc; "{folder}/{number}.order")?,
-            made: 0,
+            made: Made::Nothing,
         })
     }
 
@@ -46,12 +86,12 @@ pub fn recording_in(
     }
 }
 
-/// The file that is made after that many of a recording.
-pub fn slot_after(made: u8) -> Slot {
+/// The file that is made after these of a recording.
+pub fn slot_after(made: Made) -> Slot {
     match made {
-        0 => Slot::Up,
-        1 => Slot::Down,
-        _ => Slot::Order,
+        Made::Nothing => Slot::Up,
+        Made::Up => Slot::Down,
+        Made::UpAndDown | Made::All => Slot::Order,
     }
 }
 

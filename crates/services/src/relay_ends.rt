@@ -4,6 +4,7 @@ ghost use Rattle.std.specs.Prelude.{◌≡◌, ◌⊎◌, true};
 ghost use Rattle.effects.specs.Effects.{the_reply, Done, Reply};
 ghost use Rattle.services.specs.Relays as spec;
 
+use crate::recordings::Made;
 use crate::relay_stages::RelayStage as Stage;
 use crate::relaying::{Ended, RelaySession};
 use effects::{Answer, Cause};
@@ -42,7 +43,7 @@ impl RelaySession {
     {
         match &mut self.recording {
             Some(recording) => {
-                recording.made = 0;
+                recording.made = Made::Nothing;
                 Stage::Settling
             }
             None => Stage::Leaving,
@@ -74,8 +75,8 @@ impl RelaySession {
         ensures { spec.Steps self.old Done self.new }
     {
         if let Some(recording) = &mut self.recording {
-            recording.made = recording.made.saturating_add(1);
-            if recording.made < 3 {
+            recording.made = recording.made.more();
+            if recording.made != Made::All {
                 return;
             }
         }

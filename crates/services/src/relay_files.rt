@@ -3,9 +3,10 @@
 ghost use Rattle.std.specs.Prelude.{◌≡◌, ◌⊎◌, suc, true, OnOk, OnErr};
 ghost use Rattle.effects.specs.Effects.{the_reply, Reply};
 ghost use Rattle.services.specs.Ends as ends;
+ghost use Rattle.services.specs.Files.{count_of};
 ghost use Rattle.services.specs.Relays as spec;
 
-use crate::recordings::{hold_recording, recording_in, slot_after};
+use crate::recordings::{Made, hold_recording, recording_in, slot_after};
 use crate::relay_stages::RelayStage as Stage;
 use crate::relaying::RelaySession;
 use effects::{Answer, Peer, Slot};
@@ -93,11 +94,11 @@ impl RelaySession {
     pub(crate) fn discarded(&mut self)
         requires { self.old.stage ≡ Stage.Discarding }
         ensures steps { (reply : Reply) → spec.Steps self.old reply self.new }
-        ensures nears { ends.IsWithin (suc self.old.files) (ends.relay_ahead self.new) }
+        ensures nears { ends.IsWithin (suc (count_of self.old.files)) (ends.relay_ahead self.new) }
     {
         self.next = Stage::Exiting;
         self.stage = match &self.recording {
-            Some(recording) if recording.made > 0 => Stage::Removing,
+            Some(recording) if recording.made.is_any() => Stage::Removing,
             _ => self.last_words(),
         };
     }
@@ -110,8 +111,8 @@ impl RelaySession {
         ensures nears { ends.Nears (ends.relay_ahead self.old) (ends.relay_ahead self.new) }
     {
         if let Some(recording) = &mut self.recording {
-            recording.made = recording.made.saturating_sub(1);
-            if recording.made > 0 {
+            recording.made = recording.made.fewer();
+            if recording.made.is_any() {
                 return;
             }
         }
@@ -186,8 +187,8 @@ impl RelaySession {
         };
         if let Stage::Creating = self.stage {
             if let Some(recording) = &mut self.recording {
-                recording.made = recording.made.saturating_add(1);
-                if recording.made > 2 {
+                recording.made = recording.made.more();
+                if recording.made == Made::All {
                     self.stage = Stage::Heading;
                 }
                 return Ok(());
@@ -211,7 +212,7 @@ impl RelaySession {
         self.status = 1;
         self.say(message, Stage::Connecting);
         match &self.recording {
-            Some(recording) if recording.made > 0 => self.stage = Stage::Removing,
+            Some(recording) if recording.made.is_any() => self.stage = Stage::Removing,
             _ => self.recording = None,
         }
         Ok(())

@@ -120,11 +120,11 @@ pub fn passing_rows()
         → t.end.status ≡ 0 → Keeps s (Failed Full) t → ⊥ }
 {}
 
-/// At its end a relay asks for at most three effects, the exit included, and one more for each file of a recording that it removes, whatever is
-/// answered (`RelaySession::take`): after one answer less only its exit is left.
+/// At its end a relay asks for at most six effects, the exit included, whatever is answered (`RelaySession::take`): after five answers only its
+/// exit is left.
 pub fn relays_exit()
     ensures { (n : ℕ) (s t : RelayState) → (relay_ahead s).ends ≡ true
-        → After n (relay_ahead s) (relay_ahead t) → 2 + s.files ≤ n → t.stage ≡ stage.Exiting }
+        → After n (relay_ahead s) (relay_ahead t) → 5 ≤ n → t.stage ≡ stage.Exiting }
 {}
 
 /// At the end the told file is left, each file of a recording is removed once, and then a message is said, once; and the exit is the last.

@@ -173,7 +173,7 @@ impl RelaySession {
             Stage::Heading => Effect::Save(slot, ORDER_HEADER),
             Stage::Settling => Effect::Settle(slot),
             Stage::Removing => {
-                let slot = slot_after(recording.made.saturating_sub(1));
+                let slot = slot_after(recording.made.fewer());
                 Effect::Remove(recording.name(slot))
             }
             Stage::Saving => Effect::Save(slot_of(self.from), self.piece.as_slice()),
